@@ -14,7 +14,7 @@ use Rattle.profile_core.specs.declared.recency.Touch.TheVariants.{Behind, New}
 use Rattle.profile_core.specs.declared.row.Shifted.TheVariants.{Found, Out}
 use Rattle.profile_core.specs.internal.Moves.{index_of, is_front, is_second, move_to_front}
 use Rattle.profile_core.specs.internal.Moves.{touch_of, shifted_of}
-use Rattle.profile_core.specs.internal.Slab.{IsBroughtInRow}
+use Rattle.profile_core.specs.internal.Lists.{IsBroughtInRow}
 use Rattle.profile_core.proofs.Shifting.{other_front, index_behind, index-le, length-remove}
 use Rattle.profile_core.proofs.Shifting.{remove_end}
 
@@ -40,13 +40,6 @@ module _ (x : ℕ) (xs : List ℕ) where
   pub shifted_last : (last : ℕ) → Out last ≡ shifted_of x xs → (index_of x xs ≡ length xs) ×
       (last ≡ get_or xs (length xs - 1) 0)
   shifted_last last is = grind (arith, out_at, get_or, absent_at, list_any_is, index-le)
-
-  pub touch_found : (distance : ℕ) → Found distance ≡ shifted_of x xs →
-      Behind distance ≡ touch_of x xs
-  touch_found distance is = grind (arith, found_at, get_or)
-
-  pub touch_new : (last : ℕ) → Out last ≡ shifted_of x xs → New (length xs) ≡ touch_of x xs
-  touch_new last is = grind (arith, out_at, get_or)
 
 -- the block that fell out, put behind the others
 put_last : (y h : ℕ) (rest : List ℕ) → h < length rest

@@ -6,7 +6,7 @@ use Rattle.std.proofs.lemmas.List.{length-replicate}
 use Rattle.cache_core.specs.internal.Touched.{TouchedValue, Covers, ListsFilled, no_sets}
 use Rattle.cache_core.proofs.TouchedSets.{covers_none}
 use Rattle.profile_core.specs.internal.Rows.{RowsValue, AreLong}
-use Rattle.profile_core.specs.internal.Slab.{IsListed}
+use Rattle.profile_core.specs.internal.Lists.{IsListed}
 
 -- the sets that have a block are those whose fronts may not be 0
 filled_fronts : (listed : Option (List ℕ)) (fronts lens : List ℕ) → length fronts ≡ length lens

@@ -7,11 +7,12 @@ use Rattle.std.proofs.Common.{length-set, length-take}
 use Rattle.std.proofs.Math.Nat.{suc-mul}
 use Rattle.std.proofs.lemmas.List.{get_or_read}
 use Rattle.cache_core.specs.Geometry.{GeometryValue, set_of_block}
+use Rattle.profile_core.specs.declared.histograms.Histograms.{Histograms}
 use Rattle.profile_core.specs.internal.Moves.{is_front, move_to_front}
-use Rattle.profile_core.specs.internal.Slab.{Lists, lists_after_touch}
+use Rattle.profile_core.specs.internal.Lists.{Lists, lists_after_touch}
 use Rattle.profile_core.specs.internal.State.{ProfileState, IsSound, IsNext, list_of, fed_of}
 use Rattle.profile_core.specs.internal.State.{after_reference, compared_behind, distances_of}
-use Rattle.profile_core.specs.internal.State.{most_references}
+use Rattle.profile_core.specs.internal.State.{most_references, profile_of, MayBeFed}
 use Rattle.profile_core.proofs.Feeding.{FoundAt, FoundNowhere, behind_front, first-raised}
 use Rattle.profile_core.proofs.Feeding.{raised_behind, sum-distances, after_fed, found_step}
 use Rattle.profile_core.proofs.Feeding.{nowhere_step}
@@ -90,6 +91,12 @@ pub record IsMoved (g : GeometryValue) (was now : Lists) (behind missed : List �
   pub view_is : state_of g was behind missed probes ≡ v
   pub next : IsNext v k x
   pub moved : now ≡ lists_after_touch was k x
+
+pub moved_of : {g : GeometryValue} {was now : Lists} {h : Histograms} {k x : ℕ} →
+    MayBeFed g was h k x → now ≡ lists_after_touch was k x →
+    IsMoved g was now h.behind.items h.misses_by_occupancy.items h.probes x k (profile_of g was h)
+moved_of ready moved =
+    record { sound = ready.sound; view_is = refl; next = ready.next; moved = moved }
 
 module _ {g : GeometryValue} {was now : Lists} {behind missed : List ℕ} {probes x k : ℕ}
     {v : ProfileState}

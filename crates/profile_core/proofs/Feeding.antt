@@ -13,7 +13,7 @@ use Rattle.cache_core.specs.Geometry.{GeometryValue, set_of_block}
 use Rattle.profile_core.specs.declared.recency.Touch.TheVariants.{Behind, New}
 use Rattle.profile_core.specs.internal.Moves.{index_of, is_in, is_front, is_second, move_to_front}
 use Rattle.profile_core.specs.internal.Moves.{touch_of}
-use Rattle.profile_core.specs.internal.Slab.{Lists}
+use Rattle.profile_core.specs.internal.Lists.{Lists}
 use Rattle.profile_core.specs.internal.State.{ProfileState, IsSound, list_of, one_more_at}
 use Rattle.profile_core.specs.internal.State.{after_reference, fed_of, weighed, compared_behind}
 use Rattle.profile_core.specs.internal.State.{distances_of, empty}

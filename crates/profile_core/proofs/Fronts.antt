@@ -26,7 +26,7 @@ use Rattle.profile_core.specs.internal.State.{most_references, compared_behind, 
 use Rattle.profile_core.specs.internal.Fronts.{is_front_of, after_unless_front, after_fronts}
 use Rattle.profile_core.specs.internal.Fronts.{profile_with_fronts, is_refined, IsFit, Leads}
 use Rattle.profile_core.specs.internal.ProfileStandsFor.{ProfileStandsFor}
-use Rattle.profile_core.specs.internal.Slab.{Lists}
+use Rattle.profile_core.specs.internal.Lists.{Lists}
 use Rattle.profile_core.proofs.Feeding.{found_front, after_fed, front_step, sum-distances}
 use Rattle.profile_core.proofs.Fed.{state_of}
 use Rattle.profile_core.proofs.Runs.{event_stands, geometry_after, stands_after}

@@ -15,7 +15,8 @@ pub mod Marks
 pub mod SlottedRestLemmas
 pub mod SlottedBehind
 pub mod SplitRowLemmas
-pub mod SlabLemmas
+pub mod Elements
+pub mod ListLemmas
 pub mod Writing
 pub mod Emptying
 pub mod Weighing

@@ -20,9 +20,6 @@ is_in-append x (y ∷ xs) ys = grind (arith, is_in-append x xs ys)
 index-cons : (x y : ℕ) (xs : List ℕ) → index_of x (y ∷ xs) ≡ cond (eqb y x) 0 (1 + index_of x xs)
 index-cons x y xs = grind arith
 
-in-cons : (x y : ℕ) (xs : List ℕ) → is_in x (y ∷ xs) ≡ (eqb y x || is_in x xs)
-in-cons x y xs = refl
-
 pub index-append_left : (x : ℕ) (xs ys : List ℕ) → is_in x xs ≡ true →
     index_of x (xs ++ ys) ≡ index_of x xs
 index-append_left x [] ys inside = absurd (cc)

@@ -6,12 +6,12 @@ use Rattle.std.proofs.Common.{get_or-set_same, get_or-set_other}
 use Rattle.std.specs.Prelude.{◌↔◌, replicate, map}
 use Rattle.std.proofs.Math.Nat.{suc-mul, mul-le-mul_right}
 use Rattle.std.specs.List.{sum_by}
-use Rattle.std.proofs.lemmas.Bool.{cases_eq}
-use Rattle.std.proofs.lemmas.List.{take_all, length-replicate, length-map}
+use Rattle.std.proofs.lemmas.List.{take_all, length-replicate, length-map, set-get_or}
 use Rattle.std.proofs.lemmas.List.Sums.{sum_by-cons}
 use Rattle.deep_list.specs.Deep.{Deep, IsOnce}
 use Rattle.profile_core.specs.internal.Moves.{index_of, is_in, is_front, is_second, move_to_front}
-use Rattle.profile_core.specs.internal.Slab.{Lists, lists_after_touch}
+use Rattle.profile_core.specs.internal.Lists.{Lists, lists_after_touch}
+use Rattle.profile_core.proofs.Elements.{all_set, all_same}
 use Rattle.profile_core.proofs.Shifting.{length-remove}
 use Rattle.profile_core.specs.internal.LongLists.{whole_lists, nothing, rest_of, empty_deep}
 use Rattle.profile_core.specs.internal.LongLists.{AreSplit}
@@ -33,201 +33,174 @@ length-joined [] far = refl
 length-joined (xs ∷ near) [] = refl
 length-joined (xs ∷ near) (d ∷ far) = ap suc (length-joined near far)
 
--- the first blocks of a list changed, and those behind them too
-pub joined-set_near : (near : List (List ℕ)) (far : List Deep) (k : ℕ) (xs : List ℕ) →
-    k < length near
-    → whole_lists (set near k xs) far ≡ set (whole_lists near far) k (xs ++ rest_of far k)
-joined-set_near [] far k xs lt = absurd (omega arith)
-joined-set_near (ys ∷ near) [] zero xs lt = ap (λ zs. zs ∷ near) (sym (append-nil xs))
-joined-set_near (ys ∷ near) [] (suc k) xs lt = ap (λ zs. ys ∷ set near k zs) (sym (append-nil xs))
-joined-set_near (ys ∷ near) (d ∷ far) zero xs lt = refl
-joined-set_near (ys ∷ near) (d ∷ far) (suc k) xs lt =
-    ap (λ ls. (ys ++ d.blocks) ∷ ls) (joined-set_near near far k xs (omega arith))
-
-pub joined-set_both : (near : List (List ℕ)) (far : List Deep) (k : ℕ) (xs : List ℕ) (d : Deep) →
+-- the list of set k written anew
+joined-set : (near : List (List ℕ)) (far : List Deep) (k : ℕ) (xs : List ℕ) (d : Deep) →
     k < length near → k < length far
     → whole_lists (set near k xs) (set far k d) ≡ set (whole_lists near far) k (xs ++ d.blocks)
-joined-set_both [] far k xs d lt within = absurd (omega arith)
-joined-set_both (ys ∷ near) [] k xs d lt within = absurd (omega (arith, within))
-joined-set_both (ys ∷ near) (e ∷ far) zero xs d lt within = refl
-joined-set_both (ys ∷ near) (e ∷ far) (suc k) xs d lt within =
-    ap (λ ls. (ys ++ e.blocks) ∷ ls) (joined-set_both near far k xs d (omega arith)
+joined-set [] far k xs d lt within = absurd (omega arith)
+joined-set (ys ∷ near) [] k xs d lt within = absurd (omega (arith, within))
+joined-set (ys ∷ near) (e ∷ far) zero xs d lt within = refl
+joined-set (ys ∷ near) (e ∷ far) (suc k) xs d lt within =
+    ap (λ ls. (ys ++ e.blocks) ∷ ls) (joined-set near far k xs d (omega arith)
     (omega (arith, within)))
 
-module _ {near : Lists} {beyond : ℕ} {far : List Deep} (s : AreSplit near beyond far) where
-  abbrev pub row_of : ℕ → List ℕ
-  row_of k = get_or near.lists k []
+-- what is known of set k's list where it is asked for
+pub record HasWhole (near : Lists) (beyond : ℕ) (far : List Deep) (k : ℕ) (v : Lists) : Type 0 where
+  pub sound : AreSplit near beyond far
+  pub seen : record { depth = near.depth + beyond; lists = whole_lists near.lists far } ≡ v
+  pub is_set : k < length v.lists
+
+pub known : {near : Lists} {beyond : ℕ} {far : List Deep} {k : ℕ} {v : Lists} →
+    AreSplit near beyond far →
+    record { depth = near.depth + beyond; lists = whole_lists near.lists far } ≡ v →
+    k < length v.lists → HasWhole near beyond far k v
+known sound seen is_set = record { sound = sound; seen = seen; is_set = is_set }
+
+-- the lists once block x came to the front of set k's
+pub record IsRenewed (near : Lists) (beyond : ℕ) (far : List Deep) (k x : ℕ)
+    (v : Lists) : Type 0 where
+  pub sound : AreSplit near beyond far
+  pub seen : record { depth = near.depth + beyond; lists = whole_lists near.lists far } ≡
+      lists_after_touch v k x
+
+module _ {near : Lists} {beyond : ℕ} {far : List Deep} {k : ℕ} {v : Lists}
+    (r : HasWhole near beyond far k v) where
+  abbrev pub row : List ℕ
+  row = get_or near.lists k []
+
+  abbrev pub rest : List ℕ
+  rest = rest_of far k
+
+  abbrev pub list : List ℕ
+  list = get_or v.lists k []
+
+  pub within : k < length near.lists
+  within = omega (
+    arith,
+    r.is_set,
+    ap (λ w. length w.lists) r.seen,
+    length-joined near.lists far,
+  )
+
+  pub within_far : k < length far
+  within_far = omega (arith, within, r.sound.far_len)
+
+  pub list_is : list ≡ row ++ rest
+  list_is = ap (λ w. get_or w.lists k []) (sym r.seen) ∙ joined_at near.lists far k within
 
   -- no block stands behind a row that is not full
-  pub rest_behind : (k : ℕ) → length (row_of k) < near.depth → rest_of far k ≡ []
-  rest_behind k short = none_of (rest_of far k)
-      (λ some. absurd (omega (arith, s.full k some, short)))
+  pub rest_behind : length row < near.depth → rest ≡ []
+  rest_behind short = none_of rest (λ some. absurd (omega (arith, r.sound.full k some, short)))
 
-  rest_two : (k : ℕ) → length (row_of k) < 2 → rest_of far k ≡ []
-  rest_two k short = none_of (rest_of far k)
-      (λ some. absurd (omega (arith, s.full k some, s.two, short)))
+  rest_two : length row < 2 → rest ≡ []
+  rest_two short = rest_behind (omega (arith, short, r.sound.two))
 
-  pub whole_at : (k : ℕ) → k < length near.lists → get_or (whole_lists near.lists far) k [] ≡ row_of
-      k ++ rest_of far k
-  whole_at k lt = joined_at near.lists far k lt
+  pub front_is : (x : ℕ) → is_front x row ≡ is_front x list
+  front_is x = front-append x row rest rest_two ∙ ap (is_front x) (sym list_is)
 
-  pub front_is : (x k : ℕ) → k < length near.lists → is_front x (row_of k) ≡ is_front x
-      (get_or (whole_lists near.lists far) k [])
-  front_is x k lt = front-append x (row_of k) (rest_of far k) (rest_two k) ∙
-      ap (is_front x) (sym (whole_at k lt))
+  pub first_is : get_or row 0 0 ≡ get_or list 0 0
+  first_is = first-append row rest rest_two ∙ ap (λ xs. get_or xs 0 0) (sym list_is)
 
-  pub first_is : (k : ℕ) → k < length near.lists → get_or (row_of k) 0 0 ≡ get_or
-      (get_or (whole_lists near.lists far) k []) 0 0
-  first_is k lt = first-append (row_of k) (rest_of far k) (rest_two k) ∙
-      ap (λ xs. get_or xs 0 0) (sym (whole_at k lt))
-
-  pub some_is : (k : ℕ) → k < length near.lists → (0 < length (row_of k)) ↔
-      (0 < length (get_or (whole_lists near.lists far) k []))
-  some_is k lt =
-      let whole = ap length (whole_at k lt) in
-      let both = length-append (row_of k) (rest_of far k) in (
-        λ some. omega (arith, whole, both, some),
-        λ some. some-append (row_of k) (rest_of far k) (rest_two k) (omega (arith, whole, some)),
+  pub some_is : (0 < length row) ↔ (0 < length list)
+  some_is =
+      let whole = ap length list_is in (
+        λ some. omega (arith, whole, length-append row rest, some),
+        λ some. some-append row rest rest_two (omega (arith, whole, some)),
       )
 
-  pub second_is : (x k : ℕ) → k < length near.lists → is_second x (row_of k) ≡ is_second x
-      (get_or (whole_lists near.lists far) k [])
-  second_is x k lt = second-append x (row_of k) (rest_of far k) (rest_two k) ∙
-      ap (is_second x) (sym (whole_at k lt))
+  pub second_is : (x : ℕ) → is_second x row ≡ is_second x list
+  second_is x = second-append x row rest rest_two ∙ ap (is_second x) (sym list_is)
 
-  -- the list of set k written anew
-  pub split_after : (k : ℕ) (xs ys : List ℕ) (far' : List Deep) → k < length near.lists →
-      length far' ≡ length far
-      → ((j : ℕ) → (j ≡ k → ⊥) → get_or far' j nothing ≡ get_or far j nothing) → rest_of far' k ≡ ys
-      → (k < length far → (get_or far' k nothing).cap ≡ beyond) → length xs ≤ near.depth →
-      length ys ≤ beyond
-      → (ys ≢ [] → length xs ≡ near.depth) → IsOnce (xs ++ ys) →
-      AreSplit (record { depth = near.depth; lists = set near.lists k xs }) beyond far'
-  split_after k xs ys far' lt long others at cap_at short rest_short full once =
-      let here : get_or (set near.lists k xs) k [] ≡ xs = get_or-set_same near.lists k xs [] lt in
-      let R : ℕ → Type 0 = λ j. length (get_or (set near.lists k xs) j []) ≤ near.depth in
-      let T : ℕ → Type 0 = λ j. length (rest_of far' j) ≤ beyond in
-      let F : ℕ → Type 0 = λ j. rest_of far' j ≢ [] →
-      length (get_or (set near.lists k xs) j []) ≡ near.depth in
-      let O : ℕ → Type 0 = λ j. IsOnce (get_or (set near.lists k xs) j [] ++ rest_of far' j) in
-      let C : ℕ → Type 0 = λ j. j < length far' → (get_or far' j nothing).cap ≡ beyond in
-      let L : List ℕ → Type 0 = IsOnce in
-      record {
-        far_len = long ∙ s.far_len ∙ sym (length-set near.lists k xs);
-        two = s.two;
-        small = let M : ℕ → Type 0 = λ n. n * (near.depth + beyond) ≤ 2 ^ 22 in
-            subst M (sym (length-set near.lists k xs)) s.small;
-        caps = λ j. elim (cases_eq j k) [
-          | inl same ↦ subst C (sym same) (λ within. cap_at (omega (arith, within, long)))
-          | inr other ↦ λ within. ap (λ d. d.cap) (others j other) ∙
-              s.caps j (omega (arith, within, long))
-        ];
-        short = λ j. elim (cases_eq j k) [
-          | inl same ↦ subst R (sym same) (omega (arith, ap length here, short))
-          | inr other ↦ omega (
-            arith,
-            ap length (get_or-set_other near.lists k j xs [] other),
-            s.short j,
-          )
-        ];
-        rest_short = λ j. elim (cases_eq j k) [
-          | inl same ↦ subst T (sym same) (omega (arith, ap length at, rest_short))
-          | inr other ↦ omega (arith, ap (λ d. length d.blocks) (others j other), s.rest_short j)
-        ];
-        full = λ j. elim (cases_eq j k) [
-          | inl same ↦ subst F (sym same) (λ some. ap length here ∙ full (λ none. some (at ∙ none)))
-          | inr other ↦ λ some. ap length (get_or-set_other near.lists k j xs [] other)
-              ∙ s.full j (λ none. some (ap (λ d. d.blocks) (others j other) ∙ none))
-        ];
-        once = λ j. elim (cases_eq j k) [
-          | inl same ↦ subst O (sym same)
-              (subst L (sym (ap (λ zs. zs ++ rest_of far' k) here ∙ ap (λ zs. xs ++ zs) at)) once)
-          | inr other ↦ subst L
-              (sym (ap (λ zs. zs ++ rest_of far' j) (get_or-set_other near.lists k j xs [] other)
-              ∙ ap (λ d. row_of j ++ d.blocks) (others j other)))
-              (s.once j)
-        ];
-      }
-
-  -- a block that comes to the front of its row, and no other leaves the row
-  module _ (x k : ℕ) (lt : k < length near.lists) where
+  -- block x comes to the front of the row, and what stands behind it becomes d
+  module _ (x : ℕ) where
     abbrev after : List ℕ
-    after = take near.depth (move_to_front x (row_of k))
+    after = take near.depth (move_to_front x row)
 
-    -- in the row, or a new block of a list that is all in its row
+    pub renewed : (d : Deep) → d.cap ≡ beyond → length d.blocks ≤ beyond →
+        (d.blocks ≢ [] → length after ≡ near.depth) →
+        take (near.depth + beyond) (move_to_front x (row ++ rest)) ≡ after ++ d.blocks →
+        {near' : Lists} → near' ≡ lists_after_touch near k x → {far' : List Deep} →
+        far' ≡ set far k d → IsRenewed near' beyond far' k x v
+    renewed d cap short full moved {near'} near_is {far'} far_is =
+        let lists = set near.lists k after in
+        let here : get_or lists k [] ≡ after = get_or-set_same near.lists k after [] within in
+        let once : IsOnce (after ++ d.blocks) = subst (λ ys. IsOnce ys) moved
+        (once_moved x (near.depth + beyond) (row ++ rest) (r.sound.once k)) in
+        subst (λ n. IsRenewed n beyond far' k x v) (sym near_is)
+        (subst (λ f. IsRenewed (lists_after_touch near k x) beyond f k x v) (sym far_is) (record {
+          sound = record {
+            far_len = length-set far k d ∙ r.sound.far_len ∙ sym (length-set near.lists k after);
+            two = r.sound.two;
+            small = subst (λ (n : ℕ). n * (near.depth + beyond) ≤ 2 ^ 22)
+                (sym (length-set near.lists k after)) r.sound.small;
+            caps = λ j lt. all_set (λ i e. i < length far → e.cap ≡ beyond) far k d nothing
+                within_far (λ _. cap) (λ i _. r.sound.caps i) j
+                (omega (arith, lt, length-set far k d));
+            short = all_set (λ _ ys. length ys ≤ near.depth) near.lists k after [] within
+                (length-take_le near.depth (move_to_front x row)) (λ j _. r.sound.short j);
+            rest_short = all_set (λ _ e. length e.blocks ≤ beyond) far k d nothing within_far short
+                (λ j _. r.sound.rest_short j);
+            full = all_set (λ j e. e.blocks ≢ [] → length (get_or lists j []) ≡ near.depth) far k d
+                nothing within_far (λ some. ap length here ∙ full some)
+                (λ j other some. ap length (get_or-set_other near.lists k j after [] other) ∙
+                r.sound.full j some);
+            once = all_set (λ j e. IsOnce (get_or lists j [] ++ e.blocks)) far k d nothing
+                within_far (subst (λ ys. IsOnce (ys ++ d.blocks)) (sym here) once)
+                (λ j other. subst (λ ys. IsOnce (ys ++ rest_of far j))
+                (sym (get_or-set_other near.lists k j after [] other)) (r.sound.once j));
+          };
+          seen =
+              ap (λ ls. record { depth = near.depth + beyond; lists = ls })
+              (joined-set near.lists far k after d within within_far
+              ∙ ap (set (whole_lists near.lists far) k)
+              (sym moved ∙ ap (λ zs. take (near.depth + beyond) (move_to_front x zs))
+              (sym (joined_at near.lists far k within))))
+              ∙ ap (λ w. lists_after_touch w k x) r.seen;
+        }))
+
+    -- x stands in the row, or is a new block of a list that is all in its row: no other leaves it
     abbrev pub StaysIn : Type 0
-    StaysIn = (is_in x (row_of k) ≡ true) ⊎ ((length (row_of k) < near.depth) ×
-        (is_in x (row_of k) ≡ false))
+    StaysIn = (is_in x row ≡ true) ⊎ ((length row < near.depth) × (is_in x row ≡ false))
 
-    new_moved : length (row_of k) < near.depth →
-        take (near.depth + beyond) (move_to_front x (row_of k)) ≡ after
+    new_moved : length row < near.depth →
+        take (near.depth + beyond) (move_to_front x row) ≡ after
     new_moved short =
-        let le : length (move_to_front x (row_of k)) ≤ near.depth =
-        omega (arith, length-remove_le (row_of k) (index_of x (row_of k)), short) in
-        take_all (near.depth + beyond) (move_to_front x (row_of k)) (omega (arith, le)) ∙
-        sym (take_all near.depth (move_to_front x (row_of k)) le)
+        let le : length (move_to_front x row) ≤ near.depth =
+        omega (arith, length-remove_le row (index_of x row), short) in
+        take_all (near.depth + beyond) (move_to_front x row) (omega (arith, le)) ∙
+        sym (take_all near.depth (move_to_front x row) le)
 
-    pub stays_moved : StaysIn → take (near.depth + beyond)
-        (move_to_front x (row_of k ++ rest_of far k)) ≡ after ++ rest_of far k
-    stays_moved h =
-        elim h [
-          | inl inside ↦ near_moved near.depth beyond x (row_of k) (rest_of far k) inside
-              (s.short k) (s.rest_short k)
-          | inr new ↦ ap (λ zs. take (near.depth + beyond) (move_to_front x (row_of k ++ zs)))
-              (rest_behind k new.0)
-              ∙ ap (λ zs. take (near.depth + beyond) (move_to_front x zs)) (append-nil (row_of k)) ∙
-              new_moved new.0 ∙ sym (append-nil after)
-              ∙ ap (λ zs. after ++ zs) (sym (rest_behind k new.0))
-        ]
+    stays_moved : StaysIn →
+        take (near.depth + beyond) (move_to_front x (row ++ rest)) ≡ after ++ rest
+    stays_moved h = elim h [
+      | inl inside ↦ near_moved near.depth beyond x row rest inside (r.sound.short k)
+          (r.sound.rest_short k)
+      | inr new ↦
+          let moved : List ℕ → List ℕ = λ zs. take (near.depth + beyond) (move_to_front x zs) in
+          ap (λ zs. moved (row ++ zs)) (rest_behind new.0) ∙ ap moved (append-nil row) ∙
+          new_moved new.0 ∙ sym (append-nil after) ∙ ap (λ zs. after ++ zs) (sym (rest_behind new.0))
+    ]
 
-    after_long : StaysIn → rest_of far k ≢ [] → length after ≡ near.depth
-    after_long h some =
-        elim h [
-          | inl inside ↦
-              let lt = index-lt x (row_of k) inside in
-              let long : length (move_to_front x (row_of k)) ≡ near.depth =
-              omega (
-                arith,
-                length-remove (row_of k) (index_of x (row_of k)) lt,
-                s.full k some,
-              ) in
-              ap length (take_all near.depth (move_to_front x (row_of k)) (omega (arith, long))) ∙
-              long
-          | inr new ↦ absurd (some (rest_behind k new.0))
-        ]
+    after_long : StaysIn → rest ≢ [] → length after ≡ near.depth
+    after_long h some = elim h [
+      | inl inside ↦
+          let long : length (move_to_front x row) ≡ near.depth = omega (
+            arith,
+            length-remove row (index_of x row) (index-lt x row inside),
+            r.sound.full k some,
+          ) in
+          ap length (take_all near.depth (move_to_front x row) (omega (arith, long))) ∙ long
+      | inr new ↦ absurd (some (rest_behind new.0))
+    ]
 
-    pub stays_split : StaysIn → (near' : Lists) → near' ≡ lists_after_touch near k x →
-        AreSplit near' beyond far
-    stays_split h near' is =
-        let P : Lists → Type 0 = λ v. AreSplit v beyond far in
-        let L : List ℕ → Type 0 = IsOnce in
-        subst P (sym is)
-        (split_after k after (rest_of far k) far lt refl (λ j other. refl) refl (s.caps k)
-        (length-take_le near.depth (move_to_front x (row_of k)))
-        (s.rest_short k) (after_long h)
-        (subst L (stays_moved h) (once_moved x (near.depth + beyond) (row_of k ++ rest_of far k)
-        (s.once k))))
-
-    pub stays_lists : StaysIn → (near' : Lists) → near' ≡ lists_after_touch near k x →
-        whole_lists near'.lists far
-        ≡ set (whole_lists near.lists far) k
-        (take (near.depth + beyond) (move_to_front x
-        (get_or (whole_lists near.lists far) k [])))
-    stays_lists h near' is =
-        ap (λ v. whole_lists v.lists far) is ∙ joined-set_near near.lists far k after lt
-        ∙ ap (set (whole_lists near.lists far) k)
-        (sym (stays_moved h) ∙ ap (λ zs. take (near.depth + beyond) (move_to_front x zs))
-        (sym (whole_at k lt)))
+    pub stays : StaysIn → {near' : Lists} → near' ≡ lists_after_touch near k x →
+        IsRenewed near' beyond far k x v
+    stays h is = renewed (get_or far k nothing) (r.sound.caps k within_far) (r.sound.rest_short k)
+        (after_long h) (stays_moved h) is (sym (set-get_or far k nothing))
 
 -- one set's list is not longer than all
 pub depth_small : (sets depth : ℕ) → 1 ≤ sets → sets * depth ≤ 2 ^ 22 → depth ≤ 2 ^ 22
 depth_small sets depth some small = omega (arith, mul-le-mul_right depth some, small)
-
--- lists with no blocks
-nils : (n k : ℕ) → get_or {A = List ℕ} (replicate n []) k [] ≡ []
-nils zero k = refl
-nils (suc n) zero = refl
-nils (suc n) (suc k) = nils n k
 
 pub joined_empty : (n : ℕ) (far : List Deep) → ((k : ℕ) → rest_of far k ≡ []) →
     whole_lists (replicate n []) far ≡ replicate n []
@@ -244,7 +217,7 @@ pub split_none : (near : Lists) (beyond n : ℕ) (far : List Deep) → near.list
     → length near.lists * (near.depth + beyond) ≤ 2 ^ 22 → AreSplit near beyond far
 split_none near beyond n far none rest caps far_len two small =
     let row : (k : ℕ) → get_or near.lists k [] ≡ [] =
-    λ k. ap (λ ls. get_or ls k []) none ∙ nils n k in
+    λ k. ap (λ ls. get_or ls k []) none ∙ all_same n k [] in
     let L : List ℕ → Type 0 = IsOnce in
     record {
       far_len = far_len;
@@ -346,25 +319,6 @@ empty_rest : (n cap k : ℕ) → rest_of (replicate n (record { cap = cap; block
 empty_rest zero cap k = refl
 empty_rest (suc n) cap zero = refl
 empty_rest (suc n) cap (suc k) = empty_rest n cap k
-
-pub split_new : (near : Lists) (sets beyond : ℕ) (far : List Deep) →
-    near ≡ record { depth = 64; lists = replicate sets [] }
-    → far ≡ replicate sets (record { cap = beyond; blocks = [] }) →
-    sets * (64 + beyond) ≤ 2 ^ 22 → AreSplit near beyond far
-split_new near sets beyond far is far_is small =
-    let lists : near.lists ≡ replicate sets [] = ap (λ v. v.lists) is in
-    let depth : near.depth ≡ 64 = ap (λ v. v.depth) is in
-    let count : length near.lists ≡ sets = ap length lists ∙ length-replicate sets [] in
-    let e : Deep = record { cap = beyond; blocks = [] } in
-    let long : length far ≡ sets = ap length far_is ∙ length-replicate sets e in
-    let M : ℕ → Type 0 = λ n. n * (near.depth + beyond) ≤ 2 ^ 22 in
-    let N : ℕ → Type 0 = λ n. sets * (n + beyond) ≤ 2 ^ 22 in
-    split_none near beyond sets far lists (λ k. ap (λ ds. rest_of ds k) far_is ∙
-    empty_rest sets beyond k)
-    (λ k lt. ap (λ ds. (get_or ds k nothing).cap) far_is ∙
-    ap (λ d. d.cap) (empty_at sets beyond k (omega (arith, lt, long))))
-    (long ∙ sym count) (omega (arith, depth))
-    (subst M (sym count) (subst N (sym depth) small))
 
 pub new_lists : (near : Lists) (sets beyond : ℕ) (far : List Deep) →
     near ≡ record { depth = 64; lists = replicate sets [] }

@@ -1,9 +1,9 @@
 -- A rest that gets another block in front, and lacks the one that is looked for, or its last.
-use Rattle.std.proofs.Common.{◌≡◌, ℕ, suc, ◌+◌, ◌-◌, ◌<◌, ◌≤◌, false, eqb, List, ◌∷◌, ◌++◌, length}
+use Rattle.std.proofs.Common.{◌≡◌, ℕ, suc, ◌+◌, ◌<◌, ◌≤◌, false, eqb, List, ◌∷◌, ◌++◌, length}
 use Rattle.std.proofs.Common.{take, drop, set, ◌∙◌, ap, arith, add-one}
 use Rattle.std.specs.List.{remove}
 use Rattle.profile_core.specs.declared.row.Shifted.TheVariants.{Found, Out}
-use Rattle.profile_core.specs.internal.Moves.{index_of, is_front, shifted_of}
+use Rattle.profile_core.specs.internal.Moves.{index_of, shifted_of}
 use Rattle.profile_core.proofs.Bringing.{IsShifted, shifted_index, shifted_last, row_found, row_full}
 use Rattle.profile_core.proofs.Bringing.{row_grown, size}
 use Rattle.profile_core.proofs.Shifting.{index_behind, other_front}

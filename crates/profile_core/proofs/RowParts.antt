@@ -1,12 +1,14 @@
 -- Parts of n numbers of an array, as rows are: what is read of one, and one of them written anew.
-use Rattle.std.proofs.Common.{◌≡◌, ℕ, ◌+◌, ◌*◌, ◌<◌, ◌≤◌, inl, inr, List, ◌++◌, length, take, drop}
+use Rattle.std.proofs.Common.{◌≡◌, ℕ, ◌+◌, ◌*◌, ◌-◌, ◌<◌, ◌≤◌, inl, inr, List, ◌++◌, length, take, drop}
 use Rattle.std.proofs.Common.{get_or, set, sym, ◌∙◌, ap, arith, length-drop, get_or-take}
-use Rattle.std.proofs.Common.{get_or-drop}
+use Rattle.std.proofs.Common.{get_or-drop, Vec}
 use Rattle.std.proofs.Math.Nat.{mul-le-mul_right}
 use Rattle.std.proofs.lemmas.Bool.{cases_lt}
 use Rattle.std.proofs.lemmas.List.{get_or_read, take_at, drop_at, drop-take, length-take-le}
+use Rattle.std.proofs.lemmas.List.{with_items_is}
 use Rattle.std.proofs.lemmas.Slice.{drop-put_mid, take-put_mid_below}
-use borrow.Rule.Slice.PartMut.{put_mid, set_mid_at}
+use Rattle.std.specs.Vec.{with_items}
+use borrow.Rule.Slice.PartMut.{put_mid, same_len_mid, set_mid_at}
 
 -- a row that stands in front of another ends where that begins
 pub in_front : (p q n : ℕ) → p < q → p * n + n ≤ q * n
@@ -56,3 +58,16 @@ part_other p q n xs new begins long other = elim (cases_lt q p) [
   | inr ge ↦ ap (take n) (drop-put_mid (p * n) n xs new (q * n)
       (in_front p q n (grind (arith, ge, other))) begins long)
 ]
+
+-- a part as code lends it, and as it is put back
+pub part_lent : (b n : ℕ) {xs now : List ℕ} → now ≡ xs →
+    take (b + n - b) (drop b now) ≡ take n (drop b xs)
+part_lent b n {xs} {now} is = ap (λ j. take j (drop b now)) (omega arith) ∙
+    ap (λ ys. take n (drop b ys)) is
+
+pub part_back : {Z : Type 0} (v : Vec ℕ Z) (b n : ℕ) {now : List ℕ} (new : List ℕ) → now ≡ v.items →
+    length now ≡ v.len → length new ≡ length (take (b + n - b) (drop b now)) →
+    (with_items v (put_mid b (b + n - b) now new)).items ≡ put_mid b n v.items new
+part_back v b n {now} new is len long =
+    with_items_is v (put_mid b (b + n - b) now new) (same_len_mid b (b + n - b) now new long ∙ len)
+    ∙ ap (λ j. put_mid b j now new) (omega arith) ∙ ap (λ xs. put_mid b n xs new) is

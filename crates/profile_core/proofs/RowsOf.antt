@@ -34,6 +34,11 @@ pub record HasRow (n m k : ℕ) (row : ℕ → List ℕ) (rows : RowsValue) : Ty
   pub seen : record { stride = n; rows = rows_of m row } ≡ rows
   pub is_set : k < length rows.rows
 
+pub known_row : {n m k : ℕ} {row : ℕ → List ℕ} {rows : RowsValue} →
+    record { stride = n; rows = rows_of m row } ≡ rows → k < length rows.rows →
+    HasRow n m k row rows
+known_row seen is_set = record { seen = seen; is_set = is_set }
+
 module _ {n m k : ℕ} {row : ℕ → List ℕ} {rows : RowsValue} (r : HasRow n m k row rows) where
   pub stride_is : n ≡ rows.stride
   stride_is = ap (λ v. v.stride) r.seen
@@ -66,3 +71,8 @@ pub put_is : {k : ℕ} {new : List ℕ} {after : RowsValue} (rows : RowsValue) �
     after ≡ with_row rows k new → k < length rows.rows → row_for after k ≡ new
 put_is {k} {new} {after} rows put lt =
     ap (λ v. row_for v k) put ∙ get_or-set_same rows.rows k new [] lt
+
+-- and no other changed
+pub put_others : {k : ℕ} {after : RowsValue} (rows : RowsValue) (new : List ℕ) →
+    after ≡ with_row rows k new → k < length rows.rows → after ≡ with_row rows k (row_for after k)
+put_others {k} rows new put lt = put ∙ ap (with_row rows k) (sym (put_is rows put lt))

@@ -149,10 +149,6 @@ source_once p (suc i) (suc k) e =
     ] in
     both (cases_lt i p) (cases_lt k p)
 
-length-turned : (p : ℕ) (xs : List ℕ) → p < length xs →
-    length (get_or xs p 0 ∷ remove xs p) ≡ length xs
-length-turned p xs lt = length-remove xs p lt
-
 -- sixteen lanes one by one
 abbrev sixteen : List ℕ → List ℕ
 sixteen xs = get_or xs 0 0 ∷ get_or xs 1 0 ∷ get_or xs 2 0 ∷ get_or xs 3 0 ∷ get_or xs 4 0 ∷

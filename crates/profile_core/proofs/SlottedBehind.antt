@@ -104,12 +104,6 @@ module _ (x y len most : ℕ) (before after : Slots) (o : AreOrdered before) (so
     pub found_small : p < 16
     found_small = omega (arith, found_lt, few)
 
-    pub found_touch : Behind (p + 2) ≡ rest_touch_of 2 x list
-    found_touch =
-        let there : p + 2 ≡ 2 + index_of x list = omega (arith, found.distance_is) in
-        ap Behind there
-        ∙ sym (ap (λ b. cond b (Behind (2 + index_of x list)) (New (2 + length list))) found.inside)
-
     pub found_list : listed after.order after.numbers 16 ≡ y ∷ remove whole p →
         listed after.order after.numbers held ≡ take most (y ∷ remove list (index_of x list))
     found_list put =
@@ -132,13 +126,6 @@ module _ (x y len most : ℕ) (before after : Slots) (o : AreOrdered before) (so
 
     pub new_held : h ≡ held
     new_held = omega (arith, nowhere.len_is, list_long)
-
-    pub new_touch : New (h + 2) ≡ rest_touch_of 2 x list
-    new_touch =
-        let all : h + 2 ≡ 2 + length list = omega (arith, new_held, list_long) in
-        ap New all
-        ∙ sym (ap (λ b. cond b (Behind (2 + index_of x list)) (New (2 + length list)))
-        nowhere.outside)
 
     pub new_list : listed after.order after.numbers 16 ≡ y ∷ remove whole place →
         listed after.order after.numbers (place + 3 - 2) ≡

@@ -33,14 +33,6 @@ abbrev pub RestIn : Inside → ℕ → RowsValue → Type 0
 RestIn r k rests = HasRow r.stride (length r.places.items) k
     (slotted_rest r.stride r.places.items r.rests.items) rests
 
--- each rest is as long as is said
-pub rest_long : {n room : ℕ} {places : List ℕ} {rests : List Slots} →
-    IsSlotted n places rests room → (k : ℕ) → length (slotted_rest n places rests k) ≡ n
-rest_long {n} {room} {places} {rests} s k =
-    let o = s.placed.each (get_or places k 0) (slots_are s.placed k) in
-    let here = slots_at places rests k in
-    length-listed here.order here.numbers n (omega (arith, o.order_len, s.most))
-
 -- the slots of set k, which are its own, written
 module _ {places : List ℕ} {rests : List Slots} {room : ℕ} (a : ArePlaced places rests room)
     (k : ℕ) (own : 0 < get_or places k 0) (s : Slots) (o : AreOrdered s) where
@@ -93,9 +85,6 @@ module _ {places : List ℕ} {rests : List Slots} {room : ℕ} (a : ArePlaced pl
 
   pub room_left : length rests < room
   room_left = omega (arith, place_left a.own lt none, a.fits, a.rests_len)
-
-  pub rests_few : length rests ≤ 2 ^ 26
-  rests_few = omega (arith, taken_few places, a.few, a.rests_len)
 
   more_len : length rests_more ≡ length rests + 1
   more_len = length-append rests (blank ∷ [])

@@ -1,7 +1,7 @@
 -- Rests that stand in one array: where they stand, one of them written anew, and one taken.
 use Rattle.std.proofs.Common.{◌≡◌, ℕ, ◌+◌, ◌*◌, ◌/◌, ◌<◌, ◌≤◌, ◌^◌, inl, inr, List, ◌++◌, length}
-use Rattle.std.proofs.Common.{take, drop, get_or, set, refl, sym, ◌∙◌, ap, subst, arith}
-use Rattle.std.proofs.Common.{length-append, length-set, length-take}
+use Rattle.std.proofs.Common.{take, drop, get_or, set, sym, ◌∙◌, ap, subst, arith}
+use Rattle.std.proofs.Common.{length-append, length-set}
 use Rattle.std.specs.Prelude.{replicate}
 use Rattle.std.proofs.Math.Nat.{mul-le-mul_right, mul-div_cancel}
 use Rattle.std.proofs.lemmas.Bool.{cases_eq}
@@ -29,12 +29,6 @@ at_first n xs =
     ap (λ j. take n (drop j xs)) none
 
 module _ {n room : ℕ} {places numbers : List ℕ} (a : IsSparse n places numbers room) where
-  -- the array is small, and each rest ends in it
-  pub numbers_small : length numbers ≤ 2 ^ 26
-  numbers_small =
-      let most : taken places + 1 ≤ length places + 1 = omega (arith, taken_few places) in
-      omega (arith, a.numbers_len, a.small, mul-le-mul_right n most)
-
   pub rest_ends : (k : ℕ) → get_or places k 0 * n + n ≤ length numbers
   rest_ends k = omega (
     arith,
@@ -176,17 +170,6 @@ module _ (n m : ℕ) {places numbers : List ℕ} (some : 1 ≤ n) (none : places
 
   place_count : length places ≡ m
   place_count = ap length none ∙ length-replicate m 0
-
-  pub new_sparse : {room : ℕ} → (m + 1) * n ≤ 2 ^ 26 → (m + 1) * n ≤ room →
-      IsSparse n places numbers room
-  new_sparse {room} small fits = record {
-    some = some;
-    small = subst (λ j. (j + 1) * n ≤ 2 ^ 26) (sym place_count) small;
-    numbers_len = ap length zeros ∙ length-replicate n 0 ∙
-        omega (arith, ap (λ j. (j + 1) * n) (ap taken none ∙ taken_none m));
-    fits = subst (λ j. (j + 1) * n ≤ room) (sym place_count) fits;
-    own = subst ArePlaces (sym none) (none_taken m);
-  }
 
   pub new_rests : rows_of (length places) (sparse_rest n places numbers) ≡
       replicate m (replicate n 0)

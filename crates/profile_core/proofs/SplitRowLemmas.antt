@@ -5,18 +5,17 @@ use Rattle.std.proofs.Common.{length, take, get_or, set, sym, ◌∙◌, ap, sub
 use Rattle.std.proofs.Common.{get_or-set_same, get_or-set_other}
 use Rattle.std.specs.List.{remove}
 use Rattle.std.specs.Prelude.{replicate}
-use Rattle.std.proofs.lemmas.Bool.{ne_eqb, cases_eq}
+use Rattle.std.proofs.lemmas.Bool.{ne_eqb}
 use Rattle.std.proofs.lemmas.List.{take_all, get_or-replicate, length-replicate, set-get_or}
 use Rattle.profile_core.specs.declared.recency.Touch.TheVariants.{Behind, New}
 use Rattle.profile_core.specs.internal.Moves.{index_of, is_in, is_front, is_second, move_to_front}
 use Rattle.profile_core.specs.internal.Moves.{touch_of, rest_touch_of}
-use Rattle.profile_core.specs.internal.Rows.{RowsValue, AreLong, rows_of, row_for, with_row}
+use Rattle.profile_core.specs.internal.Rows.{RowsValue, rows_of, row_for, with_row}
 use Rattle.profile_core.specs.internal.Rows.{blank_rows, list_in_row}
-use Rattle.profile_core.specs.internal.Slab.{IsRow, IsBroughtInRow}
+use Rattle.profile_core.specs.internal.Lists.{IsBroughtInRow}
 use Rattle.profile_core.specs.internal.SplitRows.{split_row, split_rows, AreSplitRows}
-use Rattle.profile_core.proofs.Emptying.{zero_at}
-use Rattle.profile_core.proofs.RowsOf.{HasRow, rows_blank, within, stride_is, row_is, row_put}
-use Rattle.profile_core.proofs.RowsOf.{put_is}
+use Rattle.profile_core.proofs.Elements.{all_set, all_same}
+use Rattle.profile_core.proofs.RowsOf.{HasRow, known_row, rows_blank, within, row_is, row_put}
 use Rattle.profile_core.proofs.Shifting.{index_behind, other_front}
 
 -- where a block stands behind the first two, neither of which it is
@@ -133,7 +132,7 @@ module _ (m : ℕ) {firsts : List ℕ} {rests : RowsValue} (none : firsts ≡ re
       ap (λ rs. record { stride = rests.stride + 1; rows = rs })
       (ap (λ j. rows_of j (split_row firsts rests.rows)) count
       ∙ rows_blank m (rests.stride + 1) (split_row firsts rests.rows)
-      (λ k lt. ap (λ x. x ∷ get_or rests.rows k []) (ap (λ fs. get_or fs k 0) none ∙ zero_at m k)
+      (λ k lt. ap (λ x. x ∷ get_or rests.rows k []) (ap (λ fs. get_or fs k 0) none ∙ all_same m k 0)
       ∙ ap (λ (xs : List ℕ). 0 ∷ xs) (rest_at k lt)
       ∙ ap (λ j. replicate j 0) next))
 
@@ -141,6 +140,10 @@ module _ (m : ℕ) {firsts : List ℕ} {rests : RowsValue} (none : firsts ≡ re
 pub record HasSplit (k : ℕ) (firsts : List ℕ) (rests rows : RowsValue) : Type 0 where
   pub sound : AreSplitRows firsts rests
   pub row : HasRow (rests.stride + 1) (length rests.rows) k (split_row firsts rests.rows) rows
+
+pub known : {k : ℕ} {firsts : List ℕ} {rests rows : RowsValue} → AreSplitRows firsts rests →
+    as_rows firsts rests ≡ rows → k < length rows.rows → HasSplit k firsts rests rows
+known sound seen is_set = record { sound = sound; row = known_row seen is_set }
 
 module _ {k : ℕ} {firsts : List ℕ} {rests rows : RowsValue} (r : HasSplit k firsts rests rows) where
   pub is_rest : k < length rests.rows
@@ -153,56 +156,51 @@ module _ {k : ℕ} {firsts : List ℕ} {rests rows : RowsValue} (r : HasSplit k 
   rest_long = r.sound.long k is_rest
 
   -- the row written: another number in front of it, and another rest
-  module _ (y : ℕ) {rests' : RowsValue} (new : List ℕ) (long : length new ≡ rests.stride)
+  module _ {rests' : RowsValue} (new : List ℕ) (long : length new ≡ rests.stride)
       (put : rests' ≡ with_row rests k new) where
-    same_count : length rests'.rows ≡ length rests.rows
-    same_count = ap (λ v. length v.rows) put ∙ length-set rests.rows k new
+    pub written_sound : (y : ℕ) → AreSplitRows (set firsts k y) rests'
+    written_sound y = subst (λ rs. AreSplitRows (set firsts k y) rs) (sym put) (record {
+      all = length-set firsts k y ∙ r.sound.all ∙ sym (length-set rests.rows k new);
+      long = λ j lt. all_set (λ i row. i < length rests.rows → length row ≡ rests.stride)
+          rests.rows k new [] is_rest (λ _. long) (λ i _. r.sound.long i) j
+          (omega (arith, lt, length-set rests.rows k new));
+      some = r.sound.some;
+      small = r.sound.small;
+    })
 
-    rest_here : row_for rests' k ≡ new
-    rest_here = put_is rests put is_rest
-
-    rest_other : (j : ℕ) → (j ≡ k → ⊥) → row_for rests' j ≡ row_for rests j
-    rest_other j other = ap (λ v. row_for v j) put ∙ get_or-set_other rests.rows k j new [] other
-
-    pub written_sound : AreSplitRows (set firsts k y) rests'
-    written_sound =
-        let same : rests'.stride ≡ rests.stride = ap (λ v. v.stride) put in
-        record {
-          all = length-set firsts k y ∙ r.sound.all ∙ sym same_count;
-          long = λ j lt. elim (cases_eq j k) [
-            | inl here ↦ ap (λ i. length (row_for rests' i)) here ∙ ap length rest_here ∙ long ∙
-                sym same
-            | inr other ↦ ap length (rest_other j other) ∙
-                r.sound.long j (omega (arith, lt, same_count)) ∙ sym same
-          ];
-          some = omega (arith, same, r.sound.some);
-          small = omega (arith, same, r.sound.small);
-        }
-
-    pub written_rows : as_rows (set firsts k y) rests' ≡ with_row rows k (y ∷ new)
-    written_rows =
-        ap (λ n. record { stride = n + 1; rows = split_rows (set firsts k y) rests'.rows })
-        (ap (λ v. v.stride) put)
+    pub written_rows : {y first : ℕ} → first ≡ y →
+        as_rows (set firsts k first) rests' ≡ with_row rows k (y ∷ new)
+    written_rows {y} {first} is =
+        ap (λ f. as_rows (set firsts k f) rests') is
+        ∙ ap (as_rows (set firsts k y)) put
         ∙ ap (λ j. record {
           stride = rests.stride + 1;
-          rows = rows_of j (split_row (set firsts k y) rests'.rows);
-        }) same_count
-        ∙ row_put r.row (split_row (set firsts k y) rests'.rows) (y ∷ new)
-        (ap (λ x. x ∷ row_for rests' k) (get_or-set_same firsts k y 0 is_first)
-        ∙ ap (λ xs. y ∷ xs) rest_here)
-        (λ j lt other. ap (λ x. x ∷ row_for rests' j) (get_or-set_other firsts k j y 0 other)
-        ∙ ap (λ xs. get_or firsts j 0 ∷ xs) (rest_other j other))
+          rows = rows_of j (split_row (set firsts k y) (set rests.rows k new));
+        }) (length-set rests.rows k new)
+        ∙ row_put r.row (split_row (set firsts k y) (set rests.rows k new)) (y ∷ new)
+        (ap (λ x. x ∷ get_or (set rests.rows k new) k []) (get_or-set_same firsts k y 0 is_first)
+        ∙ ap (λ xs. y ∷ xs) (get_or-set_same rests.rows k new [] is_rest))
+        (λ j lt other. ap (λ x. x ∷ get_or (set rests.rows k new) j [])
+        (get_or-set_other firsts k j y 0 other)
+        ∙ ap (λ xs. get_or firsts j 0 ∷ xs) (get_or-set_other rests.rows k j new [] other))
 
   -- its first number alone
   rest_same : rests ≡ with_row rests k (row_for rests k)
   rest_same = ap (λ rs. record rests { rows = rs }) (sym (set-get_or rests.rows k []))
 
   pub first_sound : (y : ℕ) → AreSplitRows (set firsts k y) rests
-  first_sound y = written_sound y (row_for rests k) rest_long rest_same
+  first_sound y = written_sound (row_for rests k) rest_long rest_same y
 
-  pub first_written : (y : ℕ) →
-      as_rows (set firsts k y) rests ≡ with_row rows k (y ∷ row_for rests k)
-  first_written y = written_rows y (row_for rests k) rest_long rest_same
+  pub first_written : {y first : ℕ} → first ≡ y →
+      as_rows (set firsts k first) rests ≡ with_row rows k (y ∷ row_for rests k)
+  first_written is = written_rows (row_for rests k) rest_long rest_same is
+
+-- a list in a row, as the row and its front are given
+pub brought_as : {x len front : ℕ} {list row row' : List ℕ} → front ≡ x → row' ≡ row →
+    IsBroughtInRow x list x row len → IsBroughtInRow x list front row' len
+brought_as {x} {len} {front} {list} {row} {row'} front_is row_is b =
+    subst (λ f. IsBroughtInRow x list f row' len) (sym front_is)
+    (subst (λ r. IsBroughtInRow x list x r len) (sym row_is) b)
 
 -- set k's list has two blocks at least, y and z in front; x is neither
 module _ {k : ℕ} {firsts : List ℕ} {rests rows : RowsValue} (r : HasSplit k firsts rests rows)

@@ -1,12 +1,12 @@
 pub mod Fronts
 pub mod KeptLists
+pub mod Lists
 pub mod LongLists
 pub mod Moves
 pub mod Places
 pub mod PlainRows
 pub mod ProfileStandsFor
 pub mod Rows
-pub mod Slab
 pub mod Slots
 pub mod SlottedRests
 pub mod SparseRests

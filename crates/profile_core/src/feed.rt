@@ -5,8 +5,7 @@ ghost use Rattle.std.specs.Prelude.{slice_index_or};
 ghost use Rattle.cache_core.specs.Geometry.{block_of};
 ghost use Rattle.profile_core.specs.internal.KeptLists.{lists_of};
 ghost use Rattle.profile_core.specs.internal.Moves.{is_second};
-ghost use Rattle.profile_core.specs.internal.State.{after_reference, fed_of, IsNext};
-ghost use Rattle.profile_core.specs.internal.State.{profile_of, AreSound};
+ghost use Rattle.profile_core.specs.internal.State.{fed_of, profile_of, AreSound, MayBeFed, Feeds};
 ghost use Rattle.profile_core.specs.internal.Fronts.{is_front_of, after_unless_front};
 ghost use Rattle.profile_core.specs.internal.Fronts.{after_batch, fed_of_batch};
 
@@ -161,11 +160,9 @@ fn feed_behind_apart(
     set: usize,
     block: u64,
 )
-    requires sound { AreSound geometry.now (lists_of lists.old) histograms.old }
-    requires next { IsNext (profile_of geometry.now (lists_of lists.old) histograms.old) set block }
-    ensures sound { AreSound geometry.now (lists_of lists.new) histograms.new }
-    ensures step { profile_of geometry.now (lists_of lists.new) histograms.new
-        ≡ after_reference (profile_of geometry.now (lists_of lists.old) histograms.old) block }
+    requires { MayBeFed geometry.now (lists_of lists.old) histograms.old set block }
+    ensures { Feeds geometry.now (lists_of lists.old) histograms.old block (lists_of lists.new)
+        histograms.new }
 {
     if let KeptLists::InRows(lists) = lists {
         feed_by_parts(geometry, lists, histograms, set, block);
@@ -183,11 +180,9 @@ fn feed_otherwise(
     set: usize,
     block: u64,
 )
-    requires sound { AreSound geometry.now (lists_of lists.old) histograms.old }
-    requires next { IsNext (profile_of geometry.now (lists_of lists.old) histograms.old) set block }
-    ensures sound { AreSound geometry.now (lists_of lists.new) histograms.new }
-    ensures step { profile_of geometry.now (lists_of lists.new) histograms.new
-        ≡ after_reference (profile_of geometry.now (lists_of lists.old) histograms.old) block }
+    requires { MayBeFed geometry.now (lists_of lists.old) histograms.old set block }
+    ensures { Feeds geometry.now (lists_of lists.old) histograms.old block (lists_of lists.new)
+        histograms.new }
 {
     match lists {
         KeptLists::InSlots(lists) => feed_by_parts(geometry, lists, histograms, set, block),
@@ -207,11 +202,9 @@ fn feed_by_parts<L: SetLists>(
     set: usize,
     block: u64,
 )
-    requires sound { AreSound geometry.now (L.view lists.old) histograms.old }
-    requires next { IsNext (profile_of geometry.now (L.view lists.old) histograms.old) set block }
-    ensures sound { AreSound geometry.now (L.view lists.new) histograms.new }
-    ensures step { profile_of geometry.now (L.view lists.new) histograms.new
-        ≡ after_reference (profile_of geometry.now (L.view lists.old) histograms.old) block }
+    requires { MayBeFed geometry.now (L.view lists.old) histograms.old set block }
+    ensures { Feeds geometry.now (L.view lists.old) histograms.old block (L.view lists.new)
+        histograms.new }
 {
     if lists.is_second(set, block) {
         feed_second(*geometry, lists, histograms, set, block);
@@ -229,11 +222,9 @@ fn feed_behind<L: SetLists>(
     set: usize,
     block: u64,
 )
-    requires sound { AreSound geometry (L.view lists.old) histograms.old }
-    requires next { IsNext (profile_of geometry (L.view lists.old) histograms.old) set block }
-    ensures sound { AreSound geometry (L.view lists.new) histograms.new }
-    ensures step { profile_of geometry (L.view lists.new) histograms.new
-        ≡ after_reference (profile_of geometry (L.view lists.old) histograms.old) block }
+    requires { MayBeFed geometry (L.view lists.old) histograms.old set block }
+    ensures { Feeds geometry (L.view lists.old) histograms.old block (L.view lists.new)
+        histograms.new }
 {
     if lists.is_second(set, block) {
         feed_second(geometry, lists, histograms, set, block);
@@ -251,12 +242,10 @@ fn feed_second<L: SetLists>(
     set: usize,
     block: u64,
 )
-    requires sound { AreSound geometry (L.view lists.old) histograms.old }
-    requires next { IsNext (profile_of geometry (L.view lists.old) histograms.old) set block }
+    requires ready { MayBeFed geometry (L.view lists.old) histograms.old set block }
     requires second { is_second block (slice_index_or (L.view lists.old).lists set []) ≡ true }
-    ensures sound { AreSound geometry (L.view lists.new) histograms.new }
-    ensures step { profile_of geometry (L.view lists.new) histograms.new
-        ≡ after_reference (profile_of geometry (L.view lists.old) histograms.old) block }
+    ensures { Feeds geometry (L.view lists.old) histograms.old block (L.view lists.new)
+        histograms.new }
 {
     lists.bring_second(set, block);
     histograms.probes += 2;
@@ -272,12 +261,10 @@ fn feed_further_apart<L: SetLists>(
     set: usize,
     block: u64,
 )
-    requires sound { AreSound geometry.now (L.view lists.old) histograms.old }
-    requires next { IsNext (profile_of geometry.now (L.view lists.old) histograms.old) set block }
+    requires ready { MayBeFed geometry.now (L.view lists.old) histograms.old set block }
     requires further { is_second block (slice_index_or (L.view lists.old).lists set []) ≡ false }
-    ensures sound { AreSound geometry.now (L.view lists.new) histograms.new }
-    ensures step { profile_of geometry.now (L.view lists.new) histograms.new
-        ≡ after_reference (profile_of geometry.now (L.view lists.old) histograms.old) block }
+    ensures { Feeds geometry.now (L.view lists.old) histograms.old block (L.view lists.new)
+        histograms.new }
 {
     feed_further(*geometry, lists, histograms, set, block);
 }
@@ -292,12 +279,10 @@ fn feed_further<L: SetLists>(
     set: usize,
     block: u64,
 )
-    requires sound { AreSound geometry (L.view lists.old) histograms.old }
-    requires next { IsNext (profile_of geometry (L.view lists.old) histograms.old) set block }
+    requires ready { MayBeFed geometry (L.view lists.old) histograms.old set block }
     requires further { is_second block (slice_index_or (L.view lists.old).lists set []) ≡ false }
-    ensures sound { AreSound geometry (L.view lists.new) histograms.new }
-    ensures step { profile_of geometry (L.view lists.new) histograms.new
-        ≡ after_reference (profile_of geometry (L.view lists.old) histograms.old) block }
+    ensures { Feeds geometry (L.view lists.old) histograms.old block (L.view lists.new)
+        histograms.new }
 {
     match lists.bring(set, block) {
         Touch::Behind(distance) => {

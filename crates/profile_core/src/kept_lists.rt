@@ -7,6 +7,7 @@ ghost use Rattle.profile_core.specs.internal.Moves.{is_front};
 use crate::long_lists::{DEEP, LongLists};
 use crate::plain_rows::PlainRows;
 use crate::recency::RecencyLists;
+use crate::set_lists::SetLists;
 use crate::slotted_rests::SlottedRests;
 use crate::sparse_rests::SparseRests;
 use crate::split_rows::SplitRows;
@@ -48,17 +49,13 @@ impl KeptLists {
         if depth >= DEEP {
             return Ok(KeptLists::Long(LongLists::new(alloc, sets, depth)?));
         }
-        if depth >= SLOTTED_FROM && depth <= SLOTTED_TO && sets <= MANY_SETS {
-            let rests = SlottedRests::new(alloc, sets, depth - 2)?;
-            let rows = SplitRows::new(alloc, rests, sets)?;
-            return Ok(KeptLists::InSlots(RecencyLists::new(alloc, rows, sets)?));
-        }
         let rows = PlainRows::new(alloc, sets, depth - 1)?;
         Ok(KeptLists::InRows(RecencyLists::new(alloc, rows, sets)?))
     }
 
-    /// Empty lists as `new` makes them, but for many sets with many ways each set takes the memory
-    /// of its list when it needs that: nothing is cleared for those that a trace doesn't reach.
+    /// Empty lists as `new` makes them, but with 12 to 16 ways, and with many sets and many ways,
+    /// each set takes the memory behind its second block when it needs that: nothing is cleared
+    /// for those that a trace doesn't reach.
     pub fn sparse(alloc: Global, sets: usize, depth: usize) -> Result<KeptLists, AllocError>
         requires some { 1 ≤ depth }
         requires filled { 1 ≤ sets }
@@ -66,6 +63,11 @@ impl KeptLists {
         ensures { IfOk result (λ r.
             lists_of r ≡ record { depth = depth; lists = replicate sets [] }) }
     {
+        if depth >= SLOTTED_FROM && depth <= SLOTTED_TO && sets <= MANY_SETS {
+            let rests = SlottedRests::new(alloc, sets, depth - 2)?;
+            let rows = SplitRows::new(alloc, rests, sets)?;
+            return Ok(KeptLists::InSlots(RecencyLists::new(alloc, rows, sets)?));
+        }
         if sets > MANY_SETS && depth >= MANY_WAYS && depth < DEEP {
             let rests = SparseRests::new(alloc, sets, depth - 2)?;
             let rows = SplitRows::new(alloc, rests, sets)?;

@@ -1,13 +1,11 @@
 //! A recency list for each set, the most recent block first, for lists that may be long: the first
 //! blocks of each stand in a row, and those behind them in a list that is not walked.
-ghost use Rattle.std.specs.Prelude.{◌≡◌, ◌*◌, ◌^◌, ◌<◌, ◌≤◌, [], ◌∷◌, true, false, length};
-ghost use Rattle.std.specs.Prelude.{replicate, sum_by, map, IfOk, IsTrue, ◌↔◌, slice_index};
-ghost use Rattle.std.specs.Prelude.{slice_index_or};
+ghost use Rattle.std.specs.Prelude.{◌≡◌, ◌*◌, ◌^◌, ◌<◌, ◌≤◌, [], false, length, replicate, sum_by};
+ghost use Rattle.std.specs.Prelude.{map, IfOk, slice_index_or};
 ghost use Rattle.deep_list.specs.Deep.{list_after_exchange};
-ghost use Rattle.profile_core.specs.internal.Moves.{is_in, is_front, is_second, touch_of};
-ghost use Rattle.profile_core.specs.internal.Moves.{rest_touch_of};
+ghost use Rattle.profile_core.specs.internal.Moves.{is_in, is_front, is_second, rest_touch_of};
 ghost use Rattle.profile_core.specs.internal.LongLists.{in_row_of, empty_deep};
-ghost use Rattle.profile_core.specs.internal.Slab.{lists_after_touch};
+ghost use Rattle.profile_core.specs.internal.Lists.{lists_after_touch};
 
 use crate::plain_rows::PlainRows;
 use crate::recency::{RecencyLists, Touch};
@@ -42,7 +40,7 @@ pub struct LongLists {
 
 impl Model for LongLists {
     ghost use Rattle.std.specs.Prelude.{◌+◌};
-    ghost use Rattle.profile_core.specs.internal.Slab.{Lists};
+    ghost use Rattle.profile_core.specs.internal.Lists.{Lists};
     ghost use Rattle.profile_core.specs.internal.LongLists.{whole_lists, AreSplit};
 
     ghost Value = { Lists };
@@ -69,76 +67,6 @@ impl LongLists {
         let far = far_lists(alloc, sets, beyond)?;
         Ok(LongLists { near, beyond, far })
     }
-
-    /// The front of a set's list, or 0 if the list is empty.
-    #[inline(always)]
-    pub fn front(&self, set: usize) -> u64
-        requires { set < length self.now.lists }
-        ensures { result ≡ slice_index (slice_index_or self.now.lists set []) 0 }
-    {
-        self.near.front(set)
-    }
-
-    /// Whether a set's list has a block.
-    #[inline(always)]
-    pub fn has_block(&self, set: usize) -> bool
-        requires { set < length self.now.lists }
-        ensures { IsTrue result ↔ (0 < length (slice_index_or self.now.lists set [])) }
-    {
-        self.near.has_block(set)
-    }
-
-    /// Whether a block is the second of a set's list.
-    #[inline(always)]
-    pub fn is_second(&self, set: usize, block: u64) -> bool
-        requires { set < length self.now.lists }
-        ensures { result ≡ is_second block (slice_index_or self.now.lists set []) }
-    {
-        self.near.is_second(set, block)
-    }
-
-    /// Brings the second block of a set's list to the front.
-    #[inline(always)]
-    pub fn bring_second(&mut self, set: usize, block: u64)
-        requires within { set < length self.old.lists }
-        requires behind { is_front block (slice_index_or self.old.lists set []) ≡ false }
-        requires second { is_second block (slice_index_or self.old.lists set []) ≡ true }
-        ensures { self.new ≡ lists_after_touch self.old set block }
-    {
-        self.near.bring_second(set, block);
-    }
-
-    /// Brings a block that is neither the front nor the second of a set's list to the front,
-    /// wherever it is.
-    #[inline(always)]
-    pub fn bring(&mut self, set: usize, block: u64) -> Touch
-        requires within { set < length self.old.lists }
-        requires behind { is_front block (slice_index_or self.old.lists set []) ≡ false }
-        requires further { is_second block (slice_index_or self.old.lists set []) ≡ false }
-        ensures found { result ≡ touch_of block (slice_index_or self.old.lists set []) }
-        ensures moved { self.new ≡ lists_after_touch self.old set block }
-    {
-        match bring_near(&mut self.near, set, block) {
-            InRow::Settled(touch) => touch,
-            InRow::Full(held, last) => exchange(&mut self.far[set], held, block, last),
-        }
-    }
-
-    /// Empties the lists.
-    pub fn clear(&mut self)
-        ensures { self.new ≡ record self.old { lists = replicate (length self.old.lists) [] } }
-    {
-        self.near.clear();
-        clear_all(&mut self.far);
-    }
-
-    /// How many blocks stand in the lists. It adds up the lengths of all sets.
-    pub fn held(&self) -> u64
-        ensures value { result ≡ sum_by length self.now.lists }
-        ensures at_most { result ≤ length self.now.lists * self.now.depth }
-    {
-        self.near.held() + held_by(&self.far)
-    }
 }
 
 impl SetLists for LongLists {
@@ -146,35 +74,39 @@ impl SetLists for LongLists {
 
     #[inline(always)]
     fn front(&self, set: usize) -> u64 {
-        self.front(set)
+        self.near.front(set)
     }
 
     #[inline(always)]
     fn has_block(&self, set: usize) -> bool {
-        self.has_block(set)
+        self.near.has_block(set)
     }
 
     #[inline(always)]
     fn is_second(&self, set: usize, block: u64) -> bool {
-        self.is_second(set, block)
+        self.near.is_second(set, block)
     }
 
     #[inline(always)]
     fn bring_second(&mut self, set: usize, block: u64) {
-        self.bring_second(set, block)
+        self.near.bring_second(set, block);
     }
 
     #[inline(always)]
     fn bring(&mut self, set: usize, block: u64) -> Touch {
-        self.bring(set, block)
+        match bring_near(&mut self.near, set, block) {
+            InRow::Settled(touch) => touch,
+            InRow::Full(held, last) => exchange(&mut self.far[set], held, block, last),
+        }
     }
 
     fn clear(&mut self) {
-        self.clear()
+        self.near.clear();
+        clear_all(&mut self.far);
     }
 
     fn held(&self) -> u64 {
-        self.held()
+        self.near.held() + held_by(&self.far)
     }
 }
 

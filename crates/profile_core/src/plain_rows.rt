@@ -14,7 +14,7 @@ use std::marker::Model;
 pub struct PlainRows {
     stride: usize,
     sets: usize,
-    slab: Vec<u64>,
+    numbers: Vec<u64>,
 }
 
 impl Model for PlainRows {
@@ -25,10 +25,10 @@ impl Model for PlainRows {
 
     ghost view = { λ r. record {
       stride = r.stride;
-      rows = rows_of r.sets (plain_row r.stride r.slab.items);
+      rows = rows_of r.sets (plain_row r.stride r.numbers.items);
     } };
 
-    ghost invariant = { λ r. IsPlain r.stride r.sets r.slab.items };
+    ghost invariant = { λ r. IsPlain r.stride r.sets r.numbers.items };
 }
 
 impl PlainRows {
@@ -40,7 +40,7 @@ impl PlainRows {
         Ok(PlainRows {
             stride,
             sets,
-            slab: vec![in alloc; 0; sets * stride]?,
+            numbers: vec![in alloc; 0; sets * stride]?,
         })
     }
 }
@@ -55,23 +55,23 @@ impl RowStore for PlainRows {
 
     #[inline(always)]
     fn first(&self, set: usize) -> u64 {
-        self.slab[set * self.stride]
+        self.numbers[set * self.stride]
     }
 
     #[inline(always)]
     fn last(&self, set: usize) -> u64 {
-        self.slab[set * self.stride + self.stride - 1]
+        self.numbers[set * self.stride + self.stride - 1]
     }
 
     #[inline(always)]
     fn put_first(&mut self, set: usize, number: u64) {
-        self.slab[set * self.stride] = number;
+        self.numbers[set * self.stride] = number;
     }
 
     #[inline(always)]
     fn bring(&mut self, set: usize, front: &mut u64, len: &mut u32, block: u64) -> Touch {
         let start = set * self.stride;
         let end = start + self.stride;
-        bring_in_row(front, &mut self.slab[start..end], len, block)
+        bring_in_row(front, &mut self.numbers[start..end], len, block)
     }
 }

@@ -47,10 +47,8 @@ impl Model for Profile {
 impl Profile {
     /// A profile of caches of `2^s` sets of 1 to `depth` lines of `2^b` bytes. It takes all its
     /// memory here: 8 bytes for each of `depth * 2^s` blocks, 4 and a quarter for each set, and 16
-    /// for each associativity and 8 more. With a depth of 12 to 16 and up to 4,096 sets it takes
-    /// 184 and a quarter for each set, of which 160 are not written before the set has three
-    /// blocks. With a depth of 256 or more it takes at most 21.6 bytes for each block. Where memory
-    /// is refused, nothing is kept.
+    /// for each associativity and 8 more. With a depth of 256 or more it takes at most 21.6 bytes
+    /// for each block. Where memory is refused, nothing is kept.
     pub fn new(alloc: Global, b: u64, s: u64, depth: u64) -> Result<Profile, AllocError>
         requires { IsGeometry (geometry_value s depth b) }
         ensures { IfOk result (λ profile. profile ≡ empty (geometry_value s depth b)) }
@@ -59,11 +57,11 @@ impl Profile {
         Profile::with_lists(alloc, b, s, depth, lists)
     }
 
-    /// A profile as `new` makes it, for traces that reach few of many sets. With more than 4,096
-    /// sets and a depth of 32 to 255 it takes 4 bytes more for each set, and a row, but clears only
-    /// 20 and a quarter for each set; the memory of a set is cleared when that has three blocks. A
-    /// sweep makes such profiles. Fed by itself, one reference after the other, such a profile
-    /// takes up to a third more time.
+    /// A profile as `new` makes it, to be fed batches: what a set needs for its third block and those
+    /// behind is cleared when it has three blocks. With a depth of 12 to 16 and up to 4,096 sets it
+    /// takes 184 and a quarter bytes for each set in all; with a depth of 32 to 255 and more sets 4
+    /// bytes more for each set than `new`, and a row. A sweep makes such profiles. Fed one
+    /// reference after the other, by itself, such a profile can take twice the time.
     pub fn new_sparse(alloc: Global, b: u64, s: u64, depth: u64) -> Result<Profile, AllocError>
         requires { IsGeometry (geometry_value s depth b) }
         ensures { IfOk result (λ profile. profile ≡ empty (geometry_value s depth b)) }

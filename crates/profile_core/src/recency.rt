@@ -1,13 +1,12 @@
 //! A recency list for each set, the most recent block first: all fronts in one array, the other
 //! blocks in rows.
 
-ghost use Rattle.std.specs.Prelude.{◌≡◌, ◌*◌, ◌^◌, ◌<◌, ◌≤◌, [], true, false, length};
-ghost use Rattle.std.specs.Prelude.{slice_index, MatchOption, ◌-◌, IsTrue, ◌↔◌};
-ghost use Rattle.std.specs.Prelude.{sum_by, replicate, IfOk, slice_index_or, ◌+◌};
+ghost use Rattle.std.specs.Prelude.{◌≡◌, ◌*◌, ◌^◌, ◌<◌, ◌≤◌, [], length, slice_index, MatchOption};
+ghost use Rattle.std.specs.Prelude.{◌-◌, replicate, IfOk, slice_index_or, ◌+◌};
 ghost use Rattle.cache_core.specs.internal.Touched.{Covers, ListsFilled};
-ghost use Rattle.profile_core.specs.internal.Moves.{is_front, is_second, touch_of};
+ghost use Rattle.profile_core.specs.internal.Moves.{is_second};
 ghost use Rattle.profile_core.specs.internal.Rows.{AreLong};
-ghost use Rattle.profile_core.specs.internal.Slab.{lists_after_touch};
+ghost use Rattle.profile_core.specs.internal.Lists.{lists_after_touch};
 
 use crate::rows::RowStore;
 use crate::set_lists::SetLists;
@@ -39,7 +38,7 @@ pub struct RecencyLists<R: RowStore> {
 
 impl<R: RowStore> Model for RecencyLists<R> {
     ghost use Rattle.std.specs.Prelude.{◌+◌};
-    ghost use Rattle.profile_core.specs.internal.Slab.{Lists, lists_in, IsListed};
+    ghost use Rattle.profile_core.specs.internal.Lists.{Lists, lists_in, IsListed};
 
     ghost Value = { Lists };
 
@@ -70,63 +69,6 @@ impl<R: RowStore> RecencyLists<R> {
         })
     }
 
-    /// The front of a set's list, or 0 if the list is empty.
-    #[inline(always)]
-    pub fn front(&self, set: usize) -> u64
-        requires { set < length self.now.lists }
-        ensures { result ≡ slice_index (slice_index_or self.now.lists set []) 0 }
-    {
-        self.fronts[set]
-    }
-
-    /// Whether a set's list has a block.
-    #[inline(always)]
-    pub fn has_block(&self, set: usize) -> bool
-        requires { set < length self.now.lists }
-        ensures { IsTrue result ↔ (0 < length (slice_index_or self.now.lists set [])) }
-    {
-        self.lens[set] != 0
-    }
-
-    /// Whether a block is the second of a set's list.
-    #[inline(always)]
-    pub fn is_second(&self, set: usize, block: u64) -> bool
-        requires { set < length self.now.lists }
-        ensures { result ≡ is_second block (slice_index_or self.now.lists set []) }
-    {
-        self.lens[set] > 1 && self.rows.first(set) == block
-    }
-
-    /// Brings the second block of a set's list to the front.
-    #[inline(always)]
-    pub fn bring_second(&mut self, set: usize, block: u64)
-        requires within { set < length self.old.lists }
-        requires behind { is_front block (slice_index_or self.old.lists set []) ≡ false }
-        requires second { is_second block (slice_index_or self.old.lists set []) ≡ true }
-        ensures { self.new ≡ lists_after_touch self.old set block }
-    {
-        let second = mem::replace(&mut self.fronts[set], block);
-        self.rows.put_first(set, second);
-    }
-
-    /// Brings a block that is neither the front nor the second of a set's list to the front,
-    /// wherever it is.
-    #[inline(always)]
-    pub fn bring(&mut self, set: usize, block: u64) -> Touch
-        requires within { set < length self.old.lists }
-        requires behind { is_front block (slice_index_or self.old.lists set []) ≡ false }
-        requires further { is_second block (slice_index_or self.old.lists set []) ≡ false }
-        ensures found { result ≡ touch_of block (slice_index_or self.old.lists set []) }
-        ensures moved { self.new ≡ lists_after_touch self.old set block }
-    {
-        if self.lens[set] == 0 {
-            self.begin(set, block);
-            return Touch::New(0);
-        }
-        let front = &mut self.fronts[set];
-        self.rows.bring(set, front, &mut self.lens[set], block)
-    }
-
     /// Begins a set's empty list with a block.
     #[inline(never)]
     fn begin(&mut self, set: usize, block: u64)
@@ -155,26 +97,6 @@ impl<R: RowStore> RecencyLists<R> {
             None
         }
     }
-
-    /// Empties the lists.
-    pub fn clear(&mut self)
-        ensures { self.new ≡ record self.old { lists = replicate (length self.old.lists) [] } }
-    {
-        blank(&mut self.fronts, &mut self.lens, &self.touched);
-        self.touched.clear();
-    }
-
-    /// How many blocks stand in the lists. It adds up the lengths of all sets.
-    pub fn held(&self) -> u64
-        ensures value { result ≡ sum_by length self.now.lists }
-        ensures at_most { result ≤ length self.now.lists * self.now.depth }
-    {
-        let mut total = 0;
-        for len in &self.lens {
-            total += u64::from(*len);
-        }
-        total
-    }
 }
 
 impl<R: RowStore> SetLists for RecencyLists<R> {
@@ -182,35 +104,46 @@ impl<R: RowStore> SetLists for RecencyLists<R> {
 
     #[inline(always)]
     fn front(&self, set: usize) -> u64 {
-        self.front(set)
+        self.fronts[set]
     }
 
     #[inline(always)]
     fn has_block(&self, set: usize) -> bool {
-        self.has_block(set)
+        self.lens[set] != 0
     }
 
     #[inline(always)]
     fn is_second(&self, set: usize, block: u64) -> bool {
-        self.is_second(set, block)
+        self.lens[set] > 1 && self.rows.first(set) == block
     }
 
     #[inline(always)]
     fn bring_second(&mut self, set: usize, block: u64) {
-        self.bring_second(set, block)
+        let second = mem::replace(&mut self.fronts[set], block);
+        self.rows.put_first(set, second);
     }
 
     #[inline(always)]
     fn bring(&mut self, set: usize, block: u64) -> Touch {
-        self.bring(set, block)
+        if self.lens[set] == 0 {
+            self.begin(set, block);
+            return Touch::New(0);
+        }
+        let front = &mut self.fronts[set];
+        self.rows.bring(set, front, &mut self.lens[set], block)
     }
 
     fn clear(&mut self) {
-        self.clear()
+        blank(&mut self.fronts, &mut self.lens, &self.touched);
+        self.touched.clear();
     }
 
     fn held(&self) -> u64 {
-        self.held()
+        let mut total = 0;
+        for len in &self.lens {
+            total += u64::from(*len);
+        }
+        total
     }
 }
 

@@ -4,7 +4,7 @@ ghost use Rattle.std.specs.Prelude.{◌≡◌, ◌+◌, ◌-◌, ◌^◌, ◌<�
 ghost use Rattle.std.specs.List.{remove};
 ghost use Rattle.profile_core.specs.internal.Moves.{index_of, is_front, is_second, touch_of};
 ghost use Rattle.profile_core.specs.internal.Moves.{shifted_of, rest_touch_of};
-ghost use Rattle.profile_core.specs.internal.Slab.{IsRow, IsBroughtInRow};
+ghost use Rattle.profile_core.specs.internal.Lists.{IsRow, IsBroughtInRow};
 
 use crate::recency::Touch;
 use std::mem;

@@ -1,7 +1,7 @@
 //! A row of numbers for each set, in whatever way the rows are stored.
 ghost use Rattle.std.specs.Prelude.{◌≡◌, ◌-◌, ◌<◌, false, length, slice_index, slice_set};
 ghost use Rattle.profile_core.specs.internal.Moves.{is_front, is_second, touch_of};
-ghost use Rattle.profile_core.specs.internal.Slab.{IsRow, IsBroughtInRow};
+ghost use Rattle.profile_core.specs.internal.Lists.{IsRow, IsBroughtInRow};
 ghost use Rattle.profile_core.specs.internal.Rows.{RowsValue, row_for, with_row, list_in_row};
 
 use crate::recency::Touch;

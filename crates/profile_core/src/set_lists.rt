@@ -2,7 +2,7 @@
 ghost use Rattle.std.specs.Prelude.{◌≡◌, ◌*◌, ◌<◌, ◌≤◌, [], true, false, length, replicate, sum_by};
 ghost use Rattle.std.specs.Prelude.{slice_index, slice_index_or, IsTrue, ◌↔◌};
 ghost use Rattle.profile_core.specs.internal.Moves.{is_front, is_second, touch_of};
-ghost use Rattle.profile_core.specs.internal.Slab.{Lists, lists_after_touch};
+ghost use Rattle.profile_core.specs.internal.Lists.{Lists, lists_after_touch};
 
 use crate::recency::Touch;
 

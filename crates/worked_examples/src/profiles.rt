@@ -32,6 +32,14 @@ fn new_profile(alloc: Global, geometry: Geometry) -> Result<Profile, AllocError>
     Profile::new(alloc, geometry.b(), geometry.s(), geometry.e())
 }
 
+/// A profile with nothing fed, as a sweep makes it.
+fn sparse_profile(alloc: Global, geometry: Geometry) -> Result<Profile, AllocError>
+    ensures geometry { IfOk result (λ profile. profile.geometry ≡ geometry) }
+    ensures unfed { IfOk result (λ profile. fed_of profile ≡ 0) }
+{
+    Profile::new_sparse(alloc, geometry.b(), geometry.s(), geometry.e())
+}
+
 /// A profile of one set of blocks of 16 bytes.
 fn one_set(alloc: Global, depth: u64) -> Result<Profile, Fail>
     ensures geometry { IfOk result (λ profile. profile.geometry.e ≡ depth) }
@@ -236,11 +244,13 @@ fn expect_simulations(
     rt: &impl Abort,
     alloc: Global,
     geometry: Geometry,
+    mut profile: Profile,
     addrs: &[u64],
 ) -> Result<(), Fail>
+    requires same { profile.geometry ≡ geometry }
+    requires unfed { fed_of profile ≡ 0 }
     requires { length addrs.now ≤ 2 ^ 40 }
 {
-    let mut profile = new_profile(alloc, geometry)?;
     feed_all(&mut profile, addrs);
     let access = Access::Read;
     let mut refs = Vec::new(alloc);
@@ -264,9 +274,12 @@ fn expect_simulations(
 fn every_associativity_is_a_simulation(rt: HostRuntime) -> Result<(), Fail> {
     for (s, e, b) in [(0, 5, 4), (1, 3, 4), (2, 2, 3), (0, 12, 0), (3, 1, 5)] {
         let geometry = Geometry::new(s, e, b).ok_or("no geometry")?;
-        expect_simulations(&rt, rt.alloc(), geometry, &SHORT)?;
-        expect_simulations(&rt, rt.alloc(), geometry, &CYCLIC)?;
-        expect_simulations(&rt, rt.alloc(), geometry, &[u64::MAX, 0, u64::MAX])?;
+        for addrs in [&SHORT[..], &CYCLIC[..], &[u64::MAX, 0, u64::MAX][..]] {
+            let profile = new_profile(rt.alloc(), geometry)?;
+            expect_simulations(&rt, rt.alloc(), geometry, profile, addrs)?;
+            let sparse = sparse_profile(rt.alloc(), geometry)?;
+            expect_simulations(&rt, rt.alloc(), geometry, sparse, addrs)?;
+        }
     }
     Ok(())
 }

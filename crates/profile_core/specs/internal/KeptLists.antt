@@ -2,7 +2,7 @@
 use Rattle.profile_core.specs.declared.kept_lists.KeptLists.{KeptLists}
 use Rattle.profile_core.specs.declared.kept_lists.KeptLists.TheVariants.{InRows, InSlots}
 use Rattle.profile_core.specs.declared.kept_lists.KeptLists.TheVariants.{InSparseRows, Long}
-use Rattle.profile_core.specs.internal.Slab.{Lists}
+use Rattle.profile_core.specs.internal.Lists.{Lists}
 
 -- the lists that a profile keeps
 abbrev pub lists_of : KeptLists → Lists

@@ -5,7 +5,7 @@ use Rattle.deep_list.specs.Deep.{Deep, IsOnce}
 use Rattle.profile_core.specs.declared.long_lists.InRow.{InRow}
 use Rattle.profile_core.specs.declared.long_lists.InRow.TheVariants.{Settled, Full}
 use Rattle.profile_core.specs.internal.Moves.{is_in, touch_of}
-use Rattle.profile_core.specs.internal.Slab.{Lists}
+use Rattle.profile_core.specs.internal.Lists.{Lists}
 
 -- each list and what stands behind it
 abbrev pub whole_lists : List (List ℕ) → List Deep → List (List ℕ)

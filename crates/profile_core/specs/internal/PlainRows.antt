@@ -3,9 +3,9 @@ use Rattle.std.specs.Prelude.{ℕ, ◌≡◌, ◌≤◌, ◌*◌, ◌^◌, List,
 
 -- the row of set k
 abbrev pub plain_row : ℕ → List ℕ → ℕ → List ℕ
-plain_row stride slab k = take stride (drop (k * stride) slab)
+plain_row stride numbers k = take stride (drop (k * stride) numbers)
 
 -- the array has the rows of so many sets and no more
-pub record IsPlain (stride sets : ℕ) (slab : List ℕ) : Type 0 where
-  pub slab_len : length slab ≡ sets * stride
+pub record IsPlain (stride sets : ℕ) (numbers : List ℕ) : Type 0 where
+  pub numbers_len : length numbers ≡ sets * stride
   pub small : sets * stride ≤ 2 ^ 22

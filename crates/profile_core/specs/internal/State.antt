@@ -7,7 +7,7 @@ use Rattle.trace_core.specs.declared.events.Event.TheVariants as event
 use Rattle.cache_core.specs.declared.outcome.Counts.{Counts}
 use Rattle.cache_core.specs.Geometry.{GeometryValue, block_of, set_of_block}
 use Rattle.profile_core.specs.declared.histograms.Histograms.{Histograms}
-use Rattle.profile_core.specs.internal.Slab.{Lists}
+use Rattle.profile_core.specs.internal.Lists.{Lists}
 use Rattle.profile_core.specs.internal.Moves.{index_of, is_in, is_front, move_to_front}
 
 -- for each set a list of at most geometry.e blocks, the most recent first; how many references
@@ -151,3 +151,15 @@ profile_of g lists h = record {
 -- lists and histograms that stand for a profile
 abbrev pub AreSound : GeometryValue → Lists → Histograms → Type 0
 AreSound g lists h = IsSound g lists h.behind.items h.misses_by_occupancy.items h.probes
+
+-- lists and histograms that may be fed one reference more: to block x of set k, in whose list it is
+-- not the front
+pub record MayBeFed (g : GeometryValue) (lists : Lists) (h : Histograms) (k x : ℕ) : Type 0 where
+  pub sound : AreSound g lists h
+  pub next : IsNext (profile_of g lists h) k x
+
+-- what lists and histograms are once they were fed a reference to block x
+pub record Feeds (g : GeometryValue) (lists : Lists) (h : Histograms) (x : ℕ) (lists' : Lists)
+    (h' : Histograms) : Type 0 where
+  pub sound : AreSound g lists' h'
+  pub step : profile_of g lists' h' ≡ after_reference (profile_of g lists h) x

@@ -1,5 +1,5 @@
 -- A rest that gets another block in front, and lacks the one that was there, or its last.
-use Rattle.std.proofs.Common.{◌≡◌, ◌∙◌, ◌+◌, ◌-◌, ◌∷◌, ◌++◌, suc, length, take, drop, set, ap, arith}
+use Rattle.std.proofs.Common.{◌≡◌, ◌∙◌, ◌+◌, ◌-◌, ◌++◌, suc, take, drop, set, ap, arith}
 use Rattle.profile_core.proofs.Bringing.{IsShifted}
 use Rattle.profile_core.proofs.RestBringing.{rest_found, rest_grown, rest_full, found_small}
 use Rattle.profile_core.proofs.row.bring_behind.Goals as goal
@@ -33,8 +33,3 @@ returns-then-held-rest-clause-moved c =
     (c.args.len.now - 2) c.in-Out.last)) next
     ∙ rest_grown (shifted at) c.requires.other c.in-Out.last (omega (arith, c.if-held-rest.true))
     c.in-Out.ensures.shifted
-
-pub returns-else-held-rest-clause-moved : goal.returns-else-held-rest-clause-moved
-returns-else-held-rest-clause-moved c =
-    rest_full (shifted (goal.at.returns-else-held-rest-clause-moved c).After-shift_past)
-    c.requires.other (omega (arith, c.if-held-rest.false))

@@ -1,6 +1,6 @@
 -- A row whose list gets a block in front that was behind its second, or new.
 use Rattle.std.proofs.Common.{◌≡◌, ◌∙◌, ◌+◌, ◌-◌, ◌∷◌, ◌++◌, suc, take, drop, set, ap, subst, arith}
-use Rattle.profile_core.specs.internal.Slab.{IsBroughtInRow}
+use Rattle.profile_core.specs.internal.Lists.{IsBroughtInRow}
 use Rattle.profile_core.proofs.Bringing.{IsShifted, brought_found, brought_grown}
 use Rattle.profile_core.proofs.row.bring_in_row.Goals as goal
 use Rattle.profile_core.proofs.row.bring_in_row.Goals.{After-shift_past}

@@ -2,24 +2,10 @@
 use Rattle.std.proofs.Common.{◌≡◌, ◌+◌, ◌-◌, ◌*◌, ◌≤◌, ◌^◌, ◌∙◌, ℕ, List, []}
 use Rattle.std.proofs.Common.{ap, arith, subst}
 use Rattle.std.specs.Prelude.{replicate}
-use Rattle.profile_core.specs.internal.Slab.{Lists}
+use Rattle.profile_core.specs.internal.Lists.{Lists}
 use Rattle.profile_core.specs.internal.LongLists.{whole_lists}
-use Rattle.profile_core.proofs.LongListLemmas.{depth_small, split_new, new_lists}
+use Rattle.profile_core.proofs.LongListLemmas.{new_lists}
 use Rattle.profile_core.proofs.long_lists.LongLists.new.Goals as goal
-
-small : (sets depth : ℕ) → 256 ≤ depth → sets * depth ≤ 2 ^ 22 → sets * (64 + (depth - 64)) ≤ 2 ^ 22
-small sets depth lt le = let P : ℕ → Type 0 = λ n. sets * n ≤ 2 ^ 22 in
-    let e : depth ≡ 64 + (depth - 64) = omega arith in subst P e le
-
-pub far_lists-requires-clause-small : goal.far_lists-requires-clause-small
-far_lists-requires-clause-small c =
-    omega (arith, depth_small c.args.sets c.args.depth c.requires.filled c.requires.small)
-
-pub invariant_of-result : goal.invariant_of-result
-invariant_of-result c =
-    split_new c.in_ok-near.near c.args.sets (c.args.depth - 64) c.in_ok-far.far.items
-    (c.in_ok-near.ensures {u = tt}) (c.in_ok-far.ensures {u = tt})
-    (small c.args.sets c.args.depth c.requires.deep c.requires.small)
 
 pub returns : goal.returns
 returns c =

@@ -1,27 +1,20 @@
 -- The first number of a row.
 use Rattle.std.proofs.Common.{arith}
-use Rattle.profile_core.proofs.PlainRowLemmas.{RowIn, ends, slab_small, entry_read}
+use Rattle.profile_core.proofs.PlainRowLemmas.{known, ends, numbers_small, entry_read}
 use Rattle.profile_core.proofs.RowsOf.{stride_is}
 use Rattle.profile_core.proofs.plain_rows.PlainRowsRowStore.first.Goals as goal
-use Rattle.profile_core.proofs.plain_rows.PlainRowsRowStore.first.Goals.{After-self}
-
-row : (c : After-self) → RowIn c.self.inside c.args.set c.args.self.now
-row c = record {
-  sound = c.self.invariant;
-  row = record { seen = c.self.view_is; is_set = c.requires.within };
-}
 
 pub overflow_mul-set : goal.overflow_mul-set
 overflow_mul-set c =
-    let r = row (goal.at.overflow_mul-set c).After-self in
-    omega (arith, ends r, slab_small r)
+    let r = known c.self.invariant c.self.view_is c.requires.within in
+    omega (arith, ends r, numbers_small r)
 
 pub index-requires : goal.index-requires
 index-requires c =
-    let r = row (goal.at.index-requires c).After-self in
-    omega (arith, ends r, c.requires.some, stride_is r.row, c.self.inside.slab.ok.0)
+    let r = known c.self.invariant c.self.view_is c.requires.within in
+    omega (arith, ends r, c.requires.some, stride_is r.row, c.self.inside.numbers.ok.0)
 
 pub returns : goal.returns
 returns c =
-    let r = row (goal.at.returns c).After-self in
+    let r = known c.self.invariant c.self.view_is c.requires.within in
     entry_read r (omega (arith, c.requires.some, stride_is r.row)) (omega arith) c.index.ensures

@@ -1,35 +1,28 @@
 -- The last number of a row.
 use Rattle.std.proofs.Common.{◌-◌, ◌∙◌, get_or, ap, arith}
 use Rattle.profile_core.specs.internal.Rows.{row_for}
-use Rattle.profile_core.proofs.PlainRowLemmas.{RowIn, ends, slab_small, entry_read}
+use Rattle.profile_core.proofs.PlainRowLemmas.{known, ends, numbers_small, entry_read}
 use Rattle.profile_core.proofs.RowsOf.{stride_is}
 use Rattle.profile_core.proofs.plain_rows.PlainRowsRowStore.last.Goals as goal
-use Rattle.profile_core.proofs.plain_rows.PlainRowsRowStore.last.Goals.{After-self}
-
-row : (c : After-self) → RowIn c.self.inside c.args.set c.args.self.now
-row c = record {
-  sound = c.self.invariant;
-  row = record { seen = c.self.view_is; is_set = c.requires.within };
-}
 
 pub overflow_mul-set : goal.overflow_mul-set
 overflow_mul-set c =
-    let r = row (goal.at.overflow_mul-set c).After-self in
-    omega (arith, ends r, slab_small r)
+    let r = known c.self.invariant c.self.view_is c.requires.within in
+    omega (arith, ends r, numbers_small r)
 
 pub overflow_add-set : goal.overflow_add-set
 overflow_add-set c =
-    let r = row (goal.at.overflow_add-set c).After-self in
-    omega (arith, ends r, slab_small r)
+    let r = known c.self.invariant c.self.view_is c.requires.within in
+    omega (arith, ends r, numbers_small r)
 
 pub index-requires : goal.index-requires
 index-requires c =
-    let r = row (goal.at.index-requires c).After-self in
-    omega (arith, ends r, c.requires.some, stride_is r.row, c.self.inside.slab.ok.0)
+    let r = known c.self.invariant c.self.view_is c.requires.within in
+    omega (arith, ends r, c.requires.some, stride_is r.row, c.self.inside.numbers.ok.0)
 
 pub returns : goal.returns
 returns c =
-    let r = row (goal.at.returns c).After-self in
+    let r = known c.self.invariant c.self.view_is c.requires.within in
     let some = c.requires.some in
     entry_read r (omega (arith, some, stride_is r.row)) (omega (arith, some, stride_is r.row))
     c.index.ensures

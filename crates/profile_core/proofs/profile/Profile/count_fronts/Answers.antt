@@ -4,6 +4,3 @@ use Rattle.profile_core.proofs.profile.Profile.count_fronts.Goals as goal
 
 pub invariant_of-self : goal.invariant_of-self
 invariant_of-self c = counted_sound c.self.invariant c.self.view_is c.args.count c.requires
-
-pub returns : goal.returns
-returns c = counted_after c.self.invariant c.self.view_is c.args.count

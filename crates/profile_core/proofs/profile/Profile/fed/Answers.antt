@@ -14,9 +14,6 @@ all_fed c = omega (
   ap (λ v. sum v.misses_by_occupancy) c.self.view_is,
 )
 
-pub returns-clause-value : goal.returns-clause-value
-returns-clause-value c = all_fed c
-
 pub returns-clause-trace : goal.returns-clause-trace
 returns-clause-trace c = λ es h. all_fed (goal.at.returns-clause-trace c).After-total ∙
     fed_is es c.args.self.now h

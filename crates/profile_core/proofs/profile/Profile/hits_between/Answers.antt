@@ -71,14 +71,3 @@ returns-then-from-eq0 c =
     ap (λ k. sum (take (c.args.to - k) (drop k c.args.self.now.distances))) c.if-from-eq0.true
     ∙ ap (λ k. sum (take k c.args.self.now.distances)) to_0 in
     omega (arith, split (goal.at.returns-then-from-eq0 c).After-total, from_0)
-
-pub returns-else-from-eq0 : goal.returns-else-from-eq0
-returns-else-from-eq0 c =
-    let is = distances (goal.at.returns-else-from-eq0 c).After-self in
-    let part = ap (λ ns. sum (take (c.args.to - c.args.from) (drop c.args.from ns)))
-    c.deref-else-from-eq0.ensures.value in
-    c.total-else-from-eq0.ensures ∙ part
-    ∙ ap (λ ns. sum (take (c.args.to - c.args.from) ns))
-    (sym (drop-later c.self.inside.histograms.behind.items _ c.args.from
-    (omega (arith, c.if-from-eq0.false))))
-    ∙ ap (λ ds. sum (take (c.args.to - c.args.from) (drop c.args.from ds))) is

@@ -2,22 +2,8 @@
 use Rattle.std.proofs.Common.{◌≡◌, ◌+◌, ◌-◌, ◌<◌, ◌∙◌, ℕ, zero, suc, List, [], ◌∷◌, get_or}
 use Rattle.std.proofs.Common.{sym, ap, arith, get_or-take}
 use Rattle.profile_core.specs.internal.Rows.{row_for}
-use Rattle.profile_core.proofs.SlabLemmas.{ListIn, within, among_rows, list_is, list_size, len_read}
+use Rattle.profile_core.proofs.ListLemmas.{known, depth_is, within, among_rows, list_is, list_size, len_read}
 use Rattle.profile_core.proofs.recency.RecencyLists.last_of_full.Goals as goal
-use Rattle.profile_core.proofs.recency.RecencyLists.last_of_full.Goals.{After-self}
-use Rattle.profile_core.proofs.recency.RecencyLists.last_of_full.Given.{Over}
-
-list : (g : Over) (c : After-self g) → ListIn g.R.RowStore.view c.self.inside c.args.set
-    c.args.self.now.lists
-list g c = record {
-  sound = c.self.invariant;
-  lists_are = ap (λ v. v.lists) c.self.view_is;
-  is_set = c.requires.within;
-}
-
-depth : (g : Over) (c : After-self g) →
-    (g.R.RowStore.view c.self.inside.rows).stride + 1 ≡ c.args.self.now.depth
-depth g c = ap (λ v. v.depth) c.self.view_is
 
 last_is : (n front : ℕ) (row : List ℕ) → 0 < n →
     get_or (front ∷ row) n 0 ≡ get_or row (n - 1) 0
@@ -27,29 +13,24 @@ last_is (suc n) front row some = ap (λ j. get_or row j 0) (omega arith)
 pub index-requires : goal.index-requires
 index-requires g c = omega (
   arith,
-  within (list g (goal.at.index-requires g c).After-self),
+  within (known c.self.invariant c.self.view_is c.requires.within),
   c.self.inside.lens.ok.0,
 )
 
 pub last-requires-clause-within : goal.last-requires-clause-within
 last-requires-clause-within g c =
-    among_rows (list g (goal.at.last-requires-clause-within g c).After-self)
-
-pub last-requires-clause-some : goal.last-requires-clause-some
-last-requires-clause-some g c =
-    omega (arith, depth g (goal.at.last-requires-clause-some g c).After-self, c.requires.two)
+    among_rows (known c.self.invariant c.self.view_is c.requires.within)
 
 pub returns-then-index-stride : goal.returns-then-index-stride
 returns-then-index-stride g c =
-    let at = (goal.at.returns-then-index-stride g c).After-self in
-    let l = list g at in
+    let l = known c.self.invariant c.self.view_is c.requires.within in
     let n : ℕ = (g.R.RowStore.view c.self.inside.rows).stride in
     let k : ℕ = c.args.set in
     let list : List ℕ = get_or c.args.self.now.lists k [] in
     let len : ℕ = get_or c.self.inside.lens.items k 0 in
     let front : ℕ = get_or c.self.inside.fronts.items k 0 in
     let row : List ℕ = row_for (g.R.RowStore.view c.self.inside.rows) k in
-    let some : 0 < n = omega (arith, depth g at, c.requires.two) in
+    let some : 0 < n = omega (arith, depth_is c.self.view_is, c.requires.two) in
     let full : len ≡ n + 1 = omega (
       arith,
       len_read l c.index.ensures,
@@ -57,22 +38,21 @@ returns-then-index-stride g c =
       c.stride.ensures,
       c.self.invariant.short k,
     ) in (
-      omega (arith, list_size l, full, depth g at),
+      omega (arith, list_size l, full, depth_is c.self.view_is),
       c.last.ensures ∙ sym (last_is n front row some)
           ∙ sym (get_or-take len (front ∷ row) n 0 (omega (arith, full))) ∙
           ap (λ xs. get_or xs n 0) (sym (list_is l))
-          ∙ ap (λ j. get_or list j 0) (omega (arith, depth g at)),
+          ∙ ap (λ j. get_or list j 0) (omega (arith, depth_is c.self.view_is)),
     )
 
 pub returns-else-index-stride : goal.returns-else-index-stride
 returns-else-index-stride g c =
-    let at = (goal.at.returns-else-index-stride g c).After-self in
-    let l = list g at in
+    let l = known c.self.invariant c.self.view_is c.requires.within in
     omega (
       arith,
       list_size l,
       len_read l c.index.ensures,
       c.if-index-stride.false,
       c.stride.ensures,
-      depth g at,
+      depth_is c.self.view_is,
     )

@@ -3,7 +3,7 @@ use Rattle.std.proofs.Common.{◌≡◌, ◌∙◌, ◌-◌, ◌∷◌, ℕ, Lis
 use Rattle.std.proofs.Common.{sym, vec_capacity}
 use Rattle.std.specs.List.{remove}
 use Rattle.std.specs.Vec.{with_items}
-use Rattle.std.proofs.lemmas.List.{get_or_read, with_items_is, length-set}
+use Rattle.std.proofs.lemmas.List.{get_or_read, with_items_is}
 use Rattle.profile_core.specs.declared.slotted_rests.Slots.{Slots}
 use Rattle.profile_core.specs.internal.Moves.{index_of, rest_touch_of}
 use Rattle.profile_core.specs.internal.Rows.{rows_of, row_for, with_row}

@@ -1,5 +1,5 @@
 -- The last number of a rest.
-use Rattle.std.proofs.Common.{◌≡◌, ◌-◌, ◌<◌, ◌∙◌, ℕ, get_or, ap, arith, sym, subst}
+use Rattle.std.proofs.Common.{◌≡◌, ◌-◌, ◌∙◌, get_or, ap, arith, sym, subst}
 use Rattle.std.proofs.lemmas.List.{get_or_read}
 use Rattle.profile_core.specs.internal.SlottedRests.{no_slots, slots_at}
 use Rattle.profile_core.specs.internal.Rows.{row_for}

@@ -6,8 +6,8 @@ use Rattle.std.specs.Vec.{with_items}
 use borrow.Rule.Slice.PartMut.{put_mid, same_len_mid}
 use Rattle.std.proofs.lemmas.List.{with_items_is}
 use Rattle.profile_core.specs.internal.Moves.{index_of, rest_touch_of}
-use Rattle.profile_core.specs.internal.Rows.{rows_of, row_for, with_row}
-use Rattle.profile_core.specs.internal.SparseRests.{sparse_rest, IsSparse}
+use Rattle.profile_core.specs.internal.Rows.{row_for, with_row}
+use Rattle.profile_core.specs.internal.SparseRests.{sparse_rest}
 use Rattle.profile_core.proofs.RowsOf.{HasRow, within, stride_is, row_is, put_is}
 use Rattle.profile_core.proofs.SparseRestLemmas.{RestIn, IsReady, ready_rests, rest_ends, rest_long}
 use Rattle.profile_core.proofs.SparseRestLemmas.{IsWritten, written_sound, written_rests}
@@ -125,13 +125,6 @@ put c ready own long =
       sound = written_sound ready.sound c.args.set ready.own new long;
       seen = written_rests ready.sound c.args.set ready.own new long own;
     }))
-
-pub invariant_of-self : goal.invariant_of-self
-invariant_of-self c =
-    let at = goal.at.invariant_of-self c in
-    let b = at.After-deref_mut-2 in
-    (put at.After-bring_behind (ready b) (own b)
-    (long at.After-bring_behind (lent b) (size b))).sound
 
 pub returns-clause-moved : goal.returns-clause-moved
 returns-clause-moved c =

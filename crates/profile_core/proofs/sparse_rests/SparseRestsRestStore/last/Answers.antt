@@ -4,7 +4,7 @@ use Rattle.std.proofs.lemmas.List.{get_or_read}
 use Rattle.profile_core.specs.internal.Rows.{row_for}
 use Rattle.profile_core.proofs.RowParts.{part_read}
 use Rattle.profile_core.proofs.RowsOf.{within, stride_is, row_is}
-use Rattle.profile_core.proofs.SparseRestLemmas.{RestIn, rest_ends, numbers_small}
+use Rattle.profile_core.proofs.SparseRestLemmas.{RestIn, rest_ends}
 use Rattle.profile_core.proofs.sparse_rests.SparseRestsRestStore.last.Goals as goal
 use Rattle.profile_core.proofs.sparse_rests.SparseRestsRestStore.last.Goals.{After-self, After-index}
 

@@ -9,10 +9,6 @@ use Rattle.profile_core.proofs.split_rows.SplitRows.new.Given.{Over}
 none : (g : Over) (c : In_ok-vec g) → c.in_ok-vec.field-0.items ≡ replicate c.args.sets 0
 none g c = c.in_ok-vec.ensures.items_if_clones_equal (λ y e. e)
 
-pub invariant_of-result : goal.invariant_of-result
-invariant_of-result g c = new_split c.args.sets (none g (goal.at.invariant_of-result g c).In_ok-vec)
-    c.requires.blank c.requires.some c.requires.small
-
 pub returns : goal.returns
 returns g c =
     new_rows c.args.sets (none g (goal.at.returns g c).In_ok-vec) c.requires.blank

@@ -2,25 +2,16 @@
 use Rattle.std.proofs.Common.{◌≡◌, ◌-◌, ◌∙◌, ◌∷◌, suc, List, ℕ, get_or, ap, arith, sym}
 use Rattle.profile_core.specs.internal.Rows.{row_for}
 use Rattle.profile_core.proofs.RowsOf.{stride_is, row_is}
-use Rattle.profile_core.proofs.SplitRowLemmas.{HasSplit, is_rest}
+use Rattle.profile_core.proofs.SplitRowLemmas.{known, is_rest}
 use Rattle.profile_core.proofs.split_rows.SplitRowsRowStore.last.Goals as goal
-use Rattle.profile_core.proofs.split_rows.SplitRowsRowStore.last.Goals.{After-self}
-use Rattle.profile_core.proofs.split_rows.SplitRowsRowStore.last.Given.{Over}
-
-split : (g : Over) (c : After-self g) → HasSplit c.args.set c.self.inside.firsts.items
-    (g.R.RestStore.view c.self.inside.rests) c.args.self.now
-split g c = record {
-  sound = c.self.invariant;
-  row = record { seen = c.self.view_is; is_set = c.requires.within };
-}
 
 pub last-requires-clause-within : goal.last-requires-clause-within
 last-requires-clause-within g c =
-    is_rest (split g (goal.at.last-requires-clause-within g c).After-self)
+    is_rest (known c.self.invariant c.self.view_is c.requires.within)
 
 pub returns : goal.returns
 returns g c =
-    let s = split g (goal.at.returns g c).After-self in
+    let s = known c.self.invariant c.self.view_is c.requires.within in
     let n = (g.R.RestStore.view c.self.inside.rests).stride in
     let rest = row_for (g.R.RestStore.view c.self.inside.rests) c.args.set in
     let last : suc (n - 1) ≡ c.args.self.now.stride - 1 =
