@@ -130,6 +130,18 @@ class Callers(unittest.TestCase):
         for page, text in printed:
             self.assertTrue(any(text in file for file in code), f"{page} prints another caller")
 
+    def test_printed_invariants(self):
+        """A page prints the invariants of the loops of its callers, each as a whole file."""
+        callers, printed = base.TOP / "crates/callers", 0
+        for page in self.PAGES:
+            wanted = []
+            for name in re.findall(r"\bfn (\w+)", "".join(self.blocks(page, "rust"))):
+                for path in callers.glob(f"proofs/*/{name}/Invariants.antt"):
+                    wanted.append(f"-- {path.relative_to(callers)}\n{path.read_text()}")
+            self.assertEqual(self.blocks(page, "antt"), wanted, page)
+            printed += len(wanted)
+        self.assertGreaterEqual(printed, 2)
+
     def test_quoted_clauses(self):
         """Each is one of the function that it stands under."""
         quoted, contracts = 0, base.script("ledger").Contracts().of

@@ -22,7 +22,7 @@ pub record CommandValue : Type 0 where
   pub job : Job
   pub trace : Option Text
 
--- the same of a `Command` of `parse`
+-- the value of a `Command` of `parse`
 abbrev pub command_value : Command → CommandValue
 command_value c = record { job = c.job; trace = option_map string_bytes c.trace }
 
@@ -33,7 +33,7 @@ job_named name rows = if bytes_eq name (codes "csim") then Some (csim_of rows)
     else (if bytes_eq name (codes "log") then Some (log_of rows)
     else (if bytes_eq name (codes "sweep") then Some (sweep_of rows) else None)))
 
--- what was read, with the file of `-t`
+-- the job that was read, with the file of `-t`
 abbrev pub with_trace : List Row → Result Job JobFault → Result CommandValue JobFault
 with_trace rows read = and_then read
     (λ j. Ok (record { job = j; trace = first_of file_option.id rows }))
@@ -47,7 +47,7 @@ abbrev pub command_of : List Text → Option (Result CommandValue JobFault)
 command_of arguments = option_and_then chosen_command
     (subcommand_of cachesim_app (respelling_of arguments))
 
--- what `parse` returned, but for lack of memory and what clap refuses
+-- the result of `parse`; none for lack of memory or if clap refused the arguments
 abbrev pub command_result : Result Command WordsFault → Option (Result CommandValue JobFault)
 command_result (Ok c) = Some (Ok (command_value c))
 command_result (Err e) = option_map Err (job_fault_of e)
@@ -57,7 +57,7 @@ abbrev pub usage_of : WordsFault → Option Bool
 usage_of (fault.Usage text help) = Some help
 usage_of _ = None
 
--- the same of what `parse` returned
+-- if `parse` returned such a refusal, whether it says that help was asked for
 abbrev pub refusal_of : Result Command WordsFault → Option Bool
 refusal_of (Ok c) = None
 refusal_of (Err e) = usage_of e

@@ -1,4 +1,4 @@
--- What the arguments after `csim` say.
+-- The meaning of the arguments after `csim`.
 use Rattle.std.specs.Prelude.{List, Result, Ok, ok_or}
 use Rattle.clap.specs.Words.{Row}
 use Rattle.cache_core.specs.Geometry.{geometry_of}

@@ -1,4 +1,4 @@
--- What the arguments after `din` and `log` say.
+-- The meaning of the arguments after `din` and `log`.
 use Rattle.std.specs.Prelude.{◌≡◌, ◌↔◌, ◌^◌, ℕ, Bool, List, Option, Some, None, Result, Ok, codes}
 use Rattle.std.specs.Prelude.{◌||◌, if◌then◌else◌, is_some, ok_or, option_and_then, option_map}
 use Rattle.std.specs.Prelude.{unwrap_or, ◌*◌, ◌==◌, IfSome}
@@ -111,7 +111,7 @@ cache_of cache r = if is_given r
     then and_then (ok_or (spec_asked r) (incomplete cache)) (λ spec. Ok (Some spec))
     else Ok None
 
--- The plan of what was given of the four caches, or the first fault: caches that lack size or
+-- The plan of the values given for the four caches, or the first fault: caches that lack size or
 -- bsize, then the plan's.
 abbrev pub plan_given : CacheReadings → Result PlannedCaches JobFault
 plan_given caches =
@@ -121,7 +121,7 @@ plan_given caches =
     and_then (cache_of L2U caches.second) (λ second.
     result_map_both (λ p. p) plan (plan_of (record { i = i; d = d; u = u }) second)))))
 
--- what was given of the first-level instruction, data and unified cache, and of the second level's
+-- the values given for the first-level instruction, data and unified cache, and the second level's
 abbrev pub caches_given : List Row → Result CacheReadings JobFault
 caches_given rows =
     and_then (reading_of L1I rows) (λ i.
@@ -130,9 +130,9 @@ caches_given rows =
     and_then (reading_of L2U rows) (λ second.
     Ok (record { i = i; d = d; u = u; second = second })))))
 
--- What these entries say of the caches, the seed and the format, or the first fault: bad values in
--- the table's order, then the caches' and
--- the plan's. The default format and the default seed are this project's.
+-- The caches, the seed and the format that these entries name, or the first fault: bad values in
+-- the table's order, then the caches' and the plan's. The default format and the default seed are
+-- this project's.
 abbrev pub options_given : List Row → Result (PlannedCaches × ℕ × Format) JobFault
 options_given rows =
     and_then (caches_given rows) (λ caches.

@@ -1,4 +1,4 @@
--- What a fault of the arguments is, if it is neither lack of memory nor clap's.
+-- The faults of the arguments that are neither lack of memory nor clap's.
 use Rattle.std.specs.Prelude.{ℕ, true, Option, Some, None, Result, Ok, Err, option_map}
 use Rattle.clap.specs.Words.{Text}
 use Rattle.cache_core.specs.declared.plan.CacheName.{CacheName}
@@ -25,7 +25,7 @@ job_fault_of fault.BadShape = Some bad_geometry
 job_fault_of (fault.Plan p) = Some (plan p)
 job_fault_of (fault.Space s) = Some (space s)
 
--- what was returned: a value or such a fault, and nothing if it is lack of memory or clap's
+-- the result: a value or such a fault, and none if it is lack of memory or clap's
 abbrev pub job_result : {A : Type 0} → Result A WordsFault → Option (Result A JobFault)
 job_result (Ok x) = Some (Ok x)
 job_result (Err e) = option_map Err (job_fault_of e)

@@ -30,7 +30,7 @@ scaled_numeral text scale =
 abbrev pub number_of : Text → Option ℕ
 number_of text = if is_numeral text then within_u64 (value_of_digits text) else None
 
--- what a letter stands for after a number: k K m M g G
+-- the factor of a letter after a number: k K m M g G
 abbrev pub scale_of : ℕ → Option ℕ
 scale_of c = if c == 107 || c == 75 then Some (2 ^ 10)
     else (if c == 109 || c == 77 then Some (2 ^ 20)
@@ -45,7 +45,7 @@ scaled_of text = option_map_or (scaled_numeral (take (length text - 1) text))
 abbrev pub both_of : Option ℕ → Option ℕ → Option (ℕ × ℕ)
 both_of low high = option_and_then (λ x. option_map (λ y. (x, y)) high) low
 
--- what is before the first such byte and what is after it, if the text has one
+-- the text before the first such byte and the text after it, if there is one
 abbrev pub split_at : ℕ → Text → Option (Text × Text)
 split_at c text = if list_any (λ b. b == c) text
     then Some (before_first (λ b. b == c) text, after_first (λ b. b == c) text) else None

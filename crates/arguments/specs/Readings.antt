@@ -21,8 +21,7 @@ abbrev pub and_then : {A B : Type 0} → Result A JobFault → (A → Result B J
 and_then (Ok x) next = next x
 and_then (Err e) next = Err e
 
--- what a reader makes of an option's text, or the fault that names the option; none if it was not
--- given
+-- the value of an option's text, or the fault that names the option; none if it was not given
 abbrev pub read_text : {A : Type 0} → Text → (Text → Option A) → Option Text →
     Result (Option A) JobFault
 read_text name reader None = Ok None
@@ -33,7 +32,7 @@ abbrev pub optional_value : {A : Type 0} → Text → (Text → Option A) → Li
     Result (Option A) JobFault
 optional_value name reader rows = read_text name reader (first_of name rows)
 
--- the same, with the value if it is left out
+-- the value of an option, or this value if it is left out
 abbrev pub value_or : {A : Type 0} → A → Text → (Text → Option A) → List Row → Result A JobFault
 value_or default name reader rows = and_then (optional_value name reader rows)
     (λ v. Ok (unwrap_or v default))

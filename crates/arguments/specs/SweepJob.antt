@@ -1,4 +1,4 @@
--- What the arguments after `sweep` say.
+-- The meaning of the arguments after `sweep`.
 use Rattle.std.specs.Prelude.{ℕ, List, Option, Result, Ok}
 use Rattle.std.specs.Result.{result_map_both}
 use Rattle.clap.specs.Words.{Row}

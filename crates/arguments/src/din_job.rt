@@ -19,7 +19,7 @@ use options::caches::cache_options;
 use options::table::{INFORMAT, SEED};
 use trace_core::{Format, MAX_LINES};
 
-/// What was given of the options of one cache.
+/// The values of the options of one cache that were given.
 #[derive(Clone, Copy)]
 pub struct CacheReading {
     size: Option<u64>,
@@ -31,7 +31,7 @@ pub struct CacheReading {
     wback: Option<WriteMode>,
 }
 
-/// What was given of the options of the four caches.
+/// The values of the options of the four caches.
 #[derive(Clone, Copy)]
 pub struct CacheReadings {
     i: CacheReading,
@@ -79,7 +79,7 @@ fn options_given(matches: &ArgMatches<'_>) -> Result<(Plan, u64, Format), WordsF
     Ok((plan, seed, format))
 }
 
-/// What was given of the four caches.
+/// Reads the options of the four caches.
 fn caches_given(matches: &ArgMatches<'_>) -> Result<CacheReadings, WordsFault>
     ensures { job_result result ≡ Some (caches_given (rows_given matches.now)) }
 {
@@ -90,7 +90,7 @@ fn caches_given(matches: &ArgMatches<'_>) -> Result<CacheReadings, WordsFault>
     Ok(CacheReadings { i, d, u, second })
 }
 
-/// The plan of what was given of the four caches.
+/// The plan for these values of the four caches.
 fn plan_given(caches: &CacheReadings) -> Result<Plan, WordsFault>
     ensures { job_result result ≡ Some (plan_given caches.now) }
 {
@@ -103,7 +103,7 @@ fn plan_given(caches: &CacheReadings) -> Result<Plan, WordsFault>
     Ok(Plan::new(first, second)?)
 }
 
-/// What was given of the seven options of a cache.
+/// Reads the seven options of a cache.
 fn read_cache(matches: &ArgMatches<'_>, cache: CacheName) -> Result<CacheReading, WordsFault>
     ensures { job_result result ≡ Some (reading_of cache (rows_given matches.now)) }
 {

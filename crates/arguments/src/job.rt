@@ -4,8 +4,8 @@ use cache_core::{Geometry, Plan};
 use sweep_core::Request;
 use trace_core::Format;
 
-/// What a command line asks for. `max_lines` is the most lines that the trace may have, 1 to
-/// `MAX_LINES`.
+/// The job that a command line asks for. `max_lines` is the most lines that the trace may have, 1
+/// to `MAX_LINES`.
 #[derive(Clone, Copy, Debug)]
 pub enum Job {
     Csim {

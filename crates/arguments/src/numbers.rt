@@ -38,7 +38,7 @@ pub fn read_scaled(text: &str) -> Option<u64>
     }
 }
 
-/// What a letter after a number stands for. `None` for another byte.
+/// The factor of a letter after a number: 2^10, 2^20 or 2^30. `None` for another byte.
 fn scale_of(letter: u8) -> Option<u64>
     ensures { result ≡ scale_of letter }
 {
@@ -64,7 +64,7 @@ pub fn read_range(text: &str) -> Option<(u64, u64)>
     }
 }
 
-/// What is before the first of these characters, and what is after it.
+/// The text before the first `delimiter`, and the text after it. `None` if there is none.
 fn split_at(text: &str, delimiter: char) -> Option<(&str, &str)>
     requires { delimiter < 128 }
     ensures { option_map (λ parts. (parts.0.now, parts.1.now)) result

@@ -38,7 +38,7 @@ pub struct Command {
 /// first bad value, in the order of the manual's tables; `Incomplete`; then `BadShape`, `Plan` or
 /// `Space`. `Memory` wherever memory is refused.
 pub fn parse(alloc: Global, arguments: &[String]) -> Result<Command, WordsFault>
-    // But for lack of memory and for what clap refuses, it returns what the arguments mean, and
+    // A command, or a fault that is neither `Memory` nor clap's, is what the arguments mean, and
     // clap refuses nothing.
     ensures means { IfSome (command_result result) (λ returned.
         command_of (map string_bytes arguments.now) ≡ Some returned) }
@@ -46,8 +46,8 @@ pub fn parse(alloc: Global, arguments: &[String]) -> Result<Command, WordsFault>
         fault_of cachesim_app (respelling_of (map string_bytes arguments.now)) ≡ []) }
     ensures limit { IfOk result (λ c. max_lines_of c.job ≡ MAX_LINES) }
 
-    // What clap takes is not refused, a refusal is one of clap's, and it says whether help was
-    // asked for.
+    // Arguments that clap takes are not refused, a refusal is one of clap's, and it says whether
+    // help was asked for.
     ensures taken { takes cachesim_app (respelling_of (map string_bytes arguments.now)) ≡ true
         → refusal_of result ≡ None }
     ensures refused { IfSome (refusal_of result) (λ _.
@@ -106,7 +106,7 @@ fn file_at(alloc: Global, options: &ArgMatches<'_>) -> Result<Option<String>, Al
     }
 }
 
-/// What `clap` refused, with its text less the last LF.
+/// The fault of an error of `clap`, with its text less the last LF.
 fn usage_fault(alloc: Global, error: &clap::Error) -> WordsFault
     ensures silent { job_fault_of result ≡ None }
     ensures memory { kind_of error.now ≡ ErrorKind.OutOfMemory → usage_of result ≡ None }

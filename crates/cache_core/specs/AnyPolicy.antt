@@ -21,8 +21,7 @@ abbrev pub TouchKeeps : Type 0
 TouchKeeps = (policy : Option Repl) (old : List Slot) (at : ℕ) (new : List Slot) → at < length old →
     Touches policy old at new → IsPermutation old new
 
--- A placing does what it may under any policy: the new slot is in, and if the set is full one of
--- its slots is out.
+-- A placing under any policy: the new slot is in, and if the set is full, one of its slots is out.
 abbrev pub PlaceKeeps : Type 0
 PlaceKeeps = (policy : Option Repl) (number capacity : ℕ) (old : List Slot) (slot : Slot)
     (gone : Option Slot) (new : List Slot) →
@@ -52,8 +51,8 @@ abbrev pub MayLeave : Bool → List Line → Option Line → Type 0
 MayLeave needed here None = needed ≡ false
 MayLeave needed here (Some line) = (needed ≡ true) × Contains here line
 
--- what one access is to the machine: its step, with some victim that it may have, and its effect;
--- at most two references are sent down
+-- one access is a step of the machine with some victim that it may have, and has this step's
+-- effect; at most two references are sent down
 pub record AnyStep (m : Machine) (st : MachineState) (ref : Ref) (outcome : Outcome)
     (new : Contents) : Type 0 where
   pub gone : Option Line

@@ -23,7 +23,7 @@ stats_with_change L1D f s = record s { l1d = option_map f s.l1d }
 stats_with_change L1U f s = record s { l1u = option_map f s.l1u }
 stats_with_change L2U f s = record s { l2u = option_map f s.l2u }
 
--- with one more reference at memory
+-- the statistics with one more reference at memory
 abbrev pub stats_after_memory : Ref → Stats → Stats
 stats_after_memory ref s =
     record s {
@@ -42,7 +42,7 @@ stats_after_arrival s (Flush name dirty) =
     (let t = stats_with_change name (stats_after_flush dirty) s in
     record t { memory_writes = t.memory_writes + dirty })
 
--- the statistics before any
+-- the statistics before any arrival
 abbrev pub no_stats : PlannedCaches → Stats
 no_stats plan = record {
   l1i = option_map (λ p. no_counts) plan.i;

@@ -35,8 +35,8 @@ cache_arrivals seed name (Some planned) before ref =
     let effect = (step m (run m before) ref).effect in
     arrival_at name planned.design.geometry ref effect.hit effect.evicted ∷ []
 
--- what the second level sends to memory for a reference after these events: the reference itself if
--- the plan has no second level
+-- the references that the second level sends to memory for one after these events: this one itself
+-- if the plan has no second level
 abbrev pub references_passed : ℕ → Option PlannedCache → List Event → Ref → List Ref
 references_passed seed None before ref = ref ∷ []
 references_passed seed (Some planned) before ref =
@@ -78,7 +78,7 @@ first_arrivals plan seed earlier ref =
     first_level_arrivals seed L1I plan.i earlier ref ++ first_level_arrivals seed L1D plan.d earlier
     ref ++ first_level_arrivals seed L1U plan.u earlier ref
 
--- and below it, or past it
+-- the arrivals of a reference below the first level, or past it
 abbrev pub lower_arrivals : PlannedCaches → ℕ → List Event → Ref → List Arrival
 lower_arrivals plan seed earlier ref =
     if is_taken plan ref then all_arrivals_below seed plan.second (below plan seed earlier)

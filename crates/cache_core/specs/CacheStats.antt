@@ -1,4 +1,4 @@
--- The statistics of a cache: what each of them counts.
+-- The statistics of a cache, and the events that each of them counts.
 use Rattle.std.specs.Prelude.{◌≤◌, ℕ, ◌+◌, ◌^◌, Bool, false, ◌&&◌, not, List, [], Option, is_some}
 use Rattle.std.specs.Prelude.{unwrap_or, count_by}
 use Rattle.trace_core.specs.declared.events.Access.{Access}
@@ -8,7 +8,7 @@ use Rattle.cache_core.specs.declared.stats.CacheStats.{CacheStats}
 use Rattle.cache_core.specs.Order.{is_dirty}
 use Rattle.cache_core.specs.Outcomes.{Effect}
 
--- what accesses count, each a reference with its effect
+-- the statistics of accesses, each a reference with its effect
 abbrev pub stats_from : List (Ref × Effect) → CacheStats
 stats_from all = record {
   fetches = count_by (λ p. is_fetch p.0.access) all;
@@ -46,8 +46,8 @@ stats_after_flush dirty s = record s { copybacks = s.copybacks + dirty }
 abbrev pub accesses : CacheStats → ℕ
 accesses s = s.fetches + s.reads + s.writes
 
--- What the counts of a cache keep: there are at most 2^62 accesses, misses are accesses of their
--- kind, and an eviction is an access.
+-- The invariant of the counts of a cache: there are at most 2^62 accesses, misses are accesses of
+-- their kind, and an eviction is an access.
 pub record IsCounted (s : CacheStats) : Type 0 where
   pub few : accesses s ≤ 2 ^ 62
   pub fetch_misses : s.fetch_misses ≤ s.fetches

@@ -21,7 +21,7 @@ pub record IsGeometry (g : GeometryValue) : Type 0 where
   pub ways : g.e ≤ 65536
   pub lines : g.e * 2 ^ g.s ≤ 2 ^ 22
 
--- the same as a test
+-- whether a geometry is within the limits
 abbrev pub is_geometry : GeometryValue → Bool
 is_geometry g = nat_le g.s 20 && nat_le g.b 20 && nat_le 1 g.e && nat_le g.e 65536 && nat_le
     (g.e * 2 ^ g.s) (2 ^ 22)

@@ -1,6 +1,5 @@
--- What the log must show, said of its lines alone and of the references that come to the system:
--- which come to which cache, to
--- memory, and to none.
+-- Laws of the log, stated over its lines alone and the references that come to the system: which
+-- come to which cache, to memory, and to none.
 use Rattle.std.specs.Prelude.{◌≡◌, ℕ, ◌*◌, ◌-◌, ◌%◌, ◌^◌, Bool, true, false, not, List, [], ◌∷◌}
 use Rattle.std.specs.Prelude.{◌++◌, Option, Some, None, is_some, is_none, filter, map, flat_map}
 use Rattle.std.specs.Prelude.{if◌then◌else◌}
@@ -52,7 +51,7 @@ abbrev pub refs_past : Arrival → List Ref
 refs_past (Bypassed ref) = ref ∷ []
 refs_past _ = []
 
--- What arrives at memory is, in order, what the last level sends: the second if there is one, else
+-- Memory gets, in order, the references that the last level sends: the second if there is one, else
 -- the first.
 abbrev pub MemoryLaw : Type 0
 MemoryLaw = (plan : PlannedCaches) (seed : ℕ) (events : List Event) →
@@ -75,25 +74,25 @@ abbrev pub if_there : Option PlannedCache → (Ref → Bool) → List Ref → Li
 if_there None wanted refs = []
 if_there (Some planned) wanted refs = filter wanted refs
 
--- what arrives at the cache for fetches is, in order, the fetches
+-- the cache for fetches gets the fetches, in order
 abbrev pub FetchCacheLaw : Type 0
 FetchCacheLaw = (plan : PlannedCaches) (seed : ℕ) (events : List Event) →
     flat_map (refs_at L1I) (arrivals plan seed events) ≡ if_there plan.i
     (λ ref. is_fetch ref.access) (references_in events)
 
--- at the one for data the others
+-- the cache for data gets the other references, in order
 abbrev pub DataCacheLaw : Type 0
 DataCacheLaw = (plan : PlannedCaches) (seed : ℕ) (events : List Event) →
     flat_map (refs_at L1D) (arrivals plan seed events) ≡ if_there plan.d
     (λ ref. not (is_fetch ref.access)) (references_in events)
 
--- and at a unified one all
+-- a unified cache gets all references, in order
 abbrev pub UnifiedCacheLaw : Type 0
 UnifiedCacheLaw = (plan : PlannedCaches) (seed : ℕ) (events : List Event) →
     flat_map (refs_at L1U) (arrivals plan seed events) ≡ if_there plan.u (λ ref. true)
     (references_in events)
 
--- what arrives at the second level is, in order, what the first sends
+-- the second level gets, in order, the references that the first sends
 abbrev pub SecondLevelLaw : Type 0
 SecondLevelLaw = (plan : PlannedCaches) (seed : ℕ) (events : List Event) →
     is_some plan.second ≡ true →
@@ -126,27 +125,27 @@ abbrev pub is_sent_alone : AllocMode → Ref → Bool
 is_sent_alone Always ref = false
 is_sent_alone Never ref = is_write ref.access
 
--- What a cache must send to the next level by its line: at a hit the write that goes on; at a miss
--- first the write of a dirty victim, then
--- the load of the block, and then that write; or the write alone.
+-- The references that a cache must send to the next level, by its line: at a hit the write that
+-- goes on; at a miss first the write of a dirty victim, then the load of the block, and then that
+-- write; or the write alone.
 abbrev pub required_references : Design → Ref → Bool → Option Victim → List Ref
 required_references design ref true victim = writes_sent_on design.write ref
 required_references design ref false victim =
     if is_sent_alone design.allocate ref then ref ∷ []
     else victim_write victim ++ load design.geometry.b ref ∷ writes_sent_on design.write ref
 
--- the same by the line of a cache of a plan
+-- the references that a cache of a plan must send to the next level, by its line
 abbrev pub required_references_of : Option PlannedCache → Ref → Bool → Option Victim → List Ref
 required_references_of None ref hit victim = []
 required_references_of (Some planned) ref hit victim =
     required_references planned.design ref hit victim
 
--- what the first level sends is on its way to memory if there is no second level
+-- the references that go from the first level to memory: all, if there is no second level
 abbrev pub direct_references : Option PlannedCache → List Ref → List Ref
 direct_references None down = down
 direct_references (Some second) down = []
 
--- and else to the second level
+-- those that go from the first level to the second: all, if there is one
 abbrev pub second_level_references : Option PlannedCache → List Ref → List Ref
 second_level_references None down = []
 second_level_references (Some second) down = down

@@ -21,7 +21,7 @@ lru_machine g write = record {
   random_numbers = λ n. 0;
 }
 
--- what a cache under LRU holds
+-- the contents of a cache under LRU
 abbrev pub lru_contents : CacheValue LruPolicy → Contents
 lru_contents cache = contents_of (λ _. Some Lru) (λ _ _. 0) cache
 
@@ -58,13 +58,13 @@ abbrev pub CountLaw : Type 0
 CountLaw = (g : GeometryValue) (write : WriteMode) (events : List Event) → 1 ≤ g.e
     → counts_in (effects (lru_machine g write) events) ≡ counts g events
 
--- what a cache hits, one with a line more in each set hits
+-- a cache hits all that one with a line less in each set hits
 abbrev pub HitInclusion : Type 0
 HitInclusion = (g : GeometryValue) (p : Occurrence) → IsTrue (is_hit g p) →
     IsTrue (is_hit (record g { e = g.e + 1 }) p)
 
--- what a cache holds after a list of events, one with a line more in each set holds (Mattson and
--- others 1970)
+-- a cache holds, after a list of events, all that one with a line less in each set holds (Mattson
+-- and others 1970)
 abbrev pub HeldInclusion : Type 0
 HeldInclusion = (g : GeometryValue) (write : WriteMode) (events : List Event) (block : ℕ) → 1 ≤ g.e
     → IsTrue (is_held (run (lru_machine g write) events) block)

@@ -25,15 +25,14 @@ pub record Line : Type 0 where
   pub dirty : Bool
 
 -- The clock, the blocks held, and how many random numbers were drawn. The lines of each set are in
--- the policy's order, which
--- is that of their keys (the law `sets_in_order`), so nothing hangs on how the lines of different
--- sets are mixed.
+-- the policy's order, which is that of their keys (the law `sets_in_order`), so nothing depends on
+-- how the lines of different sets are mixed.
 pub record MachineState : Type 0 where
   pub clock : ℕ
   pub lines : List Line
   pub drawn : ℕ
 
--- what a machine is made of: random_numbers n is its random number n, from 0
+-- a machine: random_numbers n is its random number n, from 0
 pub record Machine : Type 0 where
   pub design : Design
   pub policy : Repl
@@ -47,7 +46,7 @@ start = record { clock = 0; lines = []; drawn = 0 }
 abbrev pub slot_of : Line → Slot
 slot_of line = record { block = line.block; dirty = line.dirty }
 
--- the same of a line that may be none
+-- the slot of a line, if there is one
 abbrev pub option_slot : Option Line → Option Slot
 option_slot None = None
 option_slot (Some line) = Some (slot_of line)
@@ -128,7 +127,7 @@ abbrev pub is_full : Machine → MachineState → ℕ → Bool
 is_full m st set = not (nat_lt (length (lines_of_set m.design.geometry set st.lines))
     m.design.geometry.e)
 
--- what one reference does: the state after it, and its effect
+-- the step of one reference: the state after it, and its effect
 pub record Step : Type 0 where
   pub after : MachineState
   pub effect : Effect
@@ -207,7 +206,7 @@ with_effects_from m st (event.Reference ref ∷ events) = let now = step m st re
     (ref, now.effect) ∷ with_effects_from m now.after events
 with_effects_from m st (event.Flush ∷ events) = with_effects_from m (next m st event.Flush) events
 
--- the same from the start
+-- the references of a list of events, each with its effect, from the start
 abbrev pub with_effects : Machine → List Event → List (Ref × Effect)
 with_effects m events = with_effects_from m start events
 

@@ -1,4 +1,4 @@
--- What a cache holds, each set in its policy's order, and one access to it.
+-- The contents of a cache, each set in its policy's order, and one access to it.
 use Rattle.std.specs.Prelude.{◌≡◌, ◌≢◌, ◌<◌, ℕ, ◌+◌, ◌-◌, ◌%◌, Bool, true, false, List, []}
 use Rattle.std.specs.Prelude.{◌∷◌, ◌++◌, Option, Some, None, if◌then◌else◌, ◌==◌, length}
 use Rattle.std.specs.Prelude.{MatchOption, MatchBool, slice_get, slice_set, slice_index_or, remove}
@@ -55,7 +55,7 @@ Exchanges (Some policy) number old slot gone new =
     let at = victim_at (rules policy).victim number old in
     (slice_get old at ≡ Some gone) × (new ≡ with_slot_at (rules policy).placed slot (Some at) old)
 
--- A slot placed in a set of this capacity, by what leaves.
+-- A slot placed in a set of this capacity, by the slot that leaves, if any.
 abbrev pub TakesIn : Option Repl → ℕ → ℕ → List Slot → Slot → Option Slot → List Slot → Type 0
 TakesIn policy number capacity old slot None new =
     (length old < capacity) × Inserts policy old slot new
@@ -124,7 +124,7 @@ Visits d policy numbers ref old outcome new rest =
     VisitsAt (position_of (block_of d.geometry ref.addr) old) d policy numbers ref old
     outcome new rest
 
--- what a cache holds: its sets, each in its policy's order, and the random numbers still to come
+-- a cache's contents: its sets, each in its policy's order, and the random numbers still to come
 pub record Contents : Type 0 where
   pub design : Design
   pub policy : Option Repl

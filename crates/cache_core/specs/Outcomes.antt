@@ -1,6 +1,6 @@
--- What one reference does to a cache, apart from which line leaves: the table of outcomes.
--- (Write-back and write-through,
--- and allocation on writes, as the options wback and walloc of the Dinero IV manual.)
+-- The effects of one reference on a cache, apart from which line leaves: the table of outcomes.
+-- (Write-back and write-through, and allocation on writes, as the options wback and walloc of the
+-- Dinero IV manual.)
 use Rattle.std.specs.Prelude.{ℕ, Bool, true, false, not, List, [], ◌∷◌, ◌++◌, Option, Some, None}
 use Rattle.std.specs.Prelude.{if◌then◌else◌}
 use Rattle.trace_core.specs.declared.events.Ref.{Ref}
@@ -42,7 +42,7 @@ block_load_access Fetch = Fetch
 block_load_access Read = Read
 block_load_access Write = Read
 
--- what one reference does, and what is sent to the next level, in order
+-- the effect of one reference, with the references sent to the next level, in order
 pub record Effect : Type 0 where
   pub hit : Bool
   pub evicted : Option Slot

@@ -40,7 +40,7 @@ geometry_for spec = option_and_then
     (exponent_of (spec.assoc * spec.bsize) spec.size))
     (exponent_of 1 spec.bsize)
 
--- the same as a relation
+-- a geometry is the one of a cache that is asked for
 pub record IsGeometryFor (spec : CacheSpec) (g : GeometryValue) : Type 0 where
   pub bsize : spec.bsize ≡ 2 ^ g.b
   pub assoc : spec.assoc ≡ g.e
@@ -59,7 +59,7 @@ planned_with spec g = record {
   policy = spec.repl;
 }
 
--- the same with its own geometry; none if it has none
+-- a cache that is asked for, with its own geometry; none if it has none
 abbrev pub planned_cache : CacheSpec → Option PlannedCache
 planned_cache spec = option_map (planned_with spec) (geometry_for spec)
 
@@ -123,7 +123,7 @@ abbrev pub IsPlannedCache : Option PlannedCache → Type 0
 IsPlannedCache None = Unit {0}
 IsPlannedCache (Some planned) = IsGeometry planned.design.geometry
 
--- what a plan keeps: some first level, none beside a unified one, each cache within the limits
+-- the limits of a plan: some first level, none beside a unified one, each cache within its limits
 pub record IsPlan (plan : PlannedCaches) : Type 0 where
   pub i : IsPlannedCache plan.i
   pub d : IsPlannedCache plan.d

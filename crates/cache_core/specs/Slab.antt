@@ -17,7 +17,7 @@ sets_of ways slots (n ∷ filled) = take n slots ∷ sets_of ways (drop ways slo
 abbrev pub Addressable : ℕ → List Slot → Type 0
 Addressable b slots = All (λ slot. slot.block * 2 ^ b < 2 ^ 64) slots
 
--- what a cache keeps of its arrays
+-- the invariant of a cache's arrays
 pub record IsCacheSlab (d : Design) (slots : List Slot) (filled : List ℕ) : Type 0 where
   pub geometry : IsGeometry d.geometry
   pub segments : length slots ≡ d.geometry.e * 2 ^ d.geometry.s
@@ -31,7 +31,7 @@ pub record CacheValue (P : Type 0) : Type 0 where
   pub policy : P
   pub sets : List (List Slot)
 
--- what it holds, with the policy and the numbers of its policy's type
+-- the contents of a cache, with the policy and the numbers of its policy's type
 abbrev pub contents_of : {P : Type 0} → (P → Option Repl) → (P → ℕ → ℕ) → CacheValue P → Contents
 contents_of policy numbers c = record {
   design = c.design;

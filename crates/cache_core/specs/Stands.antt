@@ -1,4 +1,4 @@
--- What a cache holds, as what a machine holds after a list of events.
+-- The contents of a cache as those of a machine after a list of events.
 use Rattle.std.specs.Prelude.{◌≡◌, ◌≢◌, ◌<◌, ℕ, ◌+◌, List, [], ◌∷◌}
 use Rattle.cache_core.specs.Machine.{Line}
 use Rattle.cache_core.specs.Rules.{Place, InFront, InPlace}

@@ -1,4 +1,4 @@
--- One step of a system, over what it holds.
+-- One step of a system, over its contents.
 use Rattle.std.specs.Prelude.{◌≤◌, Option, Some}
 use Rattle.std.specs.Prelude.{None}
 use Rattle.cache_core.specs.declared.stats.CacheStats.{CacheStats}

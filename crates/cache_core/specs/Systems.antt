@@ -51,21 +51,21 @@ is_event_of name event.Flush = true
 abbrev pub events_for : CacheName → List Event → List Event
 events_for name events = filter (is_event_of name) events
 
--- what a cache of the first level sends on for a reference, after earlier events
+-- the references that a cache of the first level sends on for one, after earlier events
 abbrev pub sends : ℕ → CacheName → Option PlannedCache → List Event → Ref → List Ref
 sends seed name None earlier ref = []
 sends seed name (Some planned) earlier ref =
     if is_taken_by name ref then (step (machine_of seed planned)
     (run (machine_of seed planned) (events_for name earlier)) ref).effect.down else []
 
--- what the first level sends on for a reference
+-- the references that the first level sends on for one
 abbrev pub first_level_references : PlannedCaches → ℕ → List Event → Ref → List Ref
 first_level_references plan seed earlier ref =
     sends seed L1I plan.i earlier ref ++ sends seed L1D plan.d earlier ref ++
     sends seed L1U plan.u earlier ref
 
--- what the first level sends on for events that come after earlier ones, in order, with each flush
--- where it comes
+-- the references that the first level sends on for events that come after earlier ones, in order,
+-- with each flush where it comes
 abbrev pub below_from : PlannedCaches → ℕ → List Event → List Event → List Event
 below_from plan seed earlier [] = []
 below_from plan seed earlier (event.Reference ref ∷ events) =
@@ -74,7 +74,7 @@ below_from plan seed earlier (event.Reference ref ∷ events) =
 below_from plan seed earlier (event.Flush ∷ events) = event.Flush ∷ below_from plan seed (earlier ++
     event.Flush ∷ []) events
 
--- the events of the second level: what the first sends on for a whole list
+-- the events of the second level: those that the first sends on for a whole list
 abbrev pub below : PlannedCaches → ℕ → List Event → List Event
 below plan seed events = below_from plan seed [] events
 
@@ -86,16 +86,16 @@ flush_counts_from m st (event.Reference ref ∷ events) =
 flush_counts_from m st (event.Flush ∷ events) = dirty_count st ∷ flush_counts_from m
     (next m st event.Flush) events
 
--- the same from the start
+-- how many dirty blocks each flush of a list finds, from the start
 abbrev pub flush_counts : Machine → List Event → List ℕ
 flush_counts m events = flush_counts_from m start events
 
--- what a cache counts over its events: its accesses, and the copybacks of its flushes
+-- the statistics of a cache over its events: its accesses, and the copybacks of its flushes
 abbrev pub cache_stats : Machine → List Event → CacheStats
 cache_stats m events = stats_after_flush (sum (flush_counts m events))
     (stats_from (with_effects m events))
 
--- what a cache counts over its events, if the plan has it
+-- the statistics of a cache over its events, if the plan has it
 abbrev pub counts_if_planned : ℕ → Option PlannedCache → List Event → Option CacheStats
 counts_if_planned seed None events = None
 counts_if_planned seed (Some planned) events = Some (cache_stats (machine_of seed planned) events)
@@ -105,11 +105,11 @@ abbrev pub flush_counts_if_planned : ℕ → Option PlannedCache → List Event 
 flush_counts_if_planned seed None events = []
 flush_counts_if_planned seed (Some planned) events = flush_counts (machine_of seed planned) events
 
--- and how many in all
+-- how many dirty blocks its flushes find in all
 abbrev pub flush_copybacks : ℕ → Option PlannedCache → List Event → ℕ
 flush_copybacks seed planned events = sum (flush_counts_if_planned seed planned events)
 
--- what the last level sends on, if these events come to the second
+-- the references that the last level sends on, if these events come to the second
 abbrev pub to_memory : ℕ → Option PlannedCache → List Event → List Ref
 to_memory seed None events = references_in events
 to_memory seed (Some planned) events =

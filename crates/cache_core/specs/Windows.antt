@@ -67,7 +67,7 @@ blocks_seen g p = length (distinct_of_set g (set_of_block g p.block) p.window)
 abbrev pub is_hit : GeometryValue → Occurrence → Bool
 is_hit g p = has_last p && nat_lt (distance g p) g.e
 
--- a block leaves it there
+-- an LRU cache of this geometry evicts a block there
 abbrev pub is_evict : GeometryValue → Occurrence → Bool
 is_evict g p = not (is_hit g p) && nat_le g.e (blocks_seen g p)
 

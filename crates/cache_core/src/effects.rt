@@ -1,5 +1,5 @@
-//! What one access does, apart from which slot leaves: its outcome, and what is sent to the next
-//! level.
+//! The effects of one access: its outcome, and the references sent to the next level. Which slot is
+//! evicted is decided elsewhere.
 ghost use Rattle.std.specs.Prelude.{◌≡◌, ◌<◌, ◌*◌, ◌^◌, IfSome, option_to_list};
 ghost use Rattle.cache_core.specs.Geometry.{address_of};
 ghost use Rattle.cache_core.specs.Outcomes.{outcome_of, on_hit, on_placing, on_passing, is_dirtied};
@@ -82,7 +82,7 @@ pub(crate) fn placing_outcome(
     }
 }
 
-/// What is sent to the next level for the block: a fetch for a fetch, and otherwise a read.
+/// The reference that loads a block from the next level: a fetch for a fetch, otherwise a read.
 #[inline(always)]
 fn block_load(geometry: Geometry, reference: Ref, block: u64) -> Ref
     requires { block * 2 ^ geometry.b < 2 ^ 64 }
@@ -97,7 +97,7 @@ fn block_load(geometry: Geometry, reference: Ref, block: u64) -> Ref
     Ref { access, addr }
 }
 
-/// What is sent to the next level for the reference itself: a write, from a write-through cache.
+/// The reference itself if it is sent to the next level: a write, from a write-through cache.
 #[inline(always)]
 fn written_through(write: WriteMode, reference: Ref) -> Option<Ref>
     ensures { through_writes write reference ≡ option_to_list result }

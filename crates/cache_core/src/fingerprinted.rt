@@ -96,7 +96,7 @@ impl FingerprintedCache {
     }
 
     /// Makes an access that finds its block in the first slot of its set and sends nothing down,
-    /// and returns its outcome. Of another access it does nothing.
+    /// and returns its outcome. For any other access it does nothing.
     #[inline(always)]
     pub(crate) fn access_in_front(&mut self, reference: Ref) -> Option<Outcome>
         ensures { AccessesInFront policy_of random_numbers_of self.old reference result self.new }
@@ -212,8 +212,8 @@ fn follow_touch(policy: Repl, row: &mut [u8], at: usize, passing: u8)
     }
 }
 
-/// A row after a placing: in front, where the last slot leaves and the last of the first slots
-/// passes to those that have fingerprints, or in a way.
+/// A row after a placing, in front or in a way. In front the last slot leaves, and the last of the
+/// first slots passes to those that have fingerprints.
 fn follow_placing(policy: Repl, row: &mut [u8], last: usize, way: usize, passing: u8, own: u8)
     requires far { 16 ≤ last }
     requires last { last < 16 + length row.old }

@@ -10,18 +10,18 @@ use crate::outcome::Slot;
 use crate::walk::find_block;
 use std::simd::prelude::*;
 
-/// How many slots of a set, the first, have no fingerprint. Most blocks are found among them, and
-/// there a look at each costs less than fingerprints that follow the slots.
+/// The number of slots at the front of a set that have no fingerprint. Most blocks are found there,
+/// and to look at each costs less than fingerprints that follow the slots.
 pub(crate) const NEAR: usize = 16;
 
 /// How many fingerprints are compared at once.
 const LANES: usize = 16;
 
-/// What a block is multiplied by: 2^64 over the golden ratio, as in Fibonacci hashing (Knuth).
+/// The multiplier of Fibonacci hashing (Knuth): 2^64 over the golden ratio.
 const MULTIPLIER: u64 = 0x9E37_79B9_7F4A_7C15;
 
-/// The index of a block among the slots, if it is there, where the first sixteen don't hold it.
-/// Of each sixteen slots those are looked at that stand from the first with its fingerprint on.
+/// The index of a block among the slots, if it is there. It must not be among the first sixteen. In
+/// each sixteen slots, the search begins at the first with the block's fingerprint.
 #[inline(never)]
 pub(crate) fn find_far(row: &[u8], slots: &[Slot], block: u64) -> Option<usize>
     requires room { length slots.now ≤ length row.now }
@@ -60,8 +60,8 @@ fn find_between(slots: &[Slot], from: usize, next: usize, block: u64) -> Option<
     Some(from + passed)
 }
 
-/// The fingerprint of a block. Of one product alone, some strides would put all blocks on one
-/// fingerprint; of two, blocks at equal distances have many fingerprints.
+/// The fingerprint of a block. With one product alone, all blocks at some strides would have one
+/// fingerprint; with two, blocks at equal distances have many.
 #[inline(always)]
 pub(crate) fn fingerprint(block: u64) -> u8
     ensures { result ≡ fingerprint_of block }
@@ -71,7 +71,7 @@ pub(crate) fn fingerprint(block: u64) -> u8
     (mixed.wrapping_mul(MULTIPLIER) >> 56) as u8
 }
 
-/// How many of the first sixteen bytes come before the first that is the one wanted.
+/// How many of the first sixteen bytes come before the first `wanted` one.
 #[inline(always)]
 fn others_before(bytes: &[u8], wanted: u8) -> usize
     requires { 16 ≤ length bytes.now }

@@ -75,7 +75,7 @@ impl Geometry {
         self.b
     }
 
-    /// The same sets and blocks with fewer lines in a set.
+    /// This geometry with fewer lines per set.
     pub(crate) fn with_ways(&self, e: u64) -> Geometry
         requires some { 1 ≤ e }
         requires fewer { e ≤ self.now.e }

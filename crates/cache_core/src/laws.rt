@@ -103,7 +103,7 @@ pub fn window_is_machine()
     ensures next { NextLaw }
 {}
 
-/// What an LRU cache hits and holds, one with a line more in each set hits and holds.
+/// An LRU cache hits and holds all that one with a line less in each set hits and holds.
 /// Lemmas: `LruRun.hit_inclusion`, `LruRun.held_law`.
 pub fn inclusion()
     ensures hits { HitInclusion }
@@ -143,13 +143,13 @@ pub fn stats_count_the_log()
     ensures { LogLaw }
 {}
 
-/// What arrives at the second level is what the first level sends down, in order.
+/// The second level gets the references that the first level sends down, in order.
 /// Lemma: `TakenLaw.second_level_law`.
 pub fn second_level_gets_what_is_sent()
     ensures { SecondLevelLaw }
 {}
 
-/// What arrives at memory is, in order, what the last level sends.
+/// Memory gets the references that the last level sends down, in order.
 /// Lemma: `MemoryLaw.memory_law`.
 pub fn memory_gets_what_is_sent()
     ensures { MemoryLaw }
@@ -161,7 +161,7 @@ pub fn bypassed_are_the_untaken()
     ensures { BypassedLaw }
 {}
 
-/// What arrives at a first-level cache is, in order, the references that it takes.
+/// A first-level cache gets the references that it takes, in order.
 /// Lemmas: `TakenLaw.fetch_cache_law`, `TakenLaw.data_cache_law`, `TakenLaw.unified_cache_law`.
 pub fn first_level_gets_what_it_takes()
     ensures fetches { FetchCacheLaw }
@@ -169,7 +169,7 @@ pub fn first_level_gets_what_it_takes()
     ensures unified { UnifiedCacheLaw }
 {}
 
-/// What a line of a cache must send arrives next at the level below: the write of a dirty victim's
+/// The level below next gets what a line of a cache must send: the write of a dirty victim's
 /// address, the load of the block's address, and the write that goes on.
 /// Lemma: `FollowLaw.follow_law`.
 pub fn lines_follow()

@@ -79,8 +79,8 @@ impl LruSets {
         self.access_further(reference)
     }
 
-    /// The same. It stands apart, so that the path of the many references that find their block in
-    /// the first slot of its set stays short.
+    /// Makes a reference of any kind. It stands apart, so that the path of the many references that
+    /// find their block in the first slot of its set stays short.
     #[inline(never)]
     fn access_further(&mut self, reference: Ref) -> Lookup
         ensures { (g : GeometryValue) (events : List Event) →

@@ -15,10 +15,9 @@ const STREAM: u64 = 54;
 
 /// A replacement policy. It sees the slots of one set at a time, in an order of its own.
 ///
-/// `order` says all that is said of the slots, and that a set keeps them follows from it (the law
-/// `slots_are_kept`). Of the indices that `touch` and `place` return, a cache reads that of
-/// `place`: a fingerprint goes where the slot went. That of `touch` is part of the interface as it
-/// was first specified.
+/// `order` says all that is said of the slots; that a set keeps them follows from it (the law
+/// `slots_are_kept`). A cache uses the index that `place` returns: a fingerprint goes where the
+/// slot went. The index that `touch` returns is part of the interface as it was first specified.
 pub trait Replacement: Drop {
     ghost use Rattle.cache_core.specs.declared.design.Repl.{Repl};
 

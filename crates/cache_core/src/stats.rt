@@ -2,8 +2,8 @@
 use crate::outcome::Outcome;
 use trace_core::Access;
 
-/// What one cache counted: its accesses and misses by kind, its evictions, and its copybacks, the
-/// dirty blocks that were evicted or flushed.
+/// The statistics of one cache: its accesses and misses by kind, its evictions, and its copybacks,
+/// the dirty blocks that were evicted or flushed.
 #[derive(Clone, Copy, Debug, Default, PartialEq, Eq)]
 pub struct CacheStats {
     pub fetches: u64,
@@ -62,9 +62,9 @@ impl CacheStats {
     }
 }
 
-/// What a system counted: for each of its caches; what came to memory (a fetch is a read there, and
-/// each dirty block of a flush, of either level, a write); and the references that no first-level
-/// cache takes, which come to neither a second level nor memory.
+/// The statistics of a system: those of its caches; the accesses of memory (a fetch is a read
+/// there, and each dirty block of a flush, of either level, a write); and the references that no
+/// first-level cache takes, which reach neither a second level nor memory.
 #[derive(Clone, Copy, Debug, PartialEq, Eq)]
 pub struct Stats {
     pub l1i: Option<CacheStats>,

@@ -116,7 +116,7 @@ impl System {
         }
     }
 
-    /// The same step; an observer sees each arrival.
+    /// Makes a step as `step` does; an observer sees each arrival.
     #[inline(always)]
     pub fn step_observed<O: Observer>(&mut self, reference: Ref, observer: &mut O)
         requires steps { self.old.steps < MAX_STEPS }
@@ -145,8 +145,8 @@ impl System {
         }
     }
 
-    /// The same step, whatever it comes to. It stands apart, so that the path of the many
-    /// references that find their block in the first slot of its set stays short.
+    /// Makes a step of any kind. It stands apart, so that the path of the many references that find
+    /// their block in the first slot of its set stays short.
     #[inline(never)]
     fn step_seen<O: Observer>(&mut self, reference: Ref, observer: &mut O)
         requires steps { self.old.steps < MAX_STEPS }
@@ -184,7 +184,7 @@ impl System {
         self.flush_observed(&mut Nobody);
     }
 
-    /// The same flush; an observer sees each cache flushed.
+    /// Empties every cache as `flush` does; an observer sees each cache flushed.
     pub fn flush_observed<O: Observer>(&mut self, observer: &mut O)
         requires steps { self.old.steps < MAX_STEPS }
         requires room { MAX_ARRIVALS ≤ O.room observer.old }
@@ -205,7 +205,7 @@ impl System {
         self.memory.writes += i + d + u + second;
     }
 
-    /// What it counted. No cache copied back more blocks than it took writes.
+    /// The statistics so far. No cache copied back more blocks than it took writes.
     pub fn stats(&self) -> Stats
         ensures value { result ≡ stats_of self.now }
         ensures copybacks { HasWritten result.l1i × HasWritten result.l1d
@@ -225,7 +225,7 @@ impl System {
     }
 }
 
-/// What reached memory.
+/// The numbers of reads and writes that reached memory.
 #[derive(Clone, Copy, Debug, PartialEq, Eq)]
 pub(crate) struct Memory {
     pub(crate) reads: u64,
@@ -233,7 +233,7 @@ pub(crate) struct Memory {
 }
 
 impl Memory {
-    /// Counts a reference, if there is one, and has it seen.
+    /// Counts a reference, if there is one, and shows it to the observer.
     fn count<O: Observer>(&mut self, reference: Option<Ref>, observer: &mut O)
         requires counts { memory_accesses self.old < 2 ^ 63 }
         requires room { 1 ≤ O.room observer.old }
@@ -253,7 +253,7 @@ impl Memory {
     }
 }
 
-/// One reference at a first-level cache, if it is there: what it sends down for it.
+/// Makes a reference at a first-level cache, if it is there, and returns what it sends down.
 #[inline(always)]
 fn access_first<O: Observer>(
     name: CacheName,
@@ -304,8 +304,8 @@ fn first_level<O: Observer>(
     access_first(CacheName::L1D, d, reference, observer)
 }
 
-/// One reference at a first-level cache, if it is there and finds the block in the first slot of
-/// its set and sends nothing down.
+/// Makes a reference at a first-level cache, and returns true, if this finds the block in the first
+/// slot of its set and sends nothing down. If not, it does nothing.
 #[inline(always)]
 fn access_first_in_front(cache: &mut Option<SystemCache>, reference: Ref) -> bool
     requires { accesses_of cache.old < 2 ^ 62 }
@@ -338,7 +338,7 @@ fn first_name(u: &Option<SystemCache>, reference: Ref) -> CacheName
     CacheName::L1D
 }
 
-/// The same at the first level.
+/// `access_first_in_front` at the first-level cache that takes the reference.
 #[inline(always)]
 fn access_first_level_in_front(
     i: &mut Option<SystemCache>,
@@ -393,7 +393,7 @@ fn descend<O: Observer>(
     }
 }
 
-/// What is sent down for one reference, one after another.
+/// Sends down the references that one access causes, one after another.
 fn descend_all<O: Observer>(
     second: &mut Option<SystemCache>,
     memory: &mut Memory,
@@ -437,7 +437,7 @@ fn empty<O: Observer>(name: CacheName, cache: &mut Option<SystemCache>, observer
     }
 }
 
-/// What a cache of a system counted, if it is there.
+/// The statistics of a cache of a system, if it is there.
 fn counts(cache: &Option<SystemCache>) -> Option<CacheStats>
     ensures { result ≡ stats_held cache.now }
 {

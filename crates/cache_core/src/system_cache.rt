@@ -49,7 +49,7 @@ impl SystemCache {
     }
 
     /// One reference enters, and is counted by its kind, if it finds its block in the first slot of
-    /// its set and sends nothing down. Of another reference it does nothing.
+    /// its set and sends nothing down. For any other reference it does nothing.
     #[inline(always)]
     pub(crate) fn access_in_front(&mut self, reference: Ref) -> bool
         requires { accesses self.old.stats < 2 ^ 62 }

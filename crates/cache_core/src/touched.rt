@@ -8,9 +8,8 @@ ghost use Rattle.cache_core.specs.internal.Touched.{ListsFilled};
 use std::alloc::{AllocError, Global};
 use std::marker::Model;
 
-/// How many sets share one entry of the list. The list takes a quarter of a byte for each set, and
-/// a flush that has to walk all sets, since more were touched than are listed, walks no more than
-/// sixteen for each block that was placed.
+/// The number of sets per entry of the list, which so takes a quarter of a byte for each set. If
+/// the list overflowed, a flush walks all sets: at most sixteen for each block that was placed.
 const SETS_PER_ENTRY: usize = 16;
 
 /// The sets that got a block since the last flush, each by its number, as long as there are entries
@@ -103,8 +102,8 @@ impl TouchedSets {
         self.used = Some(0);
     }
 
-    /// Sets the counts of all sets to 0, and forgets the sets. Where they are listed, it goes to
-    /// them alone.
+    /// Sets the counts of all sets to 0, and forgets the sets. If they are listed, it visits only
+    /// those.
     pub fn empty(&mut self, counts: &mut [u32])
         requires { Covers self.old counts.old }
         ensures counts { counts.new ≡ replicate (length counts.old) 0 }

@@ -1,6 +1,5 @@
--- What `csim` writes of a trace, in the form of the CS:APP cache lab handout: a line for each data
--- item if lines are wanted, and
--- a summary.
+-- The output of `csim` for a trace, in the form of the CS:APP cache lab handout: a line for each
+-- data item if lines are wanted, and a summary.
 use Rattle.std.specs.Prelude.{ℕ, Bool, true, List, [], ◌∷◌, ◌++◌, Option, None, Some, if◌then◌else◌}
 use Rattle.std.specs.Prelude.{map, flat_map, codes}
 use Rattle.std.specs.Option.{option_to_list}

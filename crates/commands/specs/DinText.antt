@@ -1,6 +1,5 @@
--- What `din` writes of a trace: a line for each cache, one for memory and one for the references
--- that no cache took. The layout and
--- the words are this project's.
+-- The output of `din` for a trace: a line for each cache, one for memory and one for the references
+-- that no cache took. The layout and the words are this project's.
 use Rattle.std.specs.Prelude.{false, ℕ, List, [], ◌++◌, Option, None, Some, codes}
 use Rattle.std.specs.Fmt.{decimal}
 use Rattle.trace_core.specs.declared.events.Kind.TheVariants.{All}

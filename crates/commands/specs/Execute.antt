@@ -7,7 +7,7 @@ use Rattle.commands.specs.CsimText.{csim_task}
 use Rattle.commands.specs.DinText.{din_task}
 use Rattle.commands.specs.LogText.{log_task}
 
--- what a job reads and writes
+-- the task of a job
 abbrev pub task_of : Job → Task
 task_of (Csim geometry verbose max_lines) = csim_task geometry verbose max_lines
 task_of (Din plan seed format max_lines) = din_task plan seed format max_lines

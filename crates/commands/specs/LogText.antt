@@ -1,4 +1,4 @@
--- What `log` writes of a trace: a line for each arrival, and one for each cache that is flushed.
+-- The output of `log` for a trace: a line for each arrival, and one for each cache that is flushed.
 -- The layout is this project's.
 use Rattle.std.specs.Prelude.{true, Bool, ℕ, List, [], ◌∷◌, ◌++◌, Option, None, Some, if◌then◌else◌}
 use Rattle.std.specs.Prelude.{flat_map, codes}

@@ -10,7 +10,7 @@ use cache_core::{Counts, Lookup};
 use trace_core::text::{DECIMAL, HEXADECIMAL, Text};
 use trace_core::{DeviceFault, Entry, Item, Op, Sink, write_all};
 
-/// The most bytes that a line says of a lookup.
+/// The most bytes of a lookup in a line.
 const LOOKUP: usize = 14;
 
 /// The most bytes of a line: a letter and a space, the address, a comma, the size, two lookups, and

@@ -13,10 +13,10 @@ use trace_core::text::{DECIMAL, HEXADECIMAL, Text};
 /// The most bytes of a reference: its label between spaces, and its address.
 const REFERENCE: usize = 3 + HEXADECIMAL;
 
-/// The most bytes that a line says of a hit or a miss.
+/// The most bytes of a hit or a miss in a line.
 const RESULT: usize = 5;
 
-/// The most bytes that a line says of an evicted block.
+/// The most bytes of an evicted block in a line.
 const VICTIM: usize = 10 + HEXADECIMAL + 6;
 
 /// The most bytes of a line: the name of a cache, a reference, a miss, what it evicted, and an LF.
@@ -123,7 +123,7 @@ fn push_reference(text: &mut Text<ENTRY>, reference: Ref)
     text.push_hexadecimal(reference.addr);
 }
 
-/// Adds what a line says of a hit or a miss.
+/// Adds a hit or a miss.
 #[inline(always)]
 fn push_result(text: &mut Text<ENTRY>, hit: bool)
     requires { length text.old + RESULT ≤ ENTRY }

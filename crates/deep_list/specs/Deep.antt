@@ -51,7 +51,7 @@ pub record IsRanked (top end : ℕ) (slots : SlotsValue) (chains : ChainsValue) 
   pub chains_are : AreChains top (length slots.live) chains
   pub filed : AreFiled chains slots
 
--- what is true of the fields of every list
+-- the invariant of the fields of a list
 pub record IsDeep (cap held top end : ℕ) (slots : SlotsValue) (chains : ChainsValue) : Type 0 where
   pub some : 1 ≤ cap
   pub room : cap < length slots.live
@@ -60,8 +60,8 @@ pub record IsDeep (cap held top end : ℕ) (slots : SlotsValue) (chains : Chains
   pub once : IsOnce (kept slots.blocks slots.live)
   pub ranked : IsRanked top end slots chains
 
--- what moves the live slots to the end, when those from `from` on were moved: those before `to` of
--- them are free
+-- the slots while the live ones are moved to the end: those from `from` on were moved, and of these
+-- those before `to` are free
 pub record IsGathering (from to : ℕ) (before slots : SlotsValue) : Type 0 where
   pub same : length slots.blocks ≡ length slots.live
   pub long : length slots.live ≡ length before.live

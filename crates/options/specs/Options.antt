@@ -161,7 +161,7 @@ cachesim_app = record {
       din_rules ∷ leaf (codes "sweep") sweep_rules ∷ [];
 }
 
--- ---- what the code has of them
+-- ---- the options in the code
 
 -- the rule of an option that is written so
 abbrev pub with_spelling : Spelling → Rule → Rule
@@ -196,7 +196,7 @@ rule_and_global a = (rule_of a, a.global)
 abbrev pub own_rule : Rule → Rule × Bool
 own_rule r = (r, false)
 
--- what clap sees of a command, and whether an argument of it is global
+-- a command as clap sees it, and whether an argument of it is global
 abbrev pub app_and_global : Command → App × Bool
 app_and_global c = (app_of c, (out-Command c).has_globals)
 

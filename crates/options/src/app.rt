@@ -45,8 +45,8 @@ pub enum OptionsOf {
     Sweep,
 }
 
-/// A command: its name, what help says of it before and after its options, its usage line, and
-/// these options.
+/// A command: its name, its texts of help before and after its options, its usage line, and these
+/// options.
 pub struct CommandText {
     pub name: &'static str,
     pub about: &'static str,

@@ -17,7 +17,7 @@ pub struct CacheOptions {
     pub wback: CommandOption,
 }
 
-// What help says of each of the seven.
+// The texts of help for each of the seven.
 const SIZE: &str = "Total size in bytes, a power of two, such as 16k";
 
 const SETS: &str = "Number of sets, a power of two, in place of the size";

@@ -1,4 +1,4 @@
-//! What `--help` says besides the list of the options.
+//! The texts of `--help` beside the list of the options.
 //!
 //! The limits of a cache are those of `cache_core::geometry`, which no text here can cite: 1m, 64k
 //! and 4m are 2^`MAX_BITS`, `MAX_WAYS` and `MAX_CACHE_LINES`.
@@ -18,7 +18,7 @@ macro_rules! help_text {
     };
 }
 
-/// What the program does.
+/// The summary of the program.
 pub const ABOUT: &str = "Simulates processor caches over a trace of memory references";
 
 /// How the program is called. Also shown beside a fault of the arguments: so it says where the
@@ -38,7 +38,7 @@ How to get a trace: Valgrind writes that of any program in the lackey format.
     "\n\ncachesim 1.2.0"
 );
 
-/// What `sweep` does.
+/// The summary of `sweep`.
 pub const SWEEP_ABOUT: &str =
     "Counts hits, misses and evictions of every LRU cache in a range, in one pass over a trace";
 
@@ -76,7 +76,7 @@ Valgrind writes it: ' L 7ffe10,8'; a modify is a read and a write.
     ""
 );
 
-/// What `csim` does.
+/// The summary of `csim`.
 pub const CSIM_ABOUT: &str = "Runs the data references of a lackey trace through one LRU cache";
 
 /// How `csim` is called.
@@ -96,7 +96,7 @@ A trace of a program, and a cache of 64 sets of 8 lines of 64 bytes:
     ""
 );
 
-/// What `log` does.
+/// The summary of `log`.
 pub const LOG_ABOUT: &str =
     "Writes a line for each access of each cache of 'cachesim din', in order";
 
@@ -129,7 +129,7 @@ Valgrind writes a lackey trace:
     ""
 );
 
-/// What `din` does.
+/// The summary of `din`.
 pub const DIN_ABOUT: &str =
     "Runs a trace through one or two levels of caches, with some options of Dinero IV";
 

@@ -1,5 +1,4 @@
-//! The commands and their options: what `clap` is given, Dinero's spelling, and what help says of
-//! them.
+//! The commands and their options as `clap` gets them, Dinero's spelling, and the texts of help.
 #![tactic(auto)]
 
 pub mod app;

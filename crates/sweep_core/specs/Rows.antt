@@ -1,4 +1,4 @@
--- The rows of a sweep as values, and what reading a trace for them did.
+-- The rows of a sweep as values, and the effects of reading a trace for them.
 use Rattle.std.specs.Prelude.{◌≡◌, ℕ, List, map, flat_map, Result, Ok, Err}
 use Rattle.trace_core.specs.Device.{SourceView}
 use Rattle.trace_core.specs.Events.{events_of}
@@ -22,12 +22,12 @@ use Rattle.sweep_core.specs.Work.{work}
 abbrev pub counted_rows : List Event → List Config → List (Config × Counts)
 counted_rows es rows = map (λ c. (c, row_counts es c)) rows
 
--- what a sweep has counted: its rows in order, and its comparisons
+-- the counts of a sweep: its rows in order, and its comparisons
 pub record CountedSweep : Type 0 where
   pub rows : List (Config × Counts)
   pub comparisons : ℕ
 
--- what a sweep counts over a trace: the rows of its request, and the comparisons of their profiles
+-- a sweep's counts over a trace: the rows of its request, and the comparisons of their profiles
 abbrev pub counted_sweep : Request → List Event → CountedSweep
 counted_sweep r es = record {
   rows = counted_rows es (rows_of r);
@@ -43,13 +43,12 @@ pub record ReadsTo (format : Format) (limit : ℕ) (start now : SourceView)
   pub reached : Reached format limit start now read at
   pub stopped : at.state ≡ state
 
--- what some entries give a cache: the references of a kind, and the flushes
+-- the events that some entries give a cache: the references of a kind, and the flushes
 abbrev pub events_read : Kind → List (ℕ × Entry) → List Event
 events_read kind read = flat_map (events_of kind) (entries_of read)
 
--- What reading a trace for a request did to its source, by its result: it came to the end and
--- counted what it read, or to a fault;
--- for lack of memory nothing was read.
+-- The effects of reading a trace for a request on its source, by its result: it came to the end and
+-- counted what it read, or to a fault; for lack of memory nothing was read.
 abbrev pub ReadsCounts : Request → SourceView → SourceView → Result CountedSweep RunFault → Type 0
 ReadsCounts r start now (Ok counts) =
     (run : ReadsTo r.format r.max_lines start now Ended) ×

@@ -76,17 +76,17 @@ is_valid space c =
     && is_power c.bsize && is_power c.sets && (not space.powers || is_power c.assoc)
     && nat_le (c.assoc * c.sets) most_cache_lines
 
--- why a range is refused, if it is: a range whose lowest value is above the greatest
+-- why a range is refused, if it is: its lowest value is above the greatest
 abbrev pub order_cause : ℕ × ℕ → Option Cause
 order_cause range = if nat_lt range.1 range.0 then Some Reversed else None
 
--- the same, but before that a range with an end outside 1 to the most
+-- why a range is refused, if it is: an end is outside 1 to the most, or else it is reversed
 abbrev pub limit_cause : ℕ → ℕ × ℕ → Option Cause
 limit_cause most range =
     if is_in_range (1, most) range.0 && is_in_range (1, most) range.1 then order_cause range
     else Some Limit
 
--- the same, but before that a range with an end that is no power of two
+-- why a range is refused, if it is: an end is no power of two, or else as `limit_cause` says
 abbrev pub power_cause : ℕ → ℕ × ℕ → Option Cause
 power_cause most range =
     if is_power range.0 && is_power range.1 then limit_cause most range else Some NotPower

@@ -1,4 +1,4 @@
--- What a sweep writes.
+-- The text that a sweep writes.
 use Rattle.std.specs.Prelude.{ℕ, ◌&&◌, if◌then◌else◌, false, Option, None, Some, List, [], ◌∷◌}
 use Rattle.std.specs.Prelude.{◌++◌, map, flat_map, decimal, codes}
 use Rattle.std.specs.List.{join_with_byte}
@@ -55,7 +55,7 @@ rows_text es rows = flat_map (λ c. row_of c (row_counts es c)) rows
 abbrev pub configs_of : Request → List Config
 configs_of r = table r.space r.after
 
--- those that it writes
+-- the configurations that it writes
 abbrev pub rows_of : Request → List Config
 rows_of r = first_rows r.rows (configs_of r)
 
@@ -63,7 +63,7 @@ rows_of r = first_rows r.rows (configs_of r)
 abbrev pub table_text : Request → List Event → List ℕ
 table_text r es = header_of r.after ++ rows_text es (rows_of r)
 
--- what a sweep of a text writes
+-- the output of a sweep of a text
 unfoldable pub sweep_text : Request → List ℕ → List ℕ
 sweep_text r text = table_text r (events r.format r.kind text)
 

@@ -55,9 +55,9 @@ impl Batch {
         self.len == BATCH
     }
 
-    /// Has one more wait, unless it lies in the block of the last that waits, of `2^bits` bytes: it
-    /// would find that in front in each profile whose blocks are no smaller. About a third of a
-    /// program's references do, fetches most of all.
+    /// Adds one, unless it lies in the block of the last that waits, of `2^bits` bytes: it would
+    /// find that in front in each profile whose blocks are no smaller. About a third of a program's
+    /// references do, fetches most of all.
     #[inline(always)]
     pub(crate) fn push(&mut self, addr: u64, bits: u64)
         requires room { length self.old < BATCH }
@@ -159,9 +159,9 @@ fn feed_each(profiles: &mut [PairProfile], addrs: &mut [u64], led: &mut [u64])
     }
 }
 
-/// What the profile at an index is fed: up to the profile `end`, the first `led_count` of `led`;
-/// from there on a copy of `addrs`, which `led` becomes. Returns how many they are, and up to which
-/// profile what is left of them is given on.
+/// Brings to the front of `led` what the profile at an index is fed: before the profile `end`,
+/// `led_count` addresses are there; from `end` on, `addrs` is copied there. Returns how many they
+/// are, and up to which profile those that this one leaves are passed on.
 fn give(
     addrs: &[u64],
     led: &mut [u64],
@@ -182,7 +182,7 @@ fn give(
     (addrs.len(), until)
 }
 
-/// Whether what the profile after an index finds in front is in front in all later ones.
+/// Whether a block in front in the profile after an index is in front in all later ones.
 fn is_followed(profiles: &[PairProfile], at: usize) -> bool
     requires { at < length profiles.now }
     ensures { result ≡ leads_rest (drop (at + 1) profiles.now) }

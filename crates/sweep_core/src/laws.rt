@@ -65,8 +65,8 @@ pub fn configs_are_geometries()
         space_fault space ≡ None → is_valid space c ≡ true → HasSize c }
 {}
 
-/// What a sweep writes is the header, if it begins at the first configuration, and the text of the
-/// rows that it counts.
+/// A sweep writes the header, if it begins at the first configuration, and the text of the rows
+/// that it counts.
 /// Lemma: `Writing.csv-counted`.
 pub fn table_is_text_of_rows()
     ensures { (r : Request) (text : List ℕ) → sweep_text r text

@@ -40,8 +40,8 @@ pub(crate) fn read_trace<S: Source>(
     read
 }
 
-/// The same, but leaves these to be counted, and the last of the others in the batch. `fed` becomes
-/// the number of all references.
+/// Reads a trace as `read_trace` does, but counts none that a profile need not be fed, and leaves
+/// the last of the others in the batch. `fed` becomes the number of all references.
 fn read_entries<S: Source>(
     lines: &mut Lines,
     kind: Kind,
@@ -81,7 +81,7 @@ fn read_entries<S: Source>(
     Ok(())
 }
 
-/// Counts in each profile what is left of so many references: they found their block in front.
+/// Counts in each profile those of `fed` references that it was not fed: they hit in front.
 fn catch_up(profiles: &mut [PairProfile], fed: u64)
     requires behind { FedAtMost fed profiles.old }
     requires few { fed ≤ MAX_REFERENCES }
@@ -104,8 +104,8 @@ fn finest_bits(profiles: &[PairProfile]) -> u64
     bits
 }
 
-/// Has a reference wait to be fed if it is of a kind, which is one more of those fed. Where no more
-/// may wait, those that do are fed first. `bits` are those of the smallest block.
+/// Adds a reference of a kind to the batch, and to the count `fed`. If the batch is full, its
+/// references are fed first. `bits` are those of the smallest block.
 #[inline(always)]
 fn feed_kept(
     profiles: &mut [PairProfile],

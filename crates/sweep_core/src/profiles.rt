@@ -64,7 +64,7 @@ fn link(profiles: &mut [PairProfile])
     }
 }
 
-/// How many of the first of some profiles refine another.
+/// How many of `others`, from the first on, refine a profile.
 fn implied_by(profile: &Profile, others: &[PairProfile]) -> usize
     ensures { result ≡ implied_by profile.now.geometry others.now }
 {

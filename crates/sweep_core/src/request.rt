@@ -1,8 +1,8 @@
-//! What is swept.
+//! A request for a sweep.
 use crate::space::{Config, Space};
 use trace_core::{Format, Kind};
 
-/// What is swept, and what is written of it.
+/// The caches of a sweep, the references that count, and the rows that are written.
 #[derive(Clone, Copy, Debug)]
 pub struct Request {
     /// The caches that are swept.

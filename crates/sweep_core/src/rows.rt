@@ -22,7 +22,7 @@ use std::alloc::Global;
 use std::marker::Model;
 use trace_core::{Lines, MAX_LINES, Source};
 
-/// What a sweep has counted of a trace that it read.
+/// The counts of a sweep that has read its trace.
 #[derive(Drop)]
 pub struct SweepCounts {
     space: Space,
@@ -47,8 +47,7 @@ impl Model for SweepCounts {
 
 impl SweepCounts {
     /// Reads a whole trace, of at most `max_lines` lines, 1 to `MAX_LINES`, and counts for each row
-    /// of a request. It takes all its memory before it reads; what its rows are asked for later
-    /// takes none.
+    /// of a request. It takes all its memory before it reads; its rows take none later.
     ///
     /// Errors: `Memory`, with nothing read; `Trace` if the trace has a fault or the source failed;
     /// never `Write`.
@@ -90,7 +89,7 @@ impl SweepCounts {
         }
     }
 
-    /// The same rows, those of each pair of block size and set count by themselves.
+    /// The rows in groups, one for each pair of block size and set count.
     pub(crate) fn pairs(&self) -> Pairs<'_>
         ensures rows { flat_map (λ rows. rows) result ≡ self.now.rows }
         ensures sizes { AllByRecursion (AllByRecursion (λ row. HasSize row.0)) result }
@@ -109,8 +108,8 @@ impl SweepCounts {
     }
 }
 
-/// An iterator over the rows of a sweep, in the order of the table. A pair's histograms are gone
-/// through once.
+/// An iterator over the rows of a sweep, in the order of the table. It goes through a pair's
+/// histograms once.
 #[derive(Drop)]
 pub struct Rows<'a> {
     space: &'a Space,

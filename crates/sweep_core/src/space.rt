@@ -73,7 +73,7 @@ impl fmt::Display for Which {
     }
 }
 
-/// What is wrong with a range. Where several causes apply, the first counts.
+/// Why a range is refused: the first of these causes that applies.
 #[derive(Clone, Copy, Debug, PartialEq, Eq, Error)]
 pub enum Cause {
     /// An end is not a power of two. Checked for block sizes and set counts.
@@ -99,7 +99,7 @@ pub struct SpaceFault {
 const MAX_POWER: u64 = 1 << MAX_BITS;
 
 /// The configurations of a sweep: a lowest and a greatest value for each number, and for the size
-/// in bytes.
+/// in bytes. The clause `limits` of `configs` says that they are within the limits.
 #[derive(Clone, Copy, Debug)]
 pub struct Space {
     bsize: (u64, u64),
@@ -189,14 +189,14 @@ fn judge(which: Which, cause: Option<Cause>) -> Result<(), SpaceFault>
     }
 }
 
-/// Why a range is refused, if it is, whose ends may be any numbers: it is reversed.
+/// Why a range whose ends may be any numbers is refused, if it is: it is reversed.
 fn order_cause(range: (u64, u64)) -> Option<Cause>
     ensures { result ≡ order_cause range }
 {
     (range.1 < range.0).then_some(Cause::Reversed)
 }
 
-/// Why a range is refused, if it is, whose ends have to be 1 to `most`.
+/// Why a range whose ends have to be 1 to `most` is refused, if it is.
 fn limit_cause(most: u64, range: (u64, u64)) -> Option<Cause>
     ensures { result ≡ limit_cause most range }
 {
@@ -207,7 +207,7 @@ fn limit_cause(most: u64, range: (u64, u64)) -> Option<Cause>
     }
 }
 
-/// Why a range is refused, if it is, whose ends have to be powers of two up to `most`.
+/// Why a range whose ends have to be powers of two up to `most` is refused, if it is.
 fn power_cause(most: u64, range: (u64, u64)) -> Option<Cause>
     ensures { result ≡ power_cause most range }
 {

@@ -1,4 +1,4 @@
-//! What a sweep writes once it has read a trace.
+//! Writing the table of a sweep, after its trace was read.
 ghost use Rattle.std.specs.Prelude.{◌≡◌, ◌++◌, flat_map};
 ghost use Rattle.std.specs.List.{AllByRecursion};
 ghost use Rattle.trace_core.specs.Device.{Writes, WritesLast};

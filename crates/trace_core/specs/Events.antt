@@ -1,4 +1,4 @@
--- The references of an item, and what a trace gives a cache.
+-- The references of an item, and the events that a trace gives a cache.
 use Rattle.std.specs.Prelude.{ℕ, Bool, true, false, Option, None, Some, List, [], ◌∷◌, map, filter}
 use Rattle.std.specs.Prelude.{if◌then◌else◌}
 use Rattle.std.specs.Option.{option_to_list}
@@ -41,7 +41,7 @@ is_kept FetchOnly Fetch = true
 is_kept FetchOnly Read = false
 is_kept FetchOnly Write = false
 
--- what an entry gives a cache: the references of its item that are kept, or a flush
+-- the events that an entry gives a cache: the references of its item that are kept, or a flush
 abbrev pub events_of : Kind → Entry → List Event
 events_of kind (entry.Item item) =
     map event.Reference (filter (λ r. is_kept kind r.access) ((references item).0 ∷ option_to_list

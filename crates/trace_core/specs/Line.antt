@@ -18,13 +18,13 @@ use Rattle.trace_core.specs.declared.line.LineFault.TheVariants.{Label, Address,
 abbrev pub item : Op → ℕ → ℕ → Option Entry
 item op addr size = Some (entry.Item (record { op = op; addr = addr; size = size }))
 
--- goes on with what is there, or stops with a fault
+-- goes on with a value, or stops with this fault if there is none
 abbrev pub or_fault : {T : Type 0} → LineFault → Option T → (T → Result (Option Entry) LineFault) →
     Result (Option Entry) LineFault
 or_fault fault None next = Err fault
 or_fault fault (Some x) next = next x
 
--- what the labels `0`, `1`, `2` mean (Dinero IV, traditional format)
+-- the operations of the labels `0`, `1`, `2` (Dinero IV, traditional format)
 abbrev pub din_op : ℕ → Option Op
 din_op label =
     if label == 48 then Some Load
@@ -44,14 +44,13 @@ op_of access.Read = Load
 op_of access.Write = Store
 op_of access.Fetch = Fetch
 
--- what a line with this label, this operation of it if any, and this address means; `3` is nothing,
--- and `4` a flush (these two are
--- this project's)
+-- the meaning of a line with this label, its operation, if any, and this address; `3` is nothing,
+-- and `4` a flush (these two are this project's)
 abbrev pub entry_of_label : ℕ → ℕ → Option Op → Option Entry
 entry_of_label label addr (Some op) = item op addr 0
 entry_of_label label addr None = if label == 51 then None else Some entry.Flush
 
--- what a line with this label, `0` to `4`, and this address means
+-- the meaning of a line with this label, `0` to `4`, and this address
 abbrev pub din_entry : ℕ → ℕ → Option Entry
 din_entry label addr = entry_of_label label addr (din_op label)
 
@@ -69,7 +68,7 @@ din_meaning ((label ∷ []) ∷ further) =
     (λ addr. Ok (din_entry label addr))
 din_meaning ((label ∷ more ∷ bytes) ∷ further) = Err Label
 
--- what the labels `I`, `L`, `S`, `M` mean (valgrind's lackey, `--trace-mem=yes`)
+-- the operations of the labels `I`, `L`, `S`, `M` (valgrind's lackey, `--trace-mem=yes`)
 abbrev pub lackey_op : ℕ → Option Op
 lackey_op label =
     if label == 73 then Some Fetch

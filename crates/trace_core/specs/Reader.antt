@@ -23,20 +23,20 @@ pub record Progress : Type 0 where
   pub unread : List ℕ
   pub state : ReaderState
 
--- what a reader in this state still returns, if an open one would return this reading
+-- the reading that a reader in this state still returns, if an open one would return this one
 abbrev pub left_in : ReaderState → Reading → Reading
 left_in state.Open r = r
 left_in state.Ended r = reading_end None
 left_in (state.Failed f) r = reading_end (Some f)
 
--- what a reader will return, if these bytes come and then this ending
+-- the reading that a reader will return, if these bytes come and then this ending
 abbrev pub still_gives : Ending → Progress → List ℕ → Reading
 still_gives e p later = left_in p.state (reading_after e p.format p.limit p.lines
     (p.unread ++ later))
 
--- What may follow the bytes that led to a state (`reported` is what the source still reports):
--- anything while the reader is
--- open, nothing after the end or a failure, and after another fault what is reported.
+-- The continuations of the bytes that led to a state (`reported` is what the source still reports):
+-- anything while the reader is open, nothing after the end or a failure, and after another fault
+-- what is reported.
 abbrev pub MayFollow : Option (List ℕ) → ReaderState → Ending → List ℕ → Type 0
 MayFollow reported state.Open e later = ⊤
 MayFollow reported state.Ended e later = (e ≡ at_end) × (later ≡ [])
@@ -95,7 +95,7 @@ abbrev pub Delivers : Option (List ℕ) → Option (List ℕ) → Bool → List 
 Delivers old new false bytes = Consumes old new bytes
 Delivers old new true bytes = IfSome old (λ before. IfSome new (λ later. before ≡ bytes ++ later))
 
--- what a call returns in a state that isn't open
+-- the result of a call in a state that isn't open
 abbrev pub stopped_result : ReaderState → Result (Option (ℕ × Entry)) TraceFault
 stopped_result state.Open = Ok None
 stopped_result state.Ended = Ok None

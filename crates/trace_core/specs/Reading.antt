@@ -42,7 +42,7 @@ pub record Reading : Type 0 where
 abbrev pub reading_end : Option TraceFault → Reading
 reading_end f = record { entries = []; fault = f }
 
--- what line n gives, and then the later ones; a skipped line gives nothing, and a fault ends the
+-- the entry of line n, and then those of later lines; a skipped line has none, and a fault ends the
 -- reading
 abbrev pub reading_with_line : ℕ → Result (Option Entry) TraceFault → Reading → Reading
 reading_with_line n (Ok None) later = later
@@ -120,6 +120,6 @@ numbered_entry format line = option_map (λ entry. (line.0, entry))
 abbrev pub entries : Format → List ℕ → List Entry
 entries format text = filter_map (λ line. entry_in (meaning format line)) (lines text)
 
--- what a trace gives a cache: the references of its items that are kept, and its flushes
+-- the events that a trace gives a cache: the references of its items that are kept, and its flushes
 abbrev pub events : Format → Kind → List ℕ → List Event
 events format kind text = flat_map (events_of kind) (entries format text)

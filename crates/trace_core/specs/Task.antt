@@ -21,9 +21,9 @@ pub record Task : Type 0 where
   pub limit : ℕ
   -- whether it writes while it reads, and not only after the end of the trace
   pub writes_early : Bool
-  -- what it writes of a text without a fault
+  -- its output for a text without a fault
   pub whole : List ℕ → List ℕ
-  -- what it writes of these entries before a fault
+  -- its output for these entries before a fault
   pub partial : List Entry → List ℕ
 
 -- entries without the numbers of their lines
@@ -43,7 +43,7 @@ pub record HasRead (format : Format) (limit : ℕ) (start now : SourceView) (p :
 abbrev pub entries_in : Reading → List Entry
 entries_in r = entries_of r.entries
 
--- what a run writes if these entries come before the end of a text, or before its first fault
+-- the output of a run if these entries come before the end of a text, or before its first fault
 abbrev pub output_for : Task → List ℕ → List Entry → Option TraceFault → List ℕ
 output_for task text before None = task.whole text
 output_for task text before (Some f) = task.partial before
@@ -99,7 +99,7 @@ pub record BreaksOff (task : Task) (text : List ℕ) (source' : SourceView)
 abbrev pub is_failed_read : TraceFault → Bool
 is_failed_read f = device_failed (state.Failed f)
 
--- What a run did that returned `Ok`.
+-- The effects of a run that returned `Ok`.
 pub record Finished (task : Task) (source source' : SourceView)
     (sink sink' : SinkView) : Type 0 where
   -- the text has no fault, was read to its end, and its whole output was written
@@ -113,7 +113,7 @@ pub record Finished (task : Task) (source source' : SourceView)
   -- the sink was flushed once
   pub flushes : sink'.flushes ≡ one_more sink.flushes
 
--- What a run did that returned this fault of the trace, or this failure of its source.
+-- The effects of a run that returned this fault of the trace, or this failure of its source.
 pub record Stopped (task : Task) (f : TraceFault) (source source' : SourceView)
     (sink sink' : SinkView) : Type 0 where
   -- a fault of the trace is the first of the text, and the output for the entries before it was
@@ -131,7 +131,7 @@ pub record Stopped (task : Task) (f : TraceFault) (source source' : SourceView)
   -- the sink was not flushed
   pub flushes : sink'.flushes ≡ sink.flushes
 
--- What a run did that returned a failed write: a write or the flush failed.
+-- The effects of a run that returned a failed write: a write or the flush failed.
 pub record WriteFailed (task : Task) (source source' : SourceView)
     (sink sink' : SinkView) : Type 0 where
   -- the sink took some part of the output
@@ -151,8 +151,8 @@ pub record WriteFailed (task : Task) (source source' : SourceView)
   -- a sink that was flushed had taken the whole output
   pub last : IfSome source.remaining (λ text. FlushesAfter (task.whole text) sink sink')
 
--- What a run of a task did to a source and a sink, by its result. Each device is seen through its
--- view.
+-- The effects of a run of a task on a source and a sink, by its result. Each device is seen through
+-- its view.
 pub record Performs {T S K : Type 0} (task : Task) (result : Result T RunFault) (source_view : S →
     SourceView) (source source' : S)
     (sink_view : K → SinkView) (sink sink' : K) : Type 0 where

@@ -44,8 +44,8 @@ pub(crate) fn read_plain_line(format: Format, text: &[u8]) -> Option<(Item, usiz
     Some((item, end))
 }
 
-/// As `read_plain_line`, but with any blanks beside the label. Without it a sweep of one cache over
-/// two million lines that are padded with blanks takes 1.7 times as long, and `din` 1.6 times.
+/// `read_plain_line` with any blanks beside the label. Without it a sweep of one cache over two
+/// million lines that are padded with blanks takes 1.7 times as long, and `din` 1.6 times.
 #[inline(always)]
 pub(crate) fn read_spaced_line(format: Format, text: &[u8]) -> Option<(Item, usize)>
     ensures line { IfSome result (λ found. IsFirstByte (is_byte 10) text.now (Some found.1)) }

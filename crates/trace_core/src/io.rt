@@ -11,7 +11,7 @@ pub struct DeviceFault;
 
 /// Where bytes come from.
 pub trait Source {
-    /// What contracts see of a source: the bytes still to come, and how often calls failed so far.
+    /// The view of a source in contracts: the bytes to come, and how often calls failed so far.
     ghost view: { Self → SourceView };
 
     /// Puts bytes into the front of `into`, and returns how many. 0 for a nonempty slice means the
@@ -23,8 +23,8 @@ pub trait Source {
 
 /// Where bytes go to.
 pub trait Sink {
-    /// What contracts see of a sink: the bytes written, and how often calls failed and `flush` was
-    /// called so far.
+    /// The view of a sink in contracts: the bytes written, and how often calls failed and `flush`
+    /// was called so far.
     ghost view: { Self → SinkView };
 
     /// Takes bytes from the front of `from`, at least one of a nonempty slice, and returns their

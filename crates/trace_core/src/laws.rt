@@ -109,9 +109,8 @@ pub fn ended_reader_has_read_all()
         reader.state ≡ ReaderState.Ended → now.remaining ≡ Some [] }
 {}
 
-/// What a whole trace gives: a reader at its end has returned the entries of a text without a
-/// fault, and they give a cache the events of the text. Lemmas: `Entries.entries-reading`,
-/// `Runs.Reached-end`.
+/// A reader at its end has returned the entries of a text without a fault, and they give a cache
+/// the events of the text. Lemmas: `Entries.entries-reading`, `Runs.Reached-end`.
 pub fn whole_trace_gives_its_events()
     ensures faultless { (format : Format) (limit : ℕ) (text : List ℕ) (start now : SourceView)
         (given : List (ℕ × Entry)) (reader : Progress) →
@@ -128,7 +127,7 @@ pub fn whole_trace_gives_its_events()
         flat_map (events_of kind) (entries_of given) ≡ events format kind text }
 {}
 
-/// What one more entry gives a cache comes after what those before it give.
+/// The events that one more entry gives a cache come after those of the entries before it.
 /// Lemma: `EntryEvents.collected-more`.
 pub fn events_come_entry_by_entry()
     ensures { (kind : Kind) (given : List (ℕ × Entry)) (next : ℕ × Entry) →

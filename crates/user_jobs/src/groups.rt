@@ -9,7 +9,7 @@ use crate::text::{Layout, TraceText};
 use arguments::read_number;
 use std::alloc::{AllocError, Global};
 
-/// What a trace is of.
+/// The kind of a trace.
 #[derive(Clone, Copy, Debug, PartialEq, Eq)]
 pub enum Kind {
     /// A program, in the din format.

@@ -31,7 +31,7 @@ impl<'a> Task<'a> {
         }
     }
 
-    /// What it wrote, on all traces together.
+    /// The digest of its output, on all traces together.
     pub fn digest(&self) -> &Digest {
         &self.digest
     }

@@ -16,7 +16,7 @@ pub enum Layout {
     Lackey,
 }
 
-/// What a reference does.
+/// The action of a reference.
 #[derive(Clone, Copy, Debug, PartialEq, Eq)]
 pub enum Action {
     Fetch,

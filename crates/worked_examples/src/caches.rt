@@ -14,7 +14,7 @@ fn one_line(alloc: Global, mode: WriteMode, allocate: AllocMode) -> Result<Cache
     Ok(Cache::new(alloc, geometry, Lru::new(), mode, allocate)?)
 }
 
-/// What a reference does in a new cache, or after another one.
+/// The outcome of a reference in a new cache, or after another one.
 fn outcome_of(
     alloc: Global,
     mode: WriteMode,
@@ -59,10 +59,10 @@ fn passed(reference: Ref) -> Outcome {
     }
 }
 
-/// A cache that allocates or not, a reference before, a reference, and what this one does.
+/// A cache that allocates or not, a reference before, a reference, and the outcome of this one.
 type Row = (AllocMode, Option<Ref>, Ref, Outcome);
 
-/// What each reference does in a cache of a mode.
+/// Compares the outcome of each reference in a cache of a mode.
 fn expect_rows(rt: &impl Abort, alloc: Global, mode: WriteMode, rows: &[Row]) -> Result<(), Fail> {
     for (i, (allocate, first, second, wanted)) in rows.iter().enumerate() {
         let outcome = outcome_of(alloc, mode, *allocate, *first, *second)?;

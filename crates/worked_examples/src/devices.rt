@@ -1,4 +1,4 @@
-//! What devices do with their calls: which parts they give and take, and what a failure leaves.
+//! The calls of devices: which parts they give and take, and what a failure leaves.
 ghost use Rattle.std.specs.Prelude.{◌≤◌, IfOk};
 
 use std::io::{Error, ErrorKind, Read, Write};

@@ -44,8 +44,8 @@ impl<'a> Source for Repeated<'a> {
     }
 }
 
-/// What a sweep of a text so many times writes. Where memory is refused, nothing was read or
-/// written, and that ends the test.
+/// Compares the table of a sweep of the nine lines, `times` over. If memory is refused, nothing was
+/// read or written, and the test ends.
 fn expect_table(
     rt: &impl Abort,
     alloc: Global,

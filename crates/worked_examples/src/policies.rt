@@ -16,7 +16,7 @@ fn one_set<P: Replacement>(alloc: Global, ways: u64, policy: P) -> Result<Cache<
     Ok(Cache::new(alloc, geometry, policy, write, allocate)?)
 }
 
-/// What a read of a block does: whether it hits, and which block it evicts.
+/// The effect of a read of a block: whether it hits, and which block it evicts.
 type Step = (bool, Option<u64>);
 
 const HIT: Step = (true, None);
@@ -27,7 +27,7 @@ fn evicts(block: u64) -> Step {
     (false, Some(block))
 }
 
-/// Reads blocks by their numbers, and compares what each read does.
+/// Reads blocks by their numbers, and compares the effect of each read.
 fn expect_steps<P: Replacement>(rt: &impl Abort, cache: &mut Cache<P>, steps: &[(u64, Step)]) {
     for (i, (block, step)) in steps.iter().enumerate() {
         let access = Access::Read;

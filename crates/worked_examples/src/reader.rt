@@ -1,4 +1,4 @@
-//! What a reader returns, however its text is cut and wherever its source fails.
+//! The results of a reader, however its text is cut and wherever its source fails.
 ghost use Rattle.std.specs.Prelude.{◌≤◌, ◌<◌, length};
 ghost use Rattle.trace_core.specs.declared.limits.TheConstants.{MAX_LINES};
 
@@ -301,7 +301,7 @@ fn a_line_has_4096_bytes_at_most(rt: HostRuntime) -> Result<(), Fail> {
     Ok(())
 }
 
-/// What a din reader of at most three lines returns for a text without end.
+/// Compares the results of a din reader of at most three lines for a text without end.
 fn expect_endless(
     rt: &impl Abort,
     alloc: Global,

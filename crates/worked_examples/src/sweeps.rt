@@ -14,7 +14,7 @@ use sweep_core::{Config, Request, Space, SweepFault};
 use trace_core::devices::{ArraySink, TapeSource};
 use trace_core::{Format, Kind, LineFault, MAX_LINES, Ref, TraceFault};
 
-/// What a sweep of the nine lines over up to two sets of up to two lines writes: 108 bytes.
+/// The table of the nine lines over up to two sets of up to two lines: 108 bytes.
 pub const TABLE: &[u8] = b"bsize,sets,assoc,size,hits,misses,evictions\n\
     16,1,1,16,3,6,5\n16,1,2,32,4,5,3\n16,2,1,32,4,5,3\n16,2,2,64,4,5,2\n";
 
@@ -24,7 +24,7 @@ const HEADER_LEN: usize = 44;
 /// The bytes of each of its rows.
 const ROW_LEN: usize = 16;
 
-/// What a sweep of the nine lines over one set of up to four lines writes.
+/// The table of the nine lines over one set of up to four lines.
 pub const TABLE_OF_ONE_SET: &[u8] = b"bsize,sets,assoc,size,hits,misses,evictions\n\
     16,1,1,16,3,6,5\n16,1,2,32,4,5,3\n16,1,3,48,5,4,1\n16,1,4,64,5,4,0\n";
 
@@ -43,8 +43,8 @@ pub fn request(sets: u64, assoc: (u64, u64), size: (u64, u64)) -> Result<Request
     })
 }
 
-/// What a sweep returns, if there was enough memory. If not, nothing was read or
-/// written, and that ends a test.
+/// The result of a sweep, if there was enough memory. If not, nothing was read or written, and the
+/// test ends.
 fn swept(
     rt: &impl Abort,
     alloc: Global,
@@ -63,8 +63,8 @@ fn swept(
     Ok(answer)
 }
 
-/// What a sweep returns and writes, into sinks that take different parts. It flushes once if it
-/// ends well, and else never.
+/// Compares the result and the table of a sweep, with sinks that take different parts. It flushes
+/// once if it succeeds, and else never.
 fn expect_sweep(
     rt: &impl Abort,
     alloc: Global,

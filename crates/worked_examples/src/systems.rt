@@ -53,7 +53,7 @@ fn split(i: Option<CacheSpec>, d: Option<CacheSpec>) -> FirstLevel {
     FirstLevel { i, d, u: None }
 }
 
-/// What a system counts over some events.
+/// The statistics of a system after some events.
 fn stats_of(
     rt: &impl Abort,
     alloc: Global,
@@ -74,7 +74,7 @@ fn stats_of(
     Ok(system.stats())
 }
 
-/// What a cache counts: all accesses of a kind and the misses among them, evictions, copybacks.
+/// A cache's statistics: all accesses of a kind and the misses among them, evictions, copybacks.
 fn counted(
     fetches: (u64, u64),
     reads: (u64, u64),
@@ -94,7 +94,7 @@ fn counted(
     })
 }
 
-/// What a unified first level, a second level and memory count.
+/// The statistics of a unified first level, a second level and memory.
 fn levels(l1u: Option<CacheStats>, l2u: Option<CacheStats>, memory: (u64, u64)) -> Stats {
     Stats {
         l1i: None,

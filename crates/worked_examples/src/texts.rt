@@ -7,7 +7,7 @@ use std::test::Fail;
 use sweep_core::{Cause, Config, SpaceFault, SweepFault, Which};
 use trace_core::{LineFault, MAX_LINES, TraceFault};
 
-/// What a value is displayed as.
+/// Compares the text as which a value is displayed.
 fn expect_text<T: Display>(
     rt: &impl Abort,
     alloc: Global,

@@ -18,7 +18,7 @@ fn arguments_of(alloc: Global, line: &str) -> Result<Vec<String>, AllocError> {
     Ok(arguments)
 }
 
-/// What `parse` returns for a line.
+/// The result of `parse` for a line.
 fn parsed(alloc: Global, line: &str) -> Result<Command, WordsFault> {
     let arguments = arguments_of(alloc, line)?;
     parse(alloc, &arguments)

@@ -35,7 +35,7 @@ fn one_block() -> Result<Plan, Fail> {
     Ok(Plan::new(first, None)?)
 }
 
-/// What `din` returns for a text without end, of which it takes three lines. It writes nothing.
+/// Compares the fault of `din` for a text without end, of at most three lines. Nothing is written.
 fn expect_endless(
     rt: &impl Abort,
     alloc: Global,
@@ -68,7 +68,7 @@ fn din_ends_though_its_source_does_not(rt: HostRuntime) -> Result<(), Fail> {
 /// Two good lines of the cache lab's handout, and a bad one.
 const BAD: &[u8] = b" L 10,1\n M 20,1\n X 22,1";
 
-/// What `csim -v -s 4 -E 1 -b 4` writes for the good ones.
+/// The output of `csim -v -s 4 -E 1 -b 4` for the good ones.
 const LINES: &[u8] = b"L 10,1 miss\nM 20,1 miss hit\n";
 
 #[test]
@@ -83,8 +83,8 @@ fn csim_writes_the_lines_before_a_bad_one(rt: HostRuntime) -> Result<(), Fail> {
     Ok(())
 }
 
-/// What `csim -v -s 4 -E 1 -b 4` returns over these devices. Where memory is refused, nothing was
-/// read or written, and that ends a test.
+/// The result of `csim -v -s 4 -E 1 -b 4` over these devices. If memory is refused, nothing was
+/// read or written, and the test ends.
 fn lines_of(
     rt: &impl Abort,
     alloc: Global,
@@ -100,7 +100,7 @@ fn lines_of(
     Ok(answer)
 }
 
-/// The same of `din` with a cache of one block.
+/// The result of `din` over these devices with a cache of one block.
 fn report_of(
     rt: &impl Abort,
     alloc: Global,
@@ -187,7 +187,7 @@ fn a_source_of_csim_fails_at_each_of_its_calls(rt: HostRuntime) -> Result<(), Fa
     Ok(())
 }
 
-/// A write and a read of two blocks, and what `din` reports of them with a cache of one.
+/// A write and a read of two blocks, and the report of `din` for them with a cache of one.
 const TWO_BLOCKS: &[u8] = b"1 0\n0 10\n";
 
 const REPORT: &[u8] = b"l1-u fetches=0 fetch-misses=0 reads=1 read-misses=1 \
@@ -239,14 +239,14 @@ fn a_source_of_din_fails_at_each_of_its_calls(rt: HostRuntime) -> Result<(), Fai
     Ok(())
 }
 
-/// What `log` writes of the two blocks.
+/// The output of `log` for the two blocks.
 const ARRIVALS: &[u8] = b"l1-u 1 0 miss\n\
     memory 0 0\n\
     l1-u 0 10 miss eviction 0 dirty\n\
     memory 1 0\n\
     memory 0 10\n";
 
-/// What `log` returns over these devices with a cache of one block.
+/// The result of `log` over these devices with a cache of one block.
 fn arrivals_of(
     rt: &impl Abort,
     alloc: Global,
@@ -291,8 +291,8 @@ fn a_sink_of_log_fails_at_each_of_its_calls(rt: HostRuntime) -> Result<(), Fail>
     Ok(())
 }
 
-/// A job ends well and writes this. Where memory is refused, nothing was read or written, and that
-/// ends a test.
+/// A job succeeds and writes this. If memory is refused, nothing was read or written, and the test
+/// ends.
 fn expect_done(
     rt: &impl Abort,
     alloc: Global,

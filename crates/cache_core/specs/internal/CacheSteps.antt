@@ -9,7 +9,7 @@ use Rattle.cache_core.specs.Slab.{contents_of}
 use Rattle.cache_core.specs.CacheStats.{stats_after_access, stats_after_flush}
 use Rattle.cache_core.specs.internal.SystemCaches.{policy_of, random_numbers_of}
 
--- what the cache holds
+-- the contents of the cache
 abbrev pub system_cache_contents : SystemCache → Contents
 system_cache_contents cache = contents_of policy_of random_numbers_of cache.cache
 

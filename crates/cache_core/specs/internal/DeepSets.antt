@@ -20,7 +20,7 @@ blocks_in lists = map (λ list. length list.blocks) lists
 abbrev pub cleared_sets : Deep → Deep
 cleared_sets list = record list { blocks = [] }
 
--- what is kept of the lists and of the sets that have some blocks
+-- the invariant of the lists and of the sets that have some blocks
 pub record IsDeepSets (capacity : ℕ) (touched : TouchedValue) (lists : List Deep) : Type 0 where
   pub small : capacity ≤ 2 ^ 22
   pub few : length lists ≤ 2 ^ 22

@@ -1,5 +1,5 @@
--- What a cache holds, each set in its policy's order, and one access to it.
--- What only helps the proofs.
+-- The contents of a cache, each set in its policy's order, and one access to it.
+-- Only the proofs need these definitions.
 use Rattle.std.specs.Prelude.{◌≡◌, ◌<◌, ◌≤◌, ℕ, ◌+◌, Bool, false, List, []}
 use Rattle.std.specs.Prelude.{◌∷◌, Option, Some, if◌then◌else◌, ◌==◌, length}
 use Rattle.std.specs.Prelude.{IfSome, is_some, slice_get, slice_index_or}

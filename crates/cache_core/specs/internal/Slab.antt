@@ -1,6 +1,6 @@
 -- A cache's sets in one array of slots: each has a segment of as many slots as it has ways, and the
 -- first of them are filled.
--- What only helps the proofs.
+-- Only the proofs need these definitions.
 use Rattle.std.specs.Prelude.{◌≡◌, ℕ, ◌^◌, List, [], Option}
 use Rattle.std.specs.Prelude.{replicate, None, IfSome, is_some}
 use Rattle.cache_core.specs.Geometry.{GeometryValue}
@@ -14,7 +14,7 @@ use Rattle.cache_core.specs.Outcomes.{hit_in_front}
 use Rattle.cache_core.specs.Slab.{sets_of, CacheValue, contents_of}
 use Rattle.cache_core.specs.internal.Order.{DirtiesByWrites, hits_in_front}
 
--- what a slab holds
+-- the contents of a slab
 abbrev pub slab_contents : Design → Option Repl → (ℕ → ℕ) → List Slot → List ℕ → Contents
 slab_contents d policy numbers slots filled = record {
   design = d;
@@ -28,8 +28,8 @@ slab_contents d policy numbers slots filled = record {
 abbrev pub empty_sets : GeometryValue → List (List Slot)
 empty_sets g = replicate (2 ^ g.s) []
 
--- an access is made if it finds its block in the first slot of its set and sends nothing down; of
--- another access nothing is done
+-- an access is made if it finds its block in the first slot of its set and sends nothing down; any
+-- other access changes nothing
 pub record AccessesInFront {P : Type 0} (policy : P → Option Repl) (numbers : P → ℕ → ℕ)
     (old : CacheValue P) (ref : Ref) (result : Option Outcome) (new : CacheValue P) : Type 0 where
   pub step : IfSome result (λ outcome.

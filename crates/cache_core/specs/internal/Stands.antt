@@ -1,5 +1,5 @@
--- What a cache holds, as what a machine holds after a list of events.
--- What only helps the proofs.
+-- The contents of a cache as those of a machine after a list of events.
+-- Only the proofs need these definitions.
 use Rattle.std.specs.Prelude.{◌≡◌, ◌≤◌, ℕ, ◌+◌, List, [], ◌∷◌, ◌++◌, Some, map, length}
 use Rattle.std.specs.Prelude.{replicate, ◌^◌}
 use Rattle.trace_core.specs.declared.events.Ref.{Ref}
@@ -23,8 +23,8 @@ pub record IsState (m : Machine) (st : MachineState) (c : Contents) : Type 0 whe
   pub count : length c.sets ≡ 2 ^ m.design.geometry.s
   pub sets : (k : ℕ) → slots_of c.sets k ≡ map slot_of (lines_of_set m.design.geometry k st.lines)
 
--- what the lines of a set keep, by where a new block goes: each block has one at most, and they are
--- in order
+-- the invariant of the lines of a set, by where a new block goes: each block has one at most, and
+-- they are in order
 pub record IsGood (placed : Place) (clock : ℕ) (ls : List Line) : Type 0 where
   pub distinct : Distinct ls
   pub order : InOrder placed clock ls

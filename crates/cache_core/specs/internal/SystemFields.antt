@@ -1,4 +1,4 @@
--- What contracts see of a system's fields.
+-- The fields of a system as contracts see them.
 use Rattle.cache_core.specs.declared.system.System.TheInside.{Inside}
 use Rattle.cache_core.specs.internal.SystemSteps.{SystemValue}
 

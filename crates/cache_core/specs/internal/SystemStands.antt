@@ -1,4 +1,4 @@
--- What a system holds, as what its machines hold after a list of events.
+-- The contents of a system as those of its machines after a list of events.
 use Rattle.std.specs.Prelude.{◌≡◌, ℕ, List, [], ◌∷◌, ◌++◌, length, Option, Some, None}
 use Rattle.trace_core.specs.declared.events.Ref.{Ref}
 use Rattle.trace_core.specs.declared.events.Event.{Event}

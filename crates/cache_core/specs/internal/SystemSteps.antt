@@ -1,5 +1,5 @@
--- One step of a system, over what it holds.
--- What only helps the proofs.
+-- One step of a system, over its contents.
+-- Only the proofs need these definitions.
 use Rattle.std.specs.Prelude.{◌≡◌, ◌≤◌, ℕ, ◌+◌, ◌*◌, ◌^◌, Bool, false, List, [], ◌∷◌, Option, Some}
 use Rattle.std.specs.Prelude.{None, if◌then◌else◌, MatchOption, MatchBool, is_some, is_none}
 use Rattle.trace_core.specs.declared.events.Ref.{Ref}
@@ -31,7 +31,7 @@ abbrev pub memory_after : Memory → Ref → Memory
 memory_after memory ref = if is_write ref.access then record memory { writes = memory.writes + 1 }
     else record memory { reads = memory.reads + 1 }
 
--- the same after a list
+-- the memory's counts after some references arrive at it
 abbrev pub memory_after_all : Memory → List Ref → Memory
 memory_after_all memory [] = memory
 memory_after_all memory (ref ∷ refs) = memory_after_all (memory_after memory ref) refs
@@ -55,7 +55,7 @@ AllDescend (ref ∷ refs) second memory lower after =
 abbrev pub nothing_down : List (Option Ref)
 nothing_down = None ∷ None ∷ []
 
--- what a first-level cache does with a reference, and what it sends down; none if it isn't there
+-- a reference at a first-level cache, and those that this sends down; none if it isn't there
 abbrev pub AccessesFirst : Option SystemCache → Ref → Option (List (Option Ref)) →
     Option SystemCache → Type 0
 AccessesFirst cache ref None next = (cache ≡ None) × (next ≡ None)
@@ -136,10 +136,9 @@ accesses_of (Some cache) = accesses cache.stats
 abbrev pub memory_accesses : Memory → ℕ
 memory_accesses memory = memory.reads + memory.writes
 
--- What a system keeps: it made at most 2^41 steps, two for each line of the longest trace; a step
--- is counted at one first-level cache, or
--- as bypassed; it sends at most two references to the second level, and four to memory, to which
--- each copyback comes, too.
+-- The invariant of a system: it made at most 2^41 steps, two for each line of the longest trace; a
+-- step is counted at one first-level cache, or as bypassed; it sends at most two references to the
+-- second level, and four to memory, to which each copyback comes, too.
 pub record IsSystem (v : SystemValue) : Type 0 where
   pub steps : v.steps ≤ 2 ^ 41
   pub first : accesses_of v.i + accesses_of v.d + accesses_of v.u + v.bypassed ≤ v.steps

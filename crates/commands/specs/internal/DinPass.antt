@@ -1,4 +1,4 @@
--- What `din` has stepped its caches through.
+-- The events through which `din` has stepped its caches.
 use Rattle.std.specs.Prelude.{ℕ, List, [], ◌++◌, flat_map}
 use Rattle.trace_core.specs.declared.events.Entry.{Entry}
 use Rattle.trace_core.specs.declared.events.Event.{Event}

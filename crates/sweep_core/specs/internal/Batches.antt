@@ -20,7 +20,7 @@ profiles_after_batch addrs xs = map (pair_after_batch addrs) xs
 abbrev pub AlwaysLeads : ProfileState → ProfileState → Type 0
 AlwaysLeads v w = (addrs : List ℕ) → Leads (after_batch v addrs) (after_batch w addrs)
 
--- what is in front in a profile is so in as many of the next as it says, whatever they are fed
+-- a block in front in a profile is so in as many of the next as it says, whatever they are fed
 abbrev pub AreAlwaysLed : List PairProfile → Type 0
 AreAlwaysLed [] = ⊤
 AreAlwaysLed (x ∷ xs) = (x.implied ≤ length xs) × AllByRecursion

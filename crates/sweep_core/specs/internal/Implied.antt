@@ -8,7 +8,7 @@ use Rattle.profile_core.specs.internal.Fronts.{after_unless_front, profile_with_
 use Rattle.profile_core.specs.internal.Fronts.{IsFit, Leads}
 use Rattle.sweep_core.specs.declared.profiles.PairProfile.{PairProfile}
 
--- how many of the first of some profiles refine a geometry
+-- how many of some profiles, from the first on, refine a geometry
 abbrev pub implied_by : GeometryValue → List PairProfile → ℕ
 implied_by g xs = position_or_len (λ y. not (is_refined g y.profile.geometry)) xs
 
@@ -24,7 +24,7 @@ IsLinked (x ∷ xs) = (x.implied ≤ length xs) ×
     AllByRecursion (λ y. is_refined x.profile.geometry y.profile.geometry ≡ true)
     (take x.implied xs) × IsLinked xs
 
--- what is in front in a profile is so in as many of the next as it says
+-- a block in front in a profile is so in as many of the next as it says
 abbrev pub AreLed : List PairProfile → Type 0
 AreLed [] = ⊤
 AreLed (x ∷ xs) = (x.implied ≤ length xs) × AllByRecursion (λ y. Leads x.profile y.profile)

@@ -1,4 +1,4 @@
--- What the profiles of a sweep hold.
+-- The profiles of a sweep after some events.
 use Rattle.std.specs.Prelude.{◌≡◌, ◌≤◌, ℕ, None, List, map, filter, flat_map, fold, Result, Ok, Err}
 use Rattle.std.specs.List.{AllByRecursion}
 use Rattle.trace_core.specs.declared.events.Ref.{Ref}
@@ -68,7 +68,7 @@ abbrev pub state_after : Result (Unit {0}) TraceFault → ReaderState
 state_after (Ok done) = state.Ended
 state_after (Err fault) = state.Failed fault
 
--- entries were read of a source, and what they give a cache was fed to each profile
+-- entries were read of a source, and their events were fed to each profile
 abbrev pub Feeds : Kind → Format → ℕ → SourceView → SourceView → Progress → List PairProfile →
     List PairProfile → Type 0
 Feeds kind format limit start now p old new =

@@ -44,7 +44,7 @@ counted_run powers v c n = map (λ d. (d, counts_at v d.assoc)) (run_of powers c
 abbrev pub counted_profiles : Bool → List PairProfile → List (Config × Counts)
 counted_profiles powers xs = flat_map (λ x. counted_run powers x.profile x.first x.rows) xs
 
--- the same, those of each profile by themselves
+-- the rows of some profiles, each with its counts, in one list for each profile
 abbrev pub rows_by_pair : Bool → List PairProfile → List (List (Config × Counts))
 rows_by_pair powers xs = map (λ x. counted_run powers x.profile x.first x.rows) xs
 
@@ -73,7 +73,7 @@ rows_to_come powers None later = counted_profiles powers later
 rows_to_come powers (Some w) later = counted_run powers w.profile.now w.next w.left ++
     counted_profiles powers later
 
--- they can be had
+-- the rows that are left have their counts
 pub record MayCome (powers : Bool) (pair : Option PairWalk)
     (later : List PairProfile) : Type 0 where
   pub walks : IfSome pair (λ w. (1 ≤ w.left) × IsWalk powers w)

@@ -1,4 +1,4 @@
--- What contracts see of the devices for tests.
+-- The devices for tests as contracts see them.
 use Rattle.std.specs.Prelude.{ℕ, List}
 
 -- A tape: the rest of its text, the most bytes that a call gives, which call fails (0: none), and
