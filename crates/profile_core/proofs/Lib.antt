@@ -6,7 +6,7 @@ pub mod Shifting
 pub mod Bringing
 pub mod RestBringing
 pub mod RowParts
-pub mod RowsOf
+pub mod RowsBySet
 pub mod PlainRowLemmas
 pub mod Places
 pub mod SparseRestLemmas

@@ -5,15 +5,15 @@ use Rattle.std.specs.Prelude.{replicate}
 use Rattle.std.proofs.lemmas.List.{drop-replicate, take-replicate}
 use Rattle.std.specs.Vec.{with_items}
 use borrow.Rule.Slice.PartMut.{put_mid, same_len_mid}
-use Rattle.profile_core.specs.internal.Rows.{RowsValue, rows_of, row_for, with_row}
+use Rattle.profile_core.specs.internal.Rows.{RowsValue, rows_by_set, row_for, with_row}
 use Rattle.profile_core.specs.internal.PlainRows.{plain_row, IsPlain}
 use Rattle.profile_core.proofs.RowParts.{in_front, part_long, part_read, part_first, part_here}
 use Rattle.profile_core.proofs.RowParts.{part_other, part_lent, part_back}
-use Rattle.profile_core.proofs.RowsOf.{HasRow, known_row, rows_blank, within, row_is, row_put}
+use Rattle.profile_core.proofs.RowsBySet.{HasRow, known_row, rows_blank, within, row_is, row_put}
 
 -- rows of zeros
 pub blank_rows_in : (n m : ℕ) {numbers : List ℕ} → numbers ≡ replicate (m * n) 0 →
-    rows_of m (plain_row n numbers) ≡ replicate m (replicate n 0)
+    rows_by_set m (plain_row n numbers) ≡ replicate m (replicate n 0)
 blank_rows_in n m {numbers} zeros = grind (arith, rows_blank, drop-replicate, take-replicate, in_front)
 
 -- what is known where the row of set k is asked for
@@ -22,14 +22,14 @@ pub record HasPlain (n m k : ℕ) (numbers : List ℕ) (rows : RowsValue) : Type
   pub row : HasRow n m k (plain_row n numbers) rows
 
 pub known : {n m k : ℕ} {numbers : List ℕ} {rows : RowsValue} → IsPlain n m numbers →
-    record { stride = n; rows = rows_of m (plain_row n numbers) } ≡ rows → k < length rows.rows →
+    record { stride = n; rows = rows_by_set m (plain_row n numbers) } ≡ rows → k < length rows.rows →
     HasPlain n m k numbers rows
 known sound seen is_set = record { sound = sound; row = known_row seen is_set }
 
 -- the rows once that of set k is `new`
 pub record IsPut (n m k : ℕ) (numbers : List ℕ) (rows : RowsValue) (new : List ℕ) : Type 0 where
   pub sound : IsPlain n m numbers
-  pub seen : record { stride = n; rows = rows_of m (plain_row n numbers) } ≡ with_row rows k new
+  pub seen : record { stride = n; rows = rows_by_set m (plain_row n numbers) } ≡ with_row rows k new
 
 module _ {n m k : ℕ} {numbers : List ℕ} {rows : RowsValue} (r : HasPlain n m k numbers rows) where
   -- the row ends in the array, which is small
@@ -65,7 +65,7 @@ module _ {n m k : ℕ} {numbers : List ℕ} {rows : RowsValue} (r : HasPlain n m
           small = r.sound.small;
         };
         seen =
-            ap (λ es. record { stride = n; rows = rows_of m (plain_row n es) }) put
+            ap (λ es. record { stride = n; rows = rows_by_set m (plain_row n es) }) put
             ∙ row_put r.row (plain_row n written) new (part_here (k * n) n numbers ends new long)
             (λ j lt other. part_other k j n numbers new (omega (arith, ends)) long other);
       }

@@ -9,7 +9,7 @@ use Rattle.std.proofs.lemmas.List.{get_or_read}
 use Rattle.std.proofs.Math.Seq.{get_or-append_seam}
 use Rattle.profile_core.specs.declared.slotted_rests.Slots.{Slots}
 use Rattle.profile_core.specs.declared.slotted_rests.TheConstants.{BLANK}
-use Rattle.profile_core.specs.internal.Rows.{RowsValue, rows_of, row_for, with_row}
+use Rattle.profile_core.specs.internal.Rows.{RowsValue, rows_by_set, row_for, with_row}
 use Rattle.profile_core.specs.internal.Places.{taken, ArePlaces}
 use Rattle.profile_core.specs.internal.Slots.{listed, IsOrder}
 use Rattle.profile_core.specs.internal.SlottedRests.{no_slots, slots_at, slotted_rest, ArePlaced}
@@ -17,7 +17,7 @@ use Rattle.profile_core.specs.internal.SlottedRests.{IsSlotted}
 use Rattle.profile_core.proofs.Elements.{all_set, all_same}
 use Rattle.profile_core.proofs.Places.{places_then, one_more, place_left, place_here, place_other}
 use Rattle.profile_core.proofs.Places.{places_taken, taken_none, none_taken}
-use Rattle.profile_core.proofs.RowsOf.{HasRow, rows_kept, row_is, rows_blank, row_put}
+use Rattle.profile_core.proofs.RowsBySet.{HasRow, rows_kept, row_is, rows_blank, row_put}
 use Rattle.profile_core.proofs.SlotLemmas.{listed_take, blank_order}
 
 -- slots that have an order
@@ -54,7 +54,7 @@ module _ {places : List ℕ} {rests : List Slots} {room : ℕ} (a : ArePlaced pl
 
   pub written_rests : {n : ℕ} {rows : RowsValue} →
       HasRow n (length places) k (slotted_rest n places rests) rows →
-      record { stride = n; rows = rows_of (length places) (slotted_rest n places rests_then) } ≡
+      record { stride = n; rows = rows_by_set (length places) (slotted_rest n places rests_then) } ≡
       with_row rows k (listed s.order s.numbers n)
   written_rests {n} {rows} r =
       row_put r (slotted_rest n places rests_then) (listed s.order s.numbers n)
@@ -71,7 +71,7 @@ pub record HasOwn (n k p : ℕ) (places : List ℕ) (rests : List Slots) (room :
 
 pub own_of : {n k p room : ℕ} {before lent places : List ℕ} (rests : List Slots)
     {rests' : List Slots} {rows : RowsValue} →
-    record { stride = n; rows = rows_of (length before) (slotted_rest n before rests) } ≡ rows →
+    record { stride = n; rows = rows_by_set (length before) (slotted_rest n before rests) } ≡ rows →
     k < length rows.rows → lent ≡ before → length places ≡ length lent →
     ((j : ℕ) → slots_at places rests' j ≡ slots_at lent rests j) →
     ArePlaced places rests' room → 0 < p → p ≡ get_or places k 0 →
@@ -102,12 +102,12 @@ module _ {n k p room : ℕ} {places : List ℕ} {rests : List Slots} {rows : Row
 
   -- and as they are put back
   pub own_back : {places' : List ℕ} {s : Slots} → places' ≡ places → AreOrdered s →
-      record { stride = n; rows = rows_of (length places') (slotted_rest n places' (set rests p s)) }
+      record { stride = n; rows = rows_by_set (length places') (slotted_rest n places' (set rests p s)) }
       ≡ with_row rows k (listed s.order s.numbers n)
   own_back {places'} {s} places_is ordered =
       let seen : List ℕ → ℕ → RowsValue = λ ps i. record {
         stride = n;
-        rows = rows_of (length ps) (slotted_rest n ps (set rests i s));
+        rows = rows_by_set (length ps) (slotted_rest n ps (set rests i s));
       } in
       ap (λ ps. seen ps p) places_is ∙ ap (seen places) o.which
       ∙ written_rests o.placed k o.own s ordered o.row
@@ -225,7 +225,7 @@ module _ (n m : ℕ) {places : List ℕ} {rests : List Slots} (some : 1 ≤ n) (
       ∙ listed_take BLANK.order BLANK.numbers n 16 most
       ∙ ap (take n) all ∙ take-replicate n 16 0 most
 
-  pub new_rests : rows_of (length places) (slotted_rest n places rests) ≡
+  pub new_rests : rows_by_set (length places) (slotted_rest n places rests) ≡
       replicate m (replicate n 0)
-  new_rests = ap (λ j. rows_of j (slotted_rest n places rests)) place_count ∙
+  new_rests = ap (λ j. rows_by_set j (slotted_rest n places rests)) place_count ∙
       rows_blank m n (slotted_rest n places rests) (λ k lt. blank_rest k)

@@ -9,7 +9,7 @@ use Rattle.std.proofs.lemmas.List.{take-append-le, take-replicate, drop_at, take
 use Rattle.std.proofs.lemmas.List.{length-replicate, length-take-le}
 use Rattle.std.specs.Vec.{with_items}
 use borrow.Rule.Slice.PartMut.{put_mid}
-use Rattle.profile_core.specs.internal.Rows.{RowsValue, rows_of, row_for, with_row}
+use Rattle.profile_core.specs.internal.Rows.{RowsValue, rows_by_set, row_for, with_row}
 use Rattle.profile_core.specs.internal.Places.{taken}
 use Rattle.profile_core.specs.internal.SparseRests.{sparse_rest, IsSparse}
 use Rattle.profile_core.proofs.Elements.{all_same}
@@ -17,7 +17,7 @@ use Rattle.profile_core.proofs.Places.{places_then, one_more, place_left, place_
 use Rattle.profile_core.proofs.Places.{places_taken}
 use Rattle.profile_core.proofs.RowParts.{in_front, part_long, part_here, part_other, part_same}
 use Rattle.profile_core.proofs.RowParts.{part_lent, part_back}
-use Rattle.profile_core.proofs.RowsOf.{HasRow, rows_kept, row_is, rows_blank, row_put}
+use Rattle.profile_core.proofs.RowsBySet.{HasRow, rows_kept, row_is, rows_blank, row_put}
 
 at_first : (n : ℕ) (xs : List ℕ) → take n (drop (0 * n) xs) ≡ take n xs
 at_first n xs =
@@ -50,7 +50,7 @@ module _ {n room : ℕ} {places numbers : List ℕ} (a : IsSparse n places numbe
 
     pub written_rests : {rows : RowsValue} →
         HasRow n (length places) k (sparse_rest n places numbers) rows →
-        record { stride = n; rows = rows_of (length places) (sparse_rest n places written) } ≡
+        record { stride = n; rows = rows_by_set (length places) (sparse_rest n places written) } ≡
         with_row rows k new
     written_rests r = row_put r (sparse_rest n places written) new
         (part_here (get_or places k 0 * n) n numbers (rest_ends k) new long)
@@ -65,7 +65,7 @@ pub record HasOwn (n k p : ℕ) (places numbers : List ℕ) (room : ℕ) (rows :
 
 pub own_of : {n k p room : ℕ} {before lent places : List ℕ} (numbers : List ℕ)
     {numbers' : List ℕ} {rows : RowsValue} →
-    record { stride = n; rows = rows_of (length before) (sparse_rest n before numbers) } ≡ rows →
+    record { stride = n; rows = rows_by_set (length before) (sparse_rest n before numbers) } ≡ rows →
     k < length rows.rows → lent ≡ before → length places ≡ length lent →
     ((j : ℕ) → sparse_rest n places numbers' j ≡ sparse_rest n lent numbers j) →
     IsSparse n places numbers' room → 0 < p → p ≡ get_or places k 0 →
@@ -98,12 +98,12 @@ pub own_back : {Z : Type 0} {n k p room : ℕ} {places places' : List ℕ} {rows
     {now : List ℕ} (new : List ℕ) → now ≡ v.items → length now ≡ v.len →
     length new ≡ length (take (p * n + n - p * n) (drop (p * n) now)) → record {
       stride = n;
-      rows = rows_of (length places') (sparse_rest n places'
+      rows = rows_by_set (length places') (sparse_rest n places'
           (with_items v (put_mid (p * n) (p * n + n - p * n) now new)).items);
     } ≡ with_row rows k new
 own_back {Z} {n} {k} {p} {room} {places} v o places_is {now} new is len long =
     let seen : List ℕ → List ℕ → RowsValue =
-    λ ps ns. record { stride = n; rows = rows_of (length ps) (sparse_rest n ps ns) } in
+    λ ps ns. record { stride = n; rows = rows_by_set (length ps) (sparse_rest n ps ns) } in
     ap (λ ps. seen ps (with_items v (put_mid (p * n) (p * n + n - p * n) now new)).items) places_is
     ∙ ap (seen places) (part_back v (p * n) n new is len long ∙
     ap (λ q. put_mid (q * n) n v.items new) o.which)
@@ -180,6 +180,6 @@ module _ (n m : ℕ) {places numbers : List ℕ} (some : 1 ≤ n) (none : places
   place_count : length places ≡ m
   place_count = ap length none ∙ length-replicate m 0
 
-  pub new_rests : rows_of (length places) (sparse_rest n places numbers) ≡
+  pub new_rests : rows_by_set (length places) (sparse_rest n places numbers) ≡
       replicate m (replicate n 0)
   new_rests = grind (arith, place_count, rows_blank, place_none, at_first, take-replicate)

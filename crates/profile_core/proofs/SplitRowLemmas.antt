@@ -9,12 +9,12 @@ use Rattle.std.proofs.lemmas.Bool.{ne_eqb}
 use Rattle.std.proofs.lemmas.List.{take_all, get_or-replicate, length-replicate, set-get_or}
 use Rattle.profile_core.specs.internal.Moves.{index_of, is_in, is_front, is_second, move_to_front}
 use Rattle.profile_core.specs.internal.Moves.{touch_of, rest_touch_of}
-use Rattle.profile_core.specs.internal.Rows.{RowsValue, rows_of, row_for, with_row}
+use Rattle.profile_core.specs.internal.Rows.{RowsValue, rows_by_set, row_for, with_row}
 use Rattle.profile_core.specs.internal.Rows.{blank_rows, list_in_row}
 use Rattle.profile_core.specs.internal.Lists.{IsBroughtInRow}
 use Rattle.profile_core.specs.internal.SplitRows.{split_row, split_rows, AreSplitRows}
 use Rattle.profile_core.proofs.Elements.{all_set, all_same}
-use Rattle.profile_core.proofs.RowsOf.{HasRow, known_row, rows_blank, within, row_is, row_put}
+use Rattle.profile_core.proofs.RowsBySet.{HasRow, known_row, rows_blank, within, row_is, row_put}
 use Rattle.profile_core.proofs.Shifting.{index_behind, other_front}
 
 -- where a block stands behind the first two, neither of which it is
@@ -111,7 +111,7 @@ module _ (m : ℕ) {firsts : List ℕ} {rests : RowsValue} (none : firsts ≡ re
   new_rows =
       let next : suc rests.stride ≡ rests.stride + 1 = omega arith in
       ap (λ rs. record { stride = rests.stride + 1; rows = rs })
-      (ap (λ j. rows_of j (split_row firsts rests.rows)) count
+      (ap (λ j. rows_by_set j (split_row firsts rests.rows)) count
       ∙ rows_blank m (rests.stride + 1) (split_row firsts rests.rows)
       (λ k lt. ap (λ x. x ∷ get_or rests.rows k []) (ap (λ fs. get_or fs k 0) none ∙ all_same m k 0)
       ∙ ap (λ (xs : List ℕ). 0 ∷ xs) (rest_at k lt)
@@ -156,7 +156,7 @@ module _ {k : ℕ} {firsts : List ℕ} {rests rows : RowsValue} (r : HasSplit k 
         ∙ ap (as_rows (set firsts k y)) put
         ∙ ap (λ j. record {
           stride = rests.stride + 1;
-          rows = rows_of j (split_row (set firsts k y) (set rests.rows k new));
+          rows = rows_by_set j (split_row (set firsts k y) (set rests.rows k new));
         }) (length-set rests.rows k new)
         ∙ row_put r.row (split_row (set firsts k y) (set rests.rows k new)) (y ∷ new)
         (ap (λ x. x ∷ get_or (set rests.rows k new) k []) (get_or-set_same firsts k y 0 is_first)

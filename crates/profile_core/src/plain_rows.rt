@@ -18,14 +18,14 @@ pub struct PlainRows {
 }
 
 impl Model for PlainRows {
-    ghost use Rattle.profile_core.specs.internal.Rows.{RowsValue, rows_of};
+    ghost use Rattle.profile_core.specs.internal.Rows.{RowsValue, rows_by_set};
     ghost use Rattle.profile_core.specs.internal.PlainRows.{plain_row, IsPlain};
 
     ghost Value = { RowsValue };
 
     ghost view = { λ r. record {
       stride = r.stride;
-      rows = rows_of r.sets (plain_row r.stride r.numbers.items);
+      rows = rows_by_set r.sets (plain_row r.stride r.numbers.items);
     } };
 
     ghost invariant = { λ r. IsPlain r.stride r.sets r.numbers.items };

@@ -52,14 +52,14 @@ pub struct SlottedRests {
 
 impl Model for SlottedRests {
     ghost use Rattle.std.specs.Prelude.{vec_capacity, length};
-    ghost use Rattle.profile_core.specs.internal.Rows.{RowsValue, rows_of};
+    ghost use Rattle.profile_core.specs.internal.Rows.{RowsValue, rows_by_set};
     ghost use Rattle.profile_core.specs.internal.SlottedRests.{slotted_rest, IsSlotted};
 
     ghost Value = { RowsValue };
 
     ghost view = { λ r. record {
       stride = r.stride;
-      rows = rows_of (length r.places.items) (slotted_rest r.stride r.places.items r.rests.items);
+      rows = rows_by_set (length r.places.items) (slotted_rest r.stride r.places.items r.rests.items);
     } };
 
     ghost invariant = { λ r.

@@ -25,14 +25,14 @@ pub struct SparseRests {
 
 impl Model for SparseRests {
     ghost use Rattle.std.specs.Prelude.{vec_capacity, length};
-    ghost use Rattle.profile_core.specs.internal.Rows.{RowsValue, rows_of};
+    ghost use Rattle.profile_core.specs.internal.Rows.{RowsValue, rows_by_set};
     ghost use Rattle.profile_core.specs.internal.SparseRests.{sparse_rest, IsSparse};
 
     ghost Value = { RowsValue };
 
     ghost view = { λ r. record {
       stride = r.stride;
-      rows = rows_of (length r.places.items) (sparse_rest r.stride r.places.items r.numbers.items);
+      rows = rows_by_set (length r.places.items) (sparse_rest r.stride r.places.items r.numbers.items);
     } };
 
     ghost invariant = { λ r.

@@ -9,8 +9,8 @@ pub record RowsValue : Type 0 where
   pub rows : List (List ℕ)
 
 -- a row for each of m sets
-unfoldable pub rows_of : ℕ → (ℕ → List ℕ) → List (List ℕ)
-rows_of m row = map row (range_with_len 0 m)
+unfoldable pub rows_by_set : ℕ → (ℕ → List ℕ) → List (List ℕ)
+rows_by_set m row = map row (range_with_len 0 m)
 
 -- rows of zeros for so many sets
 abbrev pub blank_rows : ℕ → ℕ → RowsValue

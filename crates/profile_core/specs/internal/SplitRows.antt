@@ -1,6 +1,6 @@
 -- Rows of which the first number stands in an array, and the others in a rest.
 use Rattle.std.specs.Prelude.{ℕ, ◌≡◌, ◌≤◌, ◌^◌, List, [], ◌∷◌, length, slice_index, slice_index_or}
-use Rattle.profile_core.specs.internal.Rows.{RowsValue, AreLong, rows_of}
+use Rattle.profile_core.specs.internal.Rows.{RowsValue, AreLong, rows_by_set}
 
 -- the row of set k
 abbrev pub split_row : List ℕ → List (List ℕ) → ℕ → List ℕ
@@ -8,7 +8,7 @@ split_row firsts rests k = slice_index firsts k ∷ slice_index_or rests k []
 
 -- the rows of all sets
 abbrev pub split_rows : List ℕ → List (List ℕ) → List (List ℕ)
-split_rows firsts rests = rows_of (length rests) (split_row firsts rests)
+split_rows firsts rests = rows_by_set (length rests) (split_row firsts rests)
 
 -- what is true of the fields of every value
 pub record AreSplitRows (firsts : List ℕ) (rests : RowsValue) : Type 0 where

@@ -4,7 +4,7 @@ use Rattle.profile_core.specs.internal.Moves.{is_front, is_second, touch_of}
 use Rattle.profile_core.specs.internal.Lists.{IsRow, IsBroughtInRow}
 use Rattle.profile_core.specs.internal.Rows.{list_in_row}
 use Rattle.profile_core.proofs.PlainRowLemmas.{known, ends, numbers_small, lent, row_size, put_back}
-use Rattle.profile_core.proofs.RowsOf.{stride_is, put_is, put_others}
+use Rattle.profile_core.proofs.RowsBySet.{stride_is, put_is, put_others}
 use Rattle.profile_core.proofs.plain_rows.PlainRowsRowStore.bring.Goals as goal
 
 pub overflow_mul-start : goal.overflow_mul-start

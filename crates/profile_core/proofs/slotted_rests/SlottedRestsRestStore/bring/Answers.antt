@@ -6,7 +6,7 @@ use Rattle.std.proofs.lemmas.List.{with_items_is}
 use Rattle.profile_core.specs.internal.Moves.{index_of, rest_touch_of}
 use Rattle.profile_core.specs.internal.Rows.{row_for}
 use Rattle.profile_core.specs.internal.SlottedRests.{IsSlotted}
-use Rattle.profile_core.proofs.RowsOf.{known_row, within, stride_is, put_is, put_others}
+use Rattle.profile_core.proofs.RowsBySet.{known_row, within, stride_is, put_is, put_others}
 use Rattle.profile_core.proofs.SlotLemmas.{length-listed, listed_take}
 use Rattle.profile_core.proofs.SlottedRestLemmas.{own_of, own_listed, own_back, written_placed}
 use Rattle.profile_core.proofs.slotted_rests.SlottedRestsRestStore.bring.Goals as goal

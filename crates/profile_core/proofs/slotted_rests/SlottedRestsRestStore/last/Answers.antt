@@ -3,7 +3,7 @@ use Rattle.std.proofs.Common.{◌≡◌, ◌<◌, length, ◌-◌, ◌∙◌, ge
 use Rattle.std.proofs.lemmas.List.{get_or_read}
 use Rattle.profile_core.specs.internal.SlottedRests.{no_slots, slots_at}
 use Rattle.profile_core.specs.internal.Rows.{row_for}
-use Rattle.profile_core.proofs.RowsOf.{known_row, within, stride_is, row_is}
+use Rattle.profile_core.proofs.RowsBySet.{known_row, within, stride_is, row_is}
 use Rattle.profile_core.proofs.SlotLemmas.{listed_at}
 use Rattle.profile_core.proofs.SlottedRestLemmas.{AreOrdered, slots_are}
 use Rattle.profile_core.proofs.slotted_rests.SlottedRestsRestStore.last.Goals as goal

@@ -4,7 +4,7 @@ use Rattle.std.specs.List.{remove}
 use Rattle.std.proofs.lemmas.List.{with_items_is}
 use Rattle.profile_core.specs.internal.Moves.{index_of, rest_touch_of}
 use Rattle.profile_core.specs.internal.Rows.{row_for}
-use Rattle.profile_core.proofs.RowsOf.{known_row, within, stride_is, put_is, put_others}
+use Rattle.profile_core.proofs.RowsBySet.{known_row, within, stride_is, put_is, put_others}
 use Rattle.profile_core.proofs.SparseRestLemmas.{own_of, own_ends, own_lent, own_long, own_back}
 use Rattle.profile_core.proofs.sparse_rests.SparseRestsRestStore.bring.Goals as goal
 

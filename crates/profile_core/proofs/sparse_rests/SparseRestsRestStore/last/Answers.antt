@@ -3,7 +3,7 @@ use Rattle.std.proofs.Common.{◌≡◌, ◌<◌, length, ◌+◌, ◌-◌, ◌*
 use Rattle.std.proofs.lemmas.List.{get_or_read}
 use Rattle.profile_core.specs.internal.Rows.{row_for}
 use Rattle.profile_core.proofs.RowParts.{part_read}
-use Rattle.profile_core.proofs.RowsOf.{known_row, within, stride_is, row_is}
+use Rattle.profile_core.proofs.RowsBySet.{known_row, within, stride_is, row_is}
 use Rattle.profile_core.proofs.SparseRestLemmas.{rest_ends}
 use Rattle.profile_core.proofs.sparse_rests.SparseRestsRestStore.last.Goals as goal
 use Rattle.profile_core.proofs.sparse_rests.SparseRestsRestStore.last.Goals.{After-index}

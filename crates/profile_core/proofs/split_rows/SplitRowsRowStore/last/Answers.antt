@@ -1,7 +1,7 @@
 -- The last number of a row is that of its rest.
 use Rattle.std.proofs.Common.{◌≡◌, ◌-◌, ◌∙◌, ◌∷◌, suc, List, ℕ, get_or, ap, arith, sym}
 use Rattle.profile_core.specs.internal.Rows.{row_for}
-use Rattle.profile_core.proofs.RowsOf.{stride_is, row_is}
+use Rattle.profile_core.proofs.RowsBySet.{stride_is, row_is}
 use Rattle.profile_core.proofs.SplitRowLemmas.{known, is_rest}
 use Rattle.profile_core.proofs.split_rows.SplitRowsRowStore.last.Goals as goal
 
