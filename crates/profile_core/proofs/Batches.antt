@@ -10,7 +10,8 @@ use Rattle.profile_core.specs.internal.State.{ProfileState, fed_of, after_refere
 use Rattle.profile_core.specs.internal.Fronts.{is_front_of, after_unless_front, after_batch}
 use Rattle.profile_core.specs.internal.Fronts.{fed_of_batch}
 
--- some addresses, at most n, were fed to profile v, which is w now, and did not find `left` in front
+-- some addresses, at most n, were fed to profile v, which is w now, and did not find `left` in
+-- front
 pub record IsFed (n : ℕ) (given : List ℕ) (v w : ProfileState) (left : List ℕ) : Type 0 where
   pub step : w ≡ after_batch v given
   pub kept : left ≡ fed_of_batch v given

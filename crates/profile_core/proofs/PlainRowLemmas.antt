@@ -1,5 +1,6 @@
 -- Rows in the order of the sets: where they stand, and one of them written anew.
-use Rattle.std.proofs.Common.{◌≡◌, ℕ, ◌+◌, ◌-◌, ◌*◌, ◌<◌, ◌≤◌, ◌^◌, List, length, take, drop, get_or}
+use Rattle.std.proofs.Common.{◌≡◌, ℕ, ◌+◌, ◌-◌, ◌*◌, ◌<◌, ◌≤◌, ◌^◌, List, length, take, drop}
+use Rattle.std.proofs.Common.{get_or}
 use Rattle.std.proofs.Common.{set, sym, ◌∙◌, ap, arith, length-set, Vec}
 use Rattle.std.specs.Prelude.{replicate}
 use Rattle.std.proofs.lemmas.List.{drop-replicate, take-replicate}
@@ -14,7 +15,8 @@ use Rattle.profile_core.proofs.RowsBySet.{HasRow, known_row, rows_blank, within,
 -- rows of zeros
 pub blank_rows_in : (n m : ℕ) {numbers : List ℕ} → numbers ≡ replicate (m * n) 0 →
     rows_by_set m (plain_row n numbers) ≡ replicate m (replicate n 0)
-blank_rows_in n m {numbers} zeros = grind (arith, rows_blank, drop-replicate, take-replicate, in_front)
+blank_rows_in n m {numbers} zeros = grind (arith, rows_blank, drop-replicate, take-replicate,
+    in_front)
 
 -- what is known where the row of set k is asked for
 pub record HasPlain (n m k : ℕ) (numbers : List ℕ) (rows : RowsValue) : Type 0 where
@@ -22,7 +24,8 @@ pub record HasPlain (n m k : ℕ) (numbers : List ℕ) (rows : RowsValue) : Type
   pub row : HasRow n m k (plain_row n numbers) rows
 
 pub known : {n m k : ℕ} {numbers : List ℕ} {rows : RowsValue} → IsPlain n m numbers →
-    record { stride = n; rows = rows_by_set m (plain_row n numbers) } ≡ rows → k < length rows.rows →
+    record { stride = n; rows = rows_by_set m (plain_row n numbers) } ≡ rows →
+    k < length rows.rows →
     HasPlain n m k numbers rows
 known sound seen is_set = record { sound = sound; row = known_row seen is_set }
 
@@ -71,7 +74,8 @@ module _ {n m k : ℕ} {numbers : List ℕ} {rows : RowsValue} (r : HasPlain n m
       }
 
   -- its first number alone
-  pub first_put : (x : ℕ) → 0 < n → IsPut n m k (set numbers (k * n) x) rows (set (row_for rows k) 0 x)
+  pub first_put : (x : ℕ) → 0 < n → IsPut n m k (set numbers (k * n) x) rows (set (row_for rows k)
+      0 x)
   first_put x some = plain_put (set (row_for rows k) 0 x)
       (length-set (row_for rows k) 0 x ∙ row_size)
       (part_first (k * n) n numbers ends x some
@@ -83,4 +87,5 @@ pub put_back : {Z : Type 0} {n m k : ℕ} (v : Vec ℕ Z) {rows : RowsValue} →
     length new ≡ length (take (k * n + n - k * n) (drop (k * n) now)) →
     IsPut n m k (with_items v (put_mid (k * n) (k * n + n - k * n) now new)).items rows new
 put_back {Z} {n} {m} {k} v r {now} {new} is len long =
-    plain_put r new (long ∙ ap length (lent r is) ∙ row_size r) (part_back v (k * n) n new is len long)
+    plain_put r new (long ∙ ap length (lent r is) ∙ row_size r) (part_back v (k * n) n new is len
+        long)

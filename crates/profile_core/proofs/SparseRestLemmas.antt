@@ -65,7 +65,8 @@ pub record HasOwn (n k p : ℕ) (places numbers : List ℕ) (room : ℕ) (rows :
 
 pub own_of : {n k p room : ℕ} {before lent places : List ℕ} (numbers : List ℕ)
     {numbers' : List ℕ} {rows : RowsValue} →
-    record { stride = n; rows = rows_by_set (length before) (sparse_rest n before numbers) } ≡ rows →
+    record { stride = n; rows = rows_by_set (length before) (sparse_rest n before numbers) } ≡
+    rows →
     k < length rows.rows → lent ≡ before → length places ≡ length lent →
     ((j : ℕ) → sparse_rest n places numbers' j ≡ sparse_rest n lent numbers j) →
     IsSparse n places numbers' room → 0 < p → p ≡ get_or places k 0 →
@@ -136,14 +137,16 @@ module _ {n room : ℕ} {places numbers : List ℕ} (a : IsSparse n places numbe
         small = subst (λ m. (m + 1) * n ≤ 2 ^ 26) (sym long) a.small;
         numbers_len =
             length-append numbers first ∙
-            omega (arith, a.numbers_len, first_long, ap (λ m. (m + 1) * n) (one_more a.own lt none));
+            omega (arith, a.numbers_len, first_long, ap (λ m. (m + 1) * n) (one_more a.own lt
+                none));
         fits = omega (arith, le, subst (λ m. (m + 1) * n ≤ room) (sym long) a.fits);
         own = places_taken a.own lt none;
       }
 
   more_same : (j : ℕ) →
       sparse_rest n (places_then a.own lt none) numbers_more j ≡ sparse_rest n places numbers j
-  more_same j = grind (arith, cases_eq, place_here, place_other, drop_at, take-take, at_first, part_same, take-append-le, rest_ends)
+  more_same j = grind (arith, cases_eq, place_here, place_other, drop_at, take-take, at_first,
+      part_same, take-append-le, rest_ends)
 
 -- the same rests, once set k has its own
 pub record IsReady (n k : ℕ) (places numbers : List ℕ) (room : ℕ)

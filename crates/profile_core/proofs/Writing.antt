@@ -73,7 +73,8 @@ module _ {k held front : ℕ} {fronts : List ℕ} {rows : RowsValue} {lens : Lis
         lists
     brought = record {
       listed = record {
-        fronts_len = length-set fronts k front' ∙ t.known.sound.fronts_len ∙ sym (length-set lens k len);
+        fronts_len = length-set fronts k front' ∙ t.known.sound.fronts_len ∙ sym (length-set lens k
+            len);
         rows_len = omega (
           arith,
           t.known.sound.rows_len,
@@ -83,7 +84,8 @@ module _ {k held front : ℕ} {fronts : List ℕ} {rows : RowsValue} {lens : Lis
         long = λ i lt. all_set (λ j row. j < length rows.rows → length row ≡ n) rows.rows k new []
             (among_rows t.known) (λ _. long) (λ j _. t.known.sound.long j) i
             (omega (arith, lt, length-set rows.rows k new));
-        small = subst (λ (m : ℕ). m * (n + 1) ≤ 2 ^ 22) (sym (length-set lens k len)) t.known.sound.small;
+        small = subst (λ (m : ℕ). m * (n + 1) ≤ 2 ^ 22) (sym (length-set lens k len))
+            t.known.sound.small;
         short = all_set (λ _ m. m ≤ n + 1) lens k len 0 (within t.known) short
             (λ j _. t.known.sound.short j);
         blank = all_set (λ j m. m ≡ 0 → get_or (set fronts k front') j 0 ≡ 0) lens k len 0

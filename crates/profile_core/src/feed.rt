@@ -5,7 +5,8 @@ ghost use Rattle.std.specs.Prelude.{slice_index_or};
 ghost use Rattle.cache_core.specs.Geometry.{block_of};
 ghost use Rattle.profile_core.specs.internal.KeptLists.{lists_of};
 ghost use Rattle.profile_core.specs.internal.Moves.{is_second};
-ghost use Rattle.profile_core.specs.internal.State.{fed_of, profile_of, AreSound, MayBeFed, Feeds};
+ghost use Rattle.profile_core.specs.internal.State.{fed_of, profile_of, AreSound, MayBeFed};
+ghost use Rattle.profile_core.specs.internal.State.{FeedsBlock};
 ghost use Rattle.profile_core.specs.internal.Fronts.{is_front_of, after_unless_front};
 ghost use Rattle.profile_core.specs.internal.Fronts.{after_batch, fed_of_batch};
 
@@ -161,7 +162,7 @@ fn feed_behind_apart(
     block: u64,
 )
     requires { MayBeFed geometry.now (lists_of lists.old) histograms.old set block }
-    ensures { Feeds geometry.now (lists_of lists.old) histograms.old block (lists_of lists.new)
+    ensures { FeedsBlock geometry.now (lists_of lists.old) histograms.old block (lists_of lists.new)
         histograms.new }
 {
     if let KeptLists::InRows(lists) = lists {
@@ -181,7 +182,7 @@ fn feed_otherwise(
     block: u64,
 )
     requires { MayBeFed geometry.now (lists_of lists.old) histograms.old set block }
-    ensures { Feeds geometry.now (lists_of lists.old) histograms.old block (lists_of lists.new)
+    ensures { FeedsBlock geometry.now (lists_of lists.old) histograms.old block (lists_of lists.new)
         histograms.new }
 {
     match lists {
@@ -203,7 +204,7 @@ fn feed_by_parts<L: SetLists>(
     block: u64,
 )
     requires { MayBeFed geometry.now (L.view lists.old) histograms.old set block }
-    ensures { Feeds geometry.now (L.view lists.old) histograms.old block (L.view lists.new)
+    ensures { FeedsBlock geometry.now (L.view lists.old) histograms.old block (L.view lists.new)
         histograms.new }
 {
     if lists.is_second(set, block) {
@@ -223,7 +224,7 @@ fn feed_behind<L: SetLists>(
     block: u64,
 )
     requires { MayBeFed geometry (L.view lists.old) histograms.old set block }
-    ensures { Feeds geometry (L.view lists.old) histograms.old block (L.view lists.new)
+    ensures { FeedsBlock geometry (L.view lists.old) histograms.old block (L.view lists.new)
         histograms.new }
 {
     if lists.is_second(set, block) {
@@ -244,7 +245,7 @@ fn feed_second<L: SetLists>(
 )
     requires ready { MayBeFed geometry (L.view lists.old) histograms.old set block }
     requires second { is_second block (slice_index_or (L.view lists.old).lists set []) ≡ true }
-    ensures { Feeds geometry (L.view lists.old) histograms.old block (L.view lists.new)
+    ensures { FeedsBlock geometry (L.view lists.old) histograms.old block (L.view lists.new)
         histograms.new }
 {
     lists.bring_second(set, block);
@@ -263,7 +264,7 @@ fn feed_further_apart<L: SetLists>(
 )
     requires ready { MayBeFed geometry.now (L.view lists.old) histograms.old set block }
     requires further { is_second block (slice_index_or (L.view lists.old).lists set []) ≡ false }
-    ensures { Feeds geometry.now (L.view lists.old) histograms.old block (L.view lists.new)
+    ensures { FeedsBlock geometry.now (L.view lists.old) histograms.old block (L.view lists.new)
         histograms.new }
 {
     feed_further(*geometry, lists, histograms, set, block);
@@ -281,7 +282,7 @@ fn feed_further<L: SetLists>(
 )
     requires ready { MayBeFed geometry (L.view lists.old) histograms.old set block }
     requires further { is_second block (slice_index_or (L.view lists.old).lists set []) ≡ false }
-    ensures { Feeds geometry (L.view lists.old) histograms.old block (L.view lists.new)
+    ensures { FeedsBlock geometry (L.view lists.old) histograms.old block (L.view lists.new)
         histograms.new }
 {
     match lists.bring(set, block) {

@@ -25,10 +25,10 @@ const SLOTTED_FROM: usize = 12;
 
 const SLOTTED_TO: usize = 16;
 
-/// The lists of all sets, in one of these ways: each list in a row, and the rows in the order of the
-/// sets; or only its second block there, and the others in slots or in a rest that its set takes as
-/// it needs one; or, where lists may be long, the first blocks of each in a row, and the others in a
-/// deep list.
+/// The lists of all sets, in one of these ways: each list in a row, and the rows in the order of
+/// the sets; or only its second block there, and the others in slots or in a rest that its set
+/// takes as it needs one; or, where lists may be long, the first blocks of each in a row, and the
+/// others in a deep list.
 #[derive(Drop)]
 pub enum KeptLists {
     InRows(RecencyLists<PlainRows>),

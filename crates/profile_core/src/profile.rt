@@ -57,11 +57,11 @@ impl Profile {
         Profile::with_lists(alloc, b, s, depth, lists)
     }
 
-    /// A profile as `new` makes it, to be fed batches: what a set needs for its third block and those
-    /// behind is cleared when it has three blocks. With a depth of 12 to 16 and up to 4,096 sets it
-    /// takes 184 and a quarter bytes for each set in all; with a depth of 32 to 255 and more sets 4
-    /// bytes more for each set than `new`, and a row. A sweep makes such profiles. Fed one
-    /// reference after the other, by itself, such a profile can take twice the time.
+    /// A profile as `new` makes it, to be fed batches: what a set needs for its third block and
+    /// those behind is cleared when it has three blocks. With a depth of 12 to 16 and up to 4,096
+    /// sets it takes 184 and a quarter bytes for each set in all; with a depth of 32 to 255 and
+    /// more sets 4 bytes more for each set than `new`, and a row. A sweep makes such profiles. Fed
+    /// one reference after the other, by itself, such a profile can take twice the time.
     pub fn new_sparse(alloc: Global, b: u64, s: u64, depth: u64) -> Result<Profile, AllocError>
         requires { IsGeometry (geometry_value s depth b) }
         ensures { IfOk result (λ profile. profile ≡ empty (geometry_value s depth b)) }

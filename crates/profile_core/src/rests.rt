@@ -23,9 +23,9 @@ pub trait RestStore: Drop {
         requires some { 0 < (view self.now).stride }
         ensures { result ≡ slice_index (row_for (view self.now) set) ((view self.now).stride - 1) };
 
-    /// Takes a block out of a set's list of `len` blocks, if it is there, and puts `second` in front
-    /// of the rest. The block is neither the first nor the second of the list. The list may grow by
-    /// one, if the rest is longer. No other rest changes.
+    /// Takes a block out of a set's list of `len` blocks, if it is there, and puts `second` in
+    /// front of the rest. The block is neither the first nor the second of the list. The list may
+    /// grow by one, if the rest is longer. No other rest changes.
     fn bring(&mut self, set: usize, second: u64, len: &mut u32, block: u64) -> Touch
         requires within { set < length (view self.old).rows }
         requires some { 0 < (view self.old).stride }

@@ -39,10 +39,10 @@ const BLANK: Slots = Slots {
     numbers: [0; SLOTS],
 };
 
-/// A rest for each set, of 1 to 16 numbers. `rests` begins with slots that stay blank, and stand for
-/// all that were never written; those of a set are added behind them when they are first written.
-/// `places` has for each set which of them it has, 0 if none of its own. All memory is taken by
-/// `new`, but what a set never writes is not cleared.
+/// A rest for each set, of 1 to 16 numbers. `rests` begins with slots that stay blank, and stand
+/// for all that were never written; those of a set are added behind them when they are first
+/// written. `places` has for each set which of them it has, 0 if none of its own. All memory is
+/// taken by `new`, but what a set never writes is not cleared.
 #[derive(Drop)]
 pub struct SlottedRests {
     stride: usize,
@@ -59,7 +59,8 @@ impl Model for SlottedRests {
 
     ghost view = { λ r. record {
       stride = r.stride;
-      rows = rows_by_set (length r.places.items) (slotted_rest r.stride r.places.items r.rests.items);
+      rows = rows_by_set (length r.places.items) (slotted_rest r.stride r.places.items
+          r.rests.items);
     } };
 
     ghost invariant = { λ r.

@@ -32,7 +32,8 @@ impl Model for SparseRests {
 
     ghost view = { λ r. record {
       stride = r.stride;
-      rows = rows_by_set (length r.places.items) (sparse_rest r.stride r.places.items r.numbers.items);
+      rows = rows_by_set (length r.places.items) (sparse_rest r.stride r.places.items
+          r.numbers.items);
     } };
 
     ghost invariant = { λ r.

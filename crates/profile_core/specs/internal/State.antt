@@ -159,7 +159,7 @@ pub record MayBeFed (g : GeometryValue) (lists : Lists) (h : Histograms) (k x : 
   pub next : IsNext (profile_of g lists h) k x
 
 -- what lists and histograms are once they were fed a reference to block x
-pub record Feeds (g : GeometryValue) (lists : Lists) (h : Histograms) (x : ℕ) (lists' : Lists)
+pub record FeedsBlock (g : GeometryValue) (lists : Lists) (h : Histograms) (x : ℕ) (lists' : Lists)
     (h' : Histograms) : Type 0 where
   pub sound : AreSound g lists' h'
   pub step : profile_of g lists' h' ≡ after_reference (profile_of g lists h) x

@@ -5,15 +5,18 @@ use Rattle.profile_core.proofs.LongListLemmas.{known, within, front_is, second_i
 use Rattle.profile_core.proofs.long_lists.LongListsSetLists.bring_second.Goals as goal
 
 pub bring_second-requires-clause-within : goal.bring_second-requires-clause-within
-bring_second-requires-clause-within c = within (known c.self.invariant c.self.view_is c.requires.within)
+bring_second-requires-clause-within c = within (known c.self.invariant c.self.view_is
+    c.requires.within)
 
 pub bring_second-requires-clause-behind : goal.bring_second-requires-clause-behind
 bring_second-requires-clause-behind c =
-    front_is (known c.self.invariant c.self.view_is c.requires.within) c.args.block ∙ c.requires.behind
+    front_is (known c.self.invariant c.self.view_is c.requires.within) c.args.block ∙
+        c.requires.behind
 
 pub bring_second-requires-clause-second : goal.bring_second-requires-clause-second
 bring_second-requires-clause-second c =
-    second_is (known c.self.invariant c.self.view_is c.requires.within) c.args.block ∙ c.requires.second
+    second_is (known c.self.invariant c.self.view_is c.requires.within) c.args.block ∙
+        c.requires.second
 
 pub invariant_of-self : goal.invariant_of-self
 invariant_of-self c =

@@ -1,5 +1,5 @@
 -- The numbers of a new profile are all 0.
-use Rattle.std.proofs.Common.{rules, ◌≡◌, ◌+◌, ◌*◌, ◌^◌, ◌%◌, [], ◌∙◌, ℕ, Bool, true, false, cond}
+use Rattle.std.proofs.Common.{◌≡◌, ◌+◌, ◌^◌, [], ◌∙◌, ℕ, Bool, true, false, cond}
 use Rattle.std.proofs.Common.{Some, None, sym, ap, arith}
 use Rattle.std.specs.Prelude.{replicate}
 use Rattle.cache_core.specs.Geometry.{GeometryValue, geometry_value, geometry_of}
@@ -25,7 +25,8 @@ invariant_of-result c =
     c.in_ok-vec-2.field-0.items
     (ap (λ l. l.depth) lists ∙ sym ways)
     (ap (λ l. l.lists) lists ∙ ap (λ g. replicate (2 ^ g.s) []) (sym is))
-    (omega (arith, ways, c.requires.geometry.some)) (c.in_ok-vec.ensures.items_if_clones_equal (λ y e. e) ∙
+    (omega (arith, ways, c.requires.geometry.some)) (c.in_ok-vec.ensures.items_if_clones_equal (λ y
+        e. e) ∙
     ap (λ n. replicate n 0) (sym ways))
     (c.in_ok-vec-2.ensures.items_if_clones_equal (λ y e. e) ∙
     ap (λ n. replicate (n + 1) 0) (sym ways))

@@ -2,7 +2,8 @@
 use Rattle.std.proofs.Common.{◌≡◌, ◌+◌, ◌-◌, ◌<◌, ◌∙◌, ℕ, zero, suc, List, [], ◌∷◌, get_or}
 use Rattle.std.proofs.Common.{sym, ap, arith, get_or-take}
 use Rattle.profile_core.specs.internal.Rows.{row_for}
-use Rattle.profile_core.proofs.ListLemmas.{known, depth_is, within, among_rows, list_is, list_size, len_read}
+use Rattle.profile_core.proofs.ListLemmas.{known, depth_is, within, among_rows, list_is, list_size}
+use Rattle.profile_core.proofs.ListLemmas.{len_read}
 use Rattle.profile_core.proofs.recency.RecencyLists.last_of_full.Goals as goal
 
 last_is : (n front : ℕ) (row : List ℕ) → 0 < n →
