@@ -158,8 +158,18 @@ module _ {g : GeometryValue} {was now : Lists} {behind missed : List ℕ} {probe
 
       pub found_after : state_of g now (set behind distance (n + 1)) missed
           probes' ≡ after_reference v x
-      found_after = grind (arith, found_step, raised_behind, weight, some, moved, of_set,
-          get_or_read, distance_fits, state_of)
+      found_after = grind (
+        arith,
+        found_step,
+        raised_behind,
+        weight,
+        some,
+        moved,
+        of_set,
+        get_or_read,
+        distance_fits,
+        state_of,
+      )
 
       pub found_sound : IsSound g now (set behind distance (n + 1)) missed probes'
       found_sound =
@@ -184,8 +194,16 @@ module _ {g : GeometryValue} {was now : Lists} {behind missed : List ℕ} {probe
 
       pub nowhere_after : state_of g now behind (set missed len (n + 1))
           probes' ≡ after_reference v x
-      nowhere_after = grind (arith, nowhere_step, missed_weight, moved, of_set, get_or_read,
-          len_fits, state_of)
+      nowhere_after = grind (
+        arith,
+        nowhere_step,
+        missed_weight,
+        moved,
+        of_set,
+        get_or_read,
+        len_fits,
+        state_of,
+      )
 
       pub nowhere_sound : IsSound g now behind (set missed len (n + 1)) probes'
       nowhere_sound =

@@ -145,8 +145,15 @@ module _ (w b x : ℕ) (xs ys : List ℕ) where
     near_touch = grind (arith, index-append_left, is_in-append)
 
     pub near_moved : take (w + b) (move_to_front x (xs ++ ys)) ≡ take w (move_to_front x xs) ++ ys
-    near_moved = grind (arith, index-append_left, remove-append_left, take_all, length-append,
-        length-remove, index-lt)
+    near_moved = grind (
+      arith,
+      index-append_left,
+      remove-append_left,
+      take_all,
+      length-append,
+      length-remove,
+      index-lt,
+    )
 
   -- x is in the second part or in none, and the first is full
   module _ (absent : is_in x xs ≡ false) (full : length xs ≡ w) (two : 2 ≤ w) where

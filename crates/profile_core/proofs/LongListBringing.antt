@@ -76,7 +76,7 @@ pub record IsFull (near : Lists) (beyond : ℕ) (far : List Deep) (x k held last
 
 pub full_is : {near : Lists} {beyond : ℕ} {far : List Deep} {k x held last : ℕ} {v : Lists} →
     HasWhole near beyond far k v → Full held last ≡ in_row_of near.depth x (get_or near.lists k [])
-        →
+    →
     IsFull near beyond far x k held last v
 full_is {near} {beyond} {far} {k} {x} {held} {last} {v} r e =
     let at = full_at (is_in x (row r)) (ltb (length (row r)) near.depth) (touch_of x (row r)) held

@@ -243,8 +243,12 @@ pub cleared_lists : (near near' : Lists) (far far' : List Deep) →
     near' ≡ record { depth = near.depth; lists = replicate (length near.lists) [] }
     → far' ≡ map empty_deep far → whole_lists near'.lists far' ≡ replicate
     (length (whole_lists near.lists far)) []
-cleared_lists near near' far far' is far_is = grind (arith, joined_empty, emptied_rest,
-    length-joined)
+cleared_lists near near' far far' is far_is = grind (
+  arith,
+  joined_empty,
+  emptied_rest,
+  length-joined,
+)
 
 -- how many blocks stand in all lists
 pub sum-joined : (near : List (List ℕ)) (far : List Deep) → length far ≤ length near

@@ -15,8 +15,13 @@ use Rattle.profile_core.proofs.RowsBySet.{HasRow, known_row, rows_blank, within,
 -- rows of zeros
 pub blank_rows_in : (n m : ℕ) {numbers : List ℕ} → numbers ≡ replicate (m * n) 0 →
     rows_by_set m (plain_row n numbers) ≡ replicate m (replicate n 0)
-blank_rows_in n m {numbers} zeros = grind (arith, rows_blank, drop-replicate, take-replicate,
-    in_front)
+blank_rows_in n m {numbers} zeros = grind (
+  arith,
+  rows_blank,
+  drop-replicate,
+  take-replicate,
+  in_front,
+)
 
 -- what is known where the row of set k is asked for
 pub record HasPlain (n m k : ℕ) (numbers : List ℕ) (rows : RowsValue) : Type 0 where
@@ -88,4 +93,4 @@ pub put_back : {Z : Type 0} {n m k : ℕ} (v : Vec ℕ Z) {rows : RowsValue} →
     IsPut n m k (with_items v (put_mid (k * n) (k * n + n - k * n) now new)).items rows new
 put_back {Z} {n} {m} {k} v r {now} {new} is len long =
     plain_put r new (long ∙ ap length (lent r is) ∙ row_size r) (part_back v (k * n) n new is len
-        long)
+    long)

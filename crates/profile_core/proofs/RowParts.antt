@@ -46,8 +46,14 @@ module _ (b n : ℕ) (xs : List ℕ) (ends : b + n ≤ length xs) where
 pub part_other : (p q n : ℕ) (xs new : List ℕ) → p * n ≤ length xs → length new ≡ n →
     (q ≡ p → ⊥) →
     take n (drop (q * n) (put_mid (p * n) n xs new)) ≡ take n (drop (q * n) xs)
-part_other p q n xs new begins long other = grind (arith, cases_lt, part_same, take-put_mid_below,
-    in_front, drop-put_mid)
+part_other p q n xs new begins long other = grind (
+  arith,
+  cases_lt,
+  part_same,
+  take-put_mid_below,
+  in_front,
+  drop-put_mid,
+)
 
 -- a part as code lends it, and as it is put back
 pub part_lent : (b n : ℕ) {xs now : List ℕ} → now ≡ xs →

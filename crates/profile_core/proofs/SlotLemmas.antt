@@ -218,7 +218,7 @@ blank_marked : (k : ℕ) → k < 16 →
     get_or (replicate 16 0) k 0 ≡ mark_of (get_or (replicate 16 0) (get_or counted_slots k 0) 0)
 blank_marked k lt =
     all_same {A = ℕ} 16 k 0 ∙ mark_zero ∙ ap mark_of (sym (all_same {A = ℕ} 16 (get_or
-        counted_slots k 0) 0))
+    counted_slots k 0) 0))
 
 -- slots that are all 0
 pub blank_order : IsOrder (replicate 16 0) counted_slots (replicate 16 0)

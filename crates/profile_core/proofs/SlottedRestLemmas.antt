@@ -102,8 +102,11 @@ module _ {n k p room : ℕ} {places : List ℕ} {rests : List Slots} {rows : Row
 
   -- and as they are put back
   pub own_back : {places' : List ℕ} {s : Slots} → places' ≡ places → AreOrdered s →
-      record { stride = n; rows = rows_by_set (length places') (slotted_rest n places' (set rests p
-          s)) }
+      record {
+        stride = n;
+        rows = rows_by_set (length places') (slotted_rest n places' (set rests p
+            s));
+      }
       ≡ with_row rows k (listed s.order s.numbers n)
   own_back {places'} {s} places_is ordered =
       let seen : List ℕ → ℕ → RowsValue = λ ps i. record {

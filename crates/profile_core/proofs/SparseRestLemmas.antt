@@ -137,16 +137,31 @@ module _ {n room : ℕ} {places numbers : List ℕ} (a : IsSparse n places numbe
         small = subst (λ m. (m + 1) * n ≤ 2 ^ 26) (sym long) a.small;
         numbers_len =
             length-append numbers first ∙
-            omega (arith, a.numbers_len, first_long, ap (λ m. (m + 1) * n) (one_more a.own lt
-                none));
+            omega (
+              arith,
+              a.numbers_len,
+              first_long,
+              ap (λ m. (m + 1) * n) (one_more a.own lt
+                  none),
+            );
         fits = omega (arith, le, subst (λ m. (m + 1) * n ≤ room) (sym long) a.fits);
         own = places_taken a.own lt none;
       }
 
   more_same : (j : ℕ) →
       sparse_rest n (places_then a.own lt none) numbers_more j ≡ sparse_rest n places numbers j
-  more_same j = grind (arith, cases_eq, place_here, place_other, drop_at, take-take, at_first,
-      part_same, take-append-le, rest_ends)
+  more_same j = grind (
+    arith,
+    cases_eq,
+    place_here,
+    place_other,
+    drop_at,
+    take-take,
+    at_first,
+    part_same,
+    take-append-le,
+    rest_ends,
+  )
 
 -- the same rests, once set k has its own
 pub record IsReady (n k : ℕ) (places numbers : List ℕ) (room : ℕ)

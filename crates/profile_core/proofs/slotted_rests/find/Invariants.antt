@@ -6,7 +6,7 @@ use Rattle.profile_core.proofs.slotted_rests.find.Given as goal
 abbrev pub invariant-loop-left : goal.invariant-loop-left
 invariant-loop-left l =
     CameTo l.slots.marks l.slots.order l.slots.numbers l.held l.block l.place l.left × (l.place ≤
-        16)
+    16)
 
 abbrev pub decreases-loop-left : goal.decreases-loop-left
 decreases-loop-left l = 16 - l.place

@@ -15,12 +15,12 @@ bring_near-requires-clause-within c = within (known c.self.invariant c.self.view
 pub bring_near-requires-clause-behind : goal.bring_near-requires-clause-behind
 bring_near-requires-clause-behind c =
     front_is (known c.self.invariant c.self.view_is c.requires.within) c.args.block ∙
-        c.requires.behind
+    c.requires.behind
 
 pub bring_near-requires-clause-further : goal.bring_near-requires-clause-further
 bring_near-requires-clause-further c =
     second_is (known c.self.invariant c.self.view_is c.requires.within) c.args.block ∙
-        c.requires.further
+    c.requires.further
 
 pub invariant_of-self : goal.invariant_of-self
 invariant_of-self c =
@@ -44,7 +44,7 @@ returns-in-Settled-clause-moved c =
 pub exchange-requires-clause-other : goal.exchange-requires-clause-other
 exchange-requires-clause-other c =
     let f = full_is (known c.self.invariant c.self.view_is c.requires.within)
-        c.in-Full.ensures.found in
+    c.in-Full.ensures.found in
     let read = far_read f c.index_mut.result.now c.index_mut.ensures.value in
     ap (λ d. is_in c.in-Full.last d.blocks) read ∙ last_apart f
 
@@ -56,14 +56,14 @@ exchange-requires-clause-few c =
 pub exchange-requires-clause-short : goal.exchange-requires-clause-short
 exchange-requires-clause-short c =
     let f = full_is (known c.self.invariant c.self.view_is c.requires.within)
-        c.in-Full.ensures.found in
+    c.in-Full.ensures.found in
     let read = far_read f c.index_mut.result.now c.index_mut.ensures.value in
     omega (arith, ap (λ d. length d.blocks) read, rest_small f)
 
 pub invariant_of-self-in-Full : goal.invariant_of-self-in-Full
 invariant_of-self-in-Full c =
     let f = full_is (known c.self.invariant c.self.view_is c.requires.within)
-        c.in-Full.ensures.found in
+    c.in-Full.ensures.found in
     let read = far_read f c.index_mut.result.now c.index_mut.ensures.value in
     let renewed = full_renewed f c.exchange.new.rest (c.exchange.ensures.moved ∙
     ap (λ d. list_after_exchange d c.args.block c.in-Full.last) read) c.in-Full.ensures.moved in
@@ -72,7 +72,7 @@ invariant_of-self-in-Full c =
 pub returns-in-Full-clause-found : goal.returns-in-Full-clause-found
 returns-in-Full-clause-found c =
     let f = full_is (known c.self.invariant c.self.view_is c.requires.within)
-        c.in-Full.ensures.found in
+    c.in-Full.ensures.found in
     let read = far_read f c.index_mut.result.now c.index_mut.ensures.value in
     c.exchange.ensures.found ∙
     ap (λ d. rest_touch_of c.in-Full.held c.args.block d.blocks) read ∙ full_touch f
@@ -80,7 +80,7 @@ returns-in-Full-clause-found c =
 pub returns-in-Full-clause-moved : goal.returns-in-Full-clause-moved
 returns-in-Full-clause-moved c =
     let f = full_is (known c.self.invariant c.self.view_is c.requires.within)
-        c.in-Full.ensures.found in
+    c.in-Full.ensures.found in
     let read = far_read f c.index_mut.result.now c.index_mut.ensures.value in
     let renewed = full_renewed f c.exchange.new.rest (c.exchange.ensures.moved ∙
     ap (λ d. list_after_exchange d c.args.block c.in-Full.last) read) c.in-Full.ensures.moved in

@@ -11,12 +11,12 @@ bring_second-requires-clause-within c = within (known c.self.invariant c.self.vi
 pub bring_second-requires-clause-behind : goal.bring_second-requires-clause-behind
 bring_second-requires-clause-behind c =
     front_is (known c.self.invariant c.self.view_is c.requires.within) c.args.block ∙
-        c.requires.behind
+    c.requires.behind
 
 pub bring_second-requires-clause-second : goal.bring_second-requires-clause-second
 bring_second-requires-clause-second c =
     second_is (known c.self.invariant c.self.view_is c.requires.within) c.args.block ∙
-        c.requires.second
+    c.requires.second
 
 pub invariant_of-self : goal.invariant_of-self
 invariant_of-self c =

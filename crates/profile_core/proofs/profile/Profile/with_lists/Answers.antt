@@ -26,7 +26,7 @@ invariant_of-result c =
     (ap (λ l. l.depth) lists ∙ sym ways)
     (ap (λ l. l.lists) lists ∙ ap (λ g. replicate (2 ^ g.s) []) (sym is))
     (omega (arith, ways, c.requires.geometry.some)) (c.in_ok-vec.ensures.items_if_clones_equal (λ y
-        e. e) ∙
+    e. e) ∙
     ap (λ n. replicate n 0) (sym ways))
     (c.in_ok-vec-2.ensures.items_if_clones_equal (λ y e. e) ∙
     ap (λ n. replicate (n + 1) 0) (sym ways))

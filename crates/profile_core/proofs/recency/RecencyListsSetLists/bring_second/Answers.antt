@@ -4,8 +4,7 @@ use Rattle.profile_core.proofs.ListLemmas.{known, depth_is, among_fronts, among_
 use Rattle.profile_core.proofs.Writing.{IsTouched, some_behind, second_brought}
 use Rattle.profile_core.proofs.recency.RecencyListsSetLists.bring_second.Goals as goal
 use
-
-        Rattle.profile_core.proofs.recency.RecencyListsSetLists.bring_second.Goals.{After-replace-second}
+    Rattle.profile_core.proofs.recency.RecencyListsSetLists.bring_second.Goals.{After-replace-second}
 use Rattle.profile_core.proofs.recency.RecencyListsSetLists.bring_second.Given.{Over}
 
 touched : (g : Over) (c : After-replace-second g) → IsTouched c.args.set

@@ -42,7 +42,7 @@ pub number_at-requires-clause-sound : goal.number_at-requires-clause-sound
 number_at-requires-clause-sound c =
     let at = goal.at.number_at-requires-clause-sound c in
     subst AreOrdered (sym (here at.After-index-2 (place at.After-index (within (known_row
-        c.self.view_is c.requires.within)))))
+    c.self.view_is c.requires.within)))))
     (c.self.invariant.placed.each _ (slots_are c.self.invariant.placed c.args.set))
 
 pub returns : goal.returns

@@ -18,7 +18,7 @@ own_rest-requires-clause-within c = omega (
 pub slice_bounds-bring_behind-end : goal.slice_bounds-bring_behind-end
 slice_bounds-bring_behind-end c =
     let o = own_of _ c.self.view_is c.requires.within c.deref_mut.ensures.value
-        c.own_rest.auto.places
+    c.own_rest.auto.places
     c.own_rest.ensures.same c.own_rest.ensures.sound c.own_rest.ensures.own c.own_rest.ensures.which
     in
     omega (arith, own_ends o, ap length c.deref_mut-2.ensures.value)
@@ -26,7 +26,7 @@ slice_bounds-bring_behind-end c =
 pub returns-clause-found : goal.returns-clause-found
 returns-clause-found c =
     let o = own_of _ c.self.view_is c.requires.within c.deref_mut.ensures.value
-        c.own_rest.auto.places
+    c.own_rest.auto.places
     c.own_rest.ensures.same c.own_rest.ensures.sound c.own_rest.ensures.own c.own_rest.ensures.which
     in
     c.bring_behind.ensures.found ∙
@@ -36,7 +36,7 @@ returns-clause-found c =
 pub returns-clause-moved : goal.returns-clause-moved
 returns-clause-moved c =
     let o = own_of _ c.self.view_is c.requires.within c.deref_mut.ensures.value
-        c.own_rest.auto.places
+    c.own_rest.auto.places
     c.own_rest.ensures.same c.own_rest.ensures.sound c.own_rest.ensures.own c.own_rest.ensures.which
     in
     let put = own_back c.own_rest.new.numbers o (with_items_is c.self.inside.places _
@@ -54,7 +54,7 @@ returns-clause-moved c =
 pub returns-clause-long : goal.returns-clause-long
 returns-clause-long c =
     let o = own_of _ c.self.view_is c.requires.within c.deref_mut.ensures.value
-        c.own_rest.auto.places
+    c.own_rest.auto.places
     c.own_rest.ensures.same c.own_rest.ensures.sound c.own_rest.ensures.own c.own_rest.ensures.which
     in
     let put = own_back c.own_rest.new.numbers o (with_items_is c.self.inside.places _
@@ -66,7 +66,7 @@ returns-clause-long c =
 pub returns-clause-others : goal.returns-clause-others
 returns-clause-others c =
     let o = own_of _ c.self.view_is c.requires.within c.deref_mut.ensures.value
-        c.own_rest.auto.places
+    c.own_rest.auto.places
     c.own_rest.ensures.same c.own_rest.ensures.sound c.own_rest.ensures.own c.own_rest.ensures.which
     in
     let put = own_back c.own_rest.new.numbers o (with_items_is c.self.inside.places _
