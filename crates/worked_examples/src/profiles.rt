@@ -249,7 +249,7 @@ fn expect_simulations(
 ) -> Result<(), Fail>
     requires same { profile.geometry ≡ geometry }
     requires unfed { fed_of profile ≡ 0 }
-    requires { length addrs.now ≤ 2 ^ 40 }
+    requires few { length addrs.now ≤ 2 ^ 40 }
 {
     feed_all(&mut profile, addrs);
     let access = Access::Read;
