@@ -239,7 +239,7 @@ class Others(Wrong):
         bad = self.named("limits", ["KEEPS", "PIECES"], "--tries", 1)[1]
         for name in (
             "bytes that din asks for after its first read",
-            "a sweep with S = 8192 and A = 255: a block in each set",
+            "a sweep with S = 8192 and A = 255: two blocks in each set",
         ):
             self.assertIn(name, bad)
 
