@@ -7,7 +7,7 @@ use std::alloc::AllocError;
 use thiserror::Error;
 use trace_core::RunFault;
 
-/// The form of the arguments.
+/// What the arguments have to be.
 pub const USAGE: &str = "usage: user_jobs SEED + KIND LINES [x COUNT] / WORDS.. / WORDS.. + ..";
 
 /// Why the benchmark ends before all its commands are done.

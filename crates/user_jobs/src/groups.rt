@@ -9,7 +9,7 @@ use crate::text::{Layout, TraceText};
 use arguments::read_number;
 use std::alloc::{AllocError, Global};
 
-/// The kind of a trace.
+/// What a trace is of.
 #[derive(Clone, Copy, Debug, PartialEq, Eq)]
 pub enum Kind {
     /// A program, in the din format.

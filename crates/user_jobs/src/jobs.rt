@@ -31,7 +31,7 @@ impl<'a> Task<'a> {
         }
     }
 
-    /// The digest of its output, on all traces together.
+    /// What it wrote, on all traces together.
     pub fn digest(&self) -> &Digest {
         &self.digest
     }

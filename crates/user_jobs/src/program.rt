@@ -91,7 +91,7 @@ struct Visit {
 /// A program that runs.
 #[derive(Clone, Copy, Debug)]
 pub struct Program {
-    /// Makes its functions and objects differ from those of other programs.
+    /// What makes its functions and objects other than those of other programs.
     key: u64,
     code: u64,
     heap: u64,

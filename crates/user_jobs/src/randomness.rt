@@ -1,5 +1,5 @@
 //! Numbers that look random, the same for the same seed on each machine.
-/// The step of the state at each number: odd, so that it meets every state.
+/// What the state goes on by at each number: odd, so that it meets every state.
 const STEP: u64 = 0x9e37_79b9_7f4a_7c15;
 
 /// A source of numbers that look random: SplitMix64.

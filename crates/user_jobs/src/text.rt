@@ -16,7 +16,7 @@ pub enum Layout {
     Lackey,
 }
 
-/// The action of a reference.
+/// What a reference does.
 #[derive(Clone, Copy, Debug, PartialEq, Eq)]
 pub enum Action {
     Fetch,
