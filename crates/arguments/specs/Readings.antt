@@ -22,15 +22,15 @@ and_then (Ok x) next = next x
 and_then (Err e) next = Err e
 
 -- the value of an option's text, or the fault that names the option; none if it was not given
-abbrev pub read_text : {A : Type 0} → Text → (Text → Option A) → Option Text →
+abbrev pub value_of_text : {A : Type 0} → Text → (Text → Option A) → Option Text →
     Result (Option A) JobFault
-read_text name reader None = Ok None
-read_text name reader (Some text) = ok_or (option_map Some (reader text)) (value name)
+value_of_text name reader None = Ok None
+value_of_text name reader (Some text) = ok_or (option_map Some (reader text)) (value name)
 
 -- the value of an option that may be left out
 abbrev pub optional_value : {A : Type 0} → Text → (Text → Option A) → List Row →
     Result (Option A) JobFault
-optional_value name reader rows = read_text name reader (first_of name rows)
+optional_value name reader rows = value_of_text name reader (first_of name rows)
 
 -- the value of an option, or this value if it is left out
 abbrev pub value_or : {A : Type 0} → A → Text → (Text → Option A) → List Row → Result A JobFault

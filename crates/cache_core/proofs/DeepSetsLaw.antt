@@ -110,7 +110,7 @@ pub new_kept : (capacity n m : ℕ) (touched : TouchedValue) (lists : List Deep)
     lists ≡ replicate n (record { cap = capacity; blocks = [] }) → touched ≡ record {
       capacity =
           m;
-      listed = Some [];
+      sets = Some [];
     } →
     IsDeepSets capacity touched lists
 new_kept capacity n m touched lists small few is none = rw is record {

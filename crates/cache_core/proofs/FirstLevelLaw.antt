@@ -18,7 +18,8 @@ use Rattle.cache_core.specs.Machine.{Machine, run, step}
 use Rattle.cache_core.specs.Plans.{IsPlannedCache}
 use Rattle.cache_core.specs.internal.Stands.{CacheStandsFor}
 use Rattle.cache_core.specs.internal.CacheSteps.{system_cache_contents, Enters}
-use Rattle.cache_core.specs.Systems.{machine_of, is_taken_by, events_for, sends, cache_stats}
+use Rattle.cache_core.specs.Systems.{machine_of, is_taken_by, events_for, references_sent}
+use Rattle.cache_core.specs.Systems.{cache_stats}
 use Rattle.cache_core.specs.Systems.{counts_if_planned}
 use Rattle.cache_core.specs.internal.SystemSteps.{present_refs, AccessesFirst, AccessesUnified}
 use Rattle.cache_core.specs.internal.SystemSteps.{AccessesSplit, AccessesFirstLevel, stats_held}
@@ -123,21 +124,23 @@ module _ (seed : ℕ) (name : CacheName) (planned : Option PlannedCache) (events
   abbrev more : List Event
   more = events_for name (events ++ event.Reference ref ∷ [])
 
-  sends_taken : is_taken_by name ref ≡ true → sends seed name planned events ref ≡ sends_of seed
-      planned (events_for name events) ref
-  sends_taken t = by_plan planned
+  references_sent_taken : is_taken_by name ref ≡ true →
+      references_sent seed name planned events ref ≡
+      sends_of seed planned (events_for name events) ref
+  references_sent_taken t = by_plan planned
     where
-      by_plan : (p : Option PlannedCache) → sends seed name p events ref ≡ sends_of seed p
+      by_plan : (p : Option PlannedCache) → references_sent seed name p events ref ≡ sends_of seed p
           (events_for name events) ref
       by_plan None = refl
       by_plan (Some p) = ap (λ b. cond b
           (step (machine_of seed p) (run (machine_of seed p) (events_for name events))
           ref).effect.down []) t
 
-  sends_left : is_taken_by name ref ≡ false → sends seed name planned events ref ≡ []
-  sends_left t = by_plan planned
+  references_sent_left : is_taken_by name ref ≡ false →
+      references_sent seed name planned events ref ≡ []
+  references_sent_left t = by_plan planned
     where
-      by_plan : (p : Option PlannedCache) → sends seed name p events ref ≡ []
+      by_plan : (p : Option PlannedCache) → references_sent seed name p events ref ≡ []
       by_plan None = refl
       by_plan (Some p) = ap (λ b. cond b
           (step (machine_of seed p) (run (machine_of seed p) (events_for name events))
@@ -161,8 +164,8 @@ pub record FirstKept (seed : ℕ) (pi pd pu : Option PlannedCache) (events : Lis
   pub i_kept : KeptIfPlanned seed pi (events_for L1I (events ++ event.Reference ref ∷ [])) i
   pub d_kept : KeptIfPlanned seed pd (events_for L1D (events ++ event.Reference ref ∷ [])) d
   pub u_kept : KeptIfPlanned seed pu (events_for L1U (events ++ event.Reference ref ∷ [])) u
-  pub all_sent : down_list down ≡ sends seed L1I pi events ref ++ sends seed L1D pd events ref ++
-      sends seed L1U pu events ref
+  pub all_sent : down_list down ≡ references_sent seed L1I pi events ref ++
+      references_sent seed L1D pd events ref ++ references_sent seed L1U pu events ref
   pub untaken : is_none down ≡ not (is_some pu || (is_some pi && is_taken_by L1I ref) ||
       (is_some pd && is_taken_by L1D ref))
 
@@ -201,7 +204,10 @@ module _ (seed : ℕ) (events : List Event) (ref : Ref) (down : Option (List (Op
         i_kept = kept_taken seed L1I pi events ref i' t a.kept;
         d_kept = kept_left seed L1D pd events ref d d' n g.1 kd;
         u_kept = g.2 ∙ ku;
-        all_sent = rw (sends_taken seed L1I pi events ref t, sends_left seed L1D pd events ref n)
+        all_sent = rw (
+          references_sent_taken seed L1I pi events ref t,
+          references_sent_left seed L1D pd events ref n,
+        )
             (simp append-nil a.sends);
         untaken = a.none ∙ none_first pi pd (is_fetch ref.access) (not (is_fetch ref.access)) t n;
       }
@@ -212,7 +218,10 @@ module _ (seed : ℕ) (events : List Event) (ref : Ref) (down : Option (List (Op
         i_kept = kept_left seed L1I pi events ref i i' t g.1 ki;
         d_kept = kept_taken seed L1D pd events ref d' n a.kept;
         u_kept = g.2 ∙ ku;
-        all_sent = rw (sends_left seed L1I pi events ref t, sends_taken seed L1D pd events ref n)
+        all_sent = rw (
+          references_sent_left seed L1I pi events ref t,
+          references_sent_taken seed L1D pd events ref n,
+        )
             (simp append-nil a.sends);
         untaken = a.none ∙ none_second pi pd (is_fetch ref.access) (not (is_fetch ref.access)) t n;
       }

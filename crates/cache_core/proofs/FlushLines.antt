@@ -13,12 +13,12 @@ use Rattle.cache_core.specs.declared.plan.PlannedCache.{PlannedCache}
 use Rattle.cache_core.specs.declared.plan.CacheName.{CacheName}
 use Rattle.cache_core.specs.declared.plan.CacheName.TheVariants.{L1I, L1D, L1U, L2U}
 use Rattle.cache_core.specs.Plans.{PlannedCaches}
-use Rattle.cache_core.specs.Systems.{machine_of, events_for, first_level_references, below}
+use Rattle.cache_core.specs.Systems.{machine_of, events_for, first_level_references, lower_events}
 use Rattle.cache_core.specs.Systems.{flush_counts_if_planned}
 use Rattle.cache_core.specs.Arrivals.{flushes, arrivals_of}
 use Rattle.cache_core.specs.LogLaws.{planned_of, events_at, names_in, name_if_there, names_of}
 use Rattle.cache_core.specs.LogLaws.{dirty_at, FlushNamesLaw, FlushCountsLaw}
-use Rattle.cache_core.proofs.SystemPushes.{events_flush, below_push, below_flush}
+use Rattle.cache_core.proofs.SystemPushes.{events_flush, lower_events_push, lower_events_flush}
 use Rattle.cache_core.proofs.SystemPushes.{flush_counts_flush, flush_counts_taken}
 use Rattle.cache_core.proofs.SystemPushes.{flush_counts_refs, flush_counts_nil}
 use Rattle.cache_core.proofs.LogParts.{QuietAt, QuietAtMemory, flush_parts, at_lower, at_flush}
@@ -60,7 +60,7 @@ module _ (plan : PlannedCaches) (seed : ℕ) where
             one_name seed L1I plan.i (events_for L1I earlier),
             one_name seed L1D plan.d (events_for L1D earlier),
             one_name seed L1U plan.u (events_for L1U earlier),
-            one_name seed L2U plan.second (below plan seed earlier),
+            one_name seed L2U plan.second (lower_events plan seed earlier),
           ) refl
 
 pub flush_names_law : FlushNamesLaw
@@ -88,8 +88,8 @@ module _ (plan : PlannedCaches) (seed : ℕ) where
   counts_reference L1U earlier ref = flush_counts_taken seed L1U plan.u earlier ref
   counts_reference L2U earlier ref =
       cc (
-        below_push plan seed earlier ref,
-        flush_counts_refs seed plan.second (below plan seed earlier)
+        lower_events_push plan seed earlier ref,
+        flush_counts_refs seed plan.second (lower_events plan seed earlier)
             (first_level_references plan seed earlier ref),
       )
 
@@ -104,9 +104,9 @@ module _ (plan : PlannedCaches) (seed : ℕ) where
   counts_flush L1U earlier = ap (flush_counts_if_planned seed plan.u) (events_flush L1U earlier) ∙
       flush_shown seed L1U plan.u (events_for L1U earlier)
   counts_flush L2U earlier = cc (
-    below_flush plan seed earlier,
+    lower_events_flush plan seed earlier,
     flush_shown seed L2U plan.second
-        (below plan seed earlier),
+        (lower_events plan seed earlier),
   )
 
   counts_shown : (name : CacheName) (earlier : List Event) (e : Event) →

@@ -15,7 +15,7 @@ use Rattle.cache_core.specs.declared.plan.CacheName.{CacheName}
 use Rattle.cache_core.specs.declared.plan.CacheName.TheVariants.{L1I, L1D, L1U}
 use Rattle.cache_core.specs.Machine.{run, step}
 use Rattle.cache_core.specs.Plans.{PlannedCaches}
-use Rattle.cache_core.specs.Systems.{machine_of, events_for, first_level_references, below}
+use Rattle.cache_core.specs.Systems.{machine_of, events_for, first_level_references, lower_events}
 use Rattle.cache_core.specs.Arrivals.{victim_of, all_arrivals_below, references_passed, arrivals_of}
 use Rattle.cache_core.specs.Arrivals.{arrivals_from}
 use Rattle.cache_core.specs.LogLaws.{required_references_of, direct_references}
@@ -75,7 +75,7 @@ module _ (seed : ℕ) (second : Option PlannedCache) (earlier : List Event) (add
       first_level_references plan seed earlier ref ≡ references_passed seed
       (Some planned) here ref →
       Follow plan (direct_references second sends) (second_level_references second sends)
-      (all_arrivals_below seed second (below plan seed earlier)
+      (all_arrivals_below seed second (lower_events plan seed earlier)
       (first_level_references plan seed earlier ref) ++ rest)
   sent_follow i d u name planned access f e =
       let plan = plan_with i d u second in
@@ -83,9 +83,9 @@ module _ (seed : ℕ) (second : Option PlannedCache) (earlier : List Event) (add
       let down = first_level_references plan seed earlier ref in
       subst (λ (sends : List Ref).
       Follow plan (direct_references second sends) (second_level_references second sends)
-      (all_arrivals_below seed second (below plan seed earlier) down ++ rest))
+      (all_arrivals_below seed second (lower_events plan seed earlier) down ++ rest))
       (e ∙ sym (says_of seed planned (events_for name earlier) ref))
-      (lower_follows i d u second seed (below plan seed earlier) down rest f)
+      (lower_follows i d u second seed (lower_events plan seed earlier) down rest f)
 
   reference_follows : (i d u : Option PlannedCache) →
       (is_some u && (is_some i || is_some d)) ≡ false → (access : Access) → Before i d u →

@@ -9,7 +9,8 @@ use Rattle.std.proofs.lemmas.Bool.Decides.{eqb_tells}
 use Rattle.cache_core.specs.Geometry.{GeometryValue, set_of_block}
 use Rattle.cache_core.proofs.Lists.{cases, filter_comm, find-filter}
 use Rattle.cache_core.specs.declared.design.Repl.{Repl}
-use Rattle.cache_core.specs.Machine.{Line, is_block, lines_of_set, without, exchange, least_line}
+use Rattle.cache_core.specs.Machine.{Line, is_block, lines_of_set, lines_without, exchange}
+use Rattle.cache_core.specs.Machine.{least_line}
 use Rattle.cache_core.specs.Machine.{with_line_at, key_at}
 use Rattle.cache_core.specs.Rules.{Place, InFront, InPlace, rules}
 use Rattle.cache_core.specs.Stands.{Falls, CountsUp, InOrder, Absent, Distinct}
@@ -106,14 +107,14 @@ find_split b [] x ys e h = grind arith
 find_split b (z ∷ xs) x ys e h = grind (arith, find_split b xs x ys e h.1)
 
 -- edits where the block is absent, and round its line
-pub without_absent : (b : ℕ) (ls : List Line) → Absent b ls → without b ls ≡ ls
-without_absent b [] h = refl
-without_absent b (l ∷ ls) h = grind (arith, without_absent b ls h.1)
+pub lines_without_absent : (b : ℕ) (ls : List Line) → Absent b ls → lines_without b ls ≡ ls
+lines_without_absent b [] h = refl
+lines_without_absent b (l ∷ ls) h = grind (arith, lines_without_absent b ls h.1)
 
 pub without_split : (b : ℕ) (xs : List Line) (x : Line) (ys : List Line) → x.block ≡ b →
     Absent b xs → Absent b ys →
-    without b (xs ++ x ∷ ys) ≡ xs ++ ys
-without_split b [] x ys e f h = grind (arith, without_absent b ys h)
+    lines_without b (xs ++ x ∷ ys) ≡ xs ++ ys
+without_split b [] x ys e f h = grind (arith, lines_without_absent b ys h)
 without_split b (z ∷ xs) x ys e f h = grind (arith, without_split b xs x ys e f.1 h)
 
 pub exchange_absent : (b : ℕ) (new : Line) (ls : List Line) → Absent b ls → exchange b new ls ≡ ls
@@ -137,7 +138,7 @@ absent_other g k b [] ne = tt
 absent_other g k b (l ∷ ls) ne = grind (arith, absent_other g k b ls ne)
 
 pub set_without : (g : GeometryValue) (k b : ℕ) (ls : List Line) →
-    lines_of_set g k (without b ls) ≡ without b (lines_of_set g k ls)
+    lines_of_set g k (lines_without b ls) ≡ lines_without b (lines_of_set g k ls)
 set_without g k b ls = filter_comm (λ line. set_of_block g line.block == k)
     (λ line. not (is_block b line)) ls
 

@@ -16,7 +16,7 @@ use Rattle.cache_core.specs.declared.plan.CacheName.TheVariants.{L1I, L1D, L1U, 
 use Rattle.cache_core.specs.Machine.{run, step, with_effects}
 use Rattle.cache_core.specs.Plans.{PlannedCaches}
 use Rattle.cache_core.specs.Systems.{machine_of, is_taken_by, events_for}
-use Rattle.cache_core.specs.Systems.{below}
+use Rattle.cache_core.specs.Systems.{lower_events}
 use Rattle.cache_core.specs.Arrivals.{cache_arrivals, first_level_arrivals}
 use Rattle.cache_core.specs.Arrivals.{at_memory, references_passed, lower_arrivals, arrivals_of}
 use Rattle.cache_core.specs.Arrivals.{arrivals_from, arrivals_below}
@@ -24,7 +24,7 @@ use Rattle.cache_core.specs.LogLaws.{is_same, planned_of, events_at, lines_at, a
 use Rattle.cache_core.specs.LogLaws.{access_lines, LinesLaw, GrowthLaw}
 use Rattle.cache_core.proofs.Pushes.{with_effects_push, with_effects_flush}
 use Rattle.cache_core.proofs.SystemPushes.{events_taken, events_left, events_flush}
-use Rattle.cache_core.proofs.SystemPushes.{below_flush}
+use Rattle.cache_core.proofs.SystemPushes.{lower_events_flush}
 use Rattle.cache_core.proofs.LogParts.{OnlyAt, quiet_memory, quiet_flushes, at_first, at_lower}
 use Rattle.cache_core.proofs.LogParts.{whole_log, told_lower}
 
@@ -113,8 +113,10 @@ below_push_shown seed second before ref =
 
 module _ (plan : PlannedCaches) (seed : ℕ) where
   lower_shown : (earlier : List Event) (ref : Ref) →
-      access_lines seed L2U plan.second (below plan seed (earlier ++ event.Reference ref ∷ []))
-      ≡ access_lines seed L2U plan.second (below plan seed earlier) ++ flat_map (lines_at L2U)
+      access_lines seed L2U plan.second
+      (lower_events plan seed (earlier ++ event.Reference ref ∷ []))
+      ≡ access_lines seed L2U plan.second (lower_events plan seed earlier) ++
+      flat_map (lines_at L2U)
       (lower_arrivals plan seed earlier ref)
   lower_shown = told_lower (lines_at L2U) seed plan (access_lines seed L2U plan.second)
       (below_push_shown seed plan.second) (λ r. refl)
@@ -154,8 +156,9 @@ module _ (plan : PlannedCaches) (seed : ℕ) where
       lines_flush seed L1D plan.d (events_for L1D earlier)
   flush_shown L1U earlier = ap (access_lines seed L1U plan.u) (events_flush L1U earlier) ∙
       lines_flush seed L1U plan.u (events_for L1U earlier)
-  flush_shown L2U earlier = ap (access_lines seed L2U plan.second) (below_flush plan seed earlier) ∙
-      lines_flush seed L2U plan.second (below plan seed earlier)
+  flush_shown L2U earlier = ap (access_lines seed L2U plan.second)
+      (lower_events_flush plan seed earlier) ∙
+      lines_flush seed L2U plan.second (lower_events plan seed earlier)
 
   more : (name : CacheName) (earlier : List Event) (e : Event) →
       whole name (earlier ++ e ∷ []) ≡ whole name earlier ++ flat_map (lines_at name)

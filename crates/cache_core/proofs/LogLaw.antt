@@ -21,7 +21,7 @@ use Rattle.cache_core.specs.declared.stats.Stats.{Stats}
 use Rattle.cache_core.specs.CacheStats.{no_counts, stats_after_access, stats_after_flush}
 use Rattle.cache_core.specs.Geometry.{GeometryValue}
 use Rattle.cache_core.specs.Machine.{with_effects}
-use Rattle.cache_core.specs.Systems.{machine_of, below, counts_if_planned, flush_counts}
+use Rattle.cache_core.specs.Systems.{machine_of, lower_events, counts_if_planned, flush_counts}
 use Rattle.cache_core.specs.Systems.{flush_counts_if_planned, to_memory, system_run}
 use Rattle.cache_core.specs.Arrivals.{victim_of, arrivals}
 use Rattle.cache_core.specs.ArrivalStats.{stats_after_arrival, no_stats, LogLaw}
@@ -210,7 +210,7 @@ log_law plan seed events =
     (events_at plan seed name events)) =
     λ name. ap sum (flush_counts_law name plan seed events) in
     let reads : 0 + count_by is_read_of (flat_map refs_at_memory log) ≡ count_by is_read_of
-    (to_memory seed plan.second (below plan seed events)) =
+    (to_memory seed plan.second (lower_events plan seed events)) =
     omega (arith, ap (count_by is_read_of) memory) in
     let writes : (after log (no_stats plan)).memory_writes ≡ (system_run plan seed
     events).memory_writes =

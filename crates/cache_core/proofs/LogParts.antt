@@ -16,12 +16,13 @@ use Rattle.cache_core.specs.declared.plan.CacheName.{CacheName}
 use Rattle.cache_core.specs.declared.plan.CacheName.TheVariants.{L1I, L1D, L1U, L2U}
 use Rattle.cache_core.specs.LogLaws.{is_same, planned_of, events_at}
 use Rattle.cache_core.specs.Plans.{PlannedCaches}
-use Rattle.cache_core.specs.Systems.{is_taken_by, events_for, first_level_references, below}
+use Rattle.cache_core.specs.Systems.{is_taken_by, events_for, first_level_references, lower_events}
 use Rattle.cache_core.specs.Systems.{is_taken}
 use Rattle.cache_core.specs.Arrivals.{cache_arrivals, first_level_arrivals, arrivals_below}
 use Rattle.cache_core.specs.Arrivals.{all_arrivals_below, at_memory, references_passed, flushes}
 use Rattle.cache_core.specs.Arrivals.{lower_arrivals, arrivals_of, arrivals_from, arrivals}
-use Rattle.cache_core.proofs.SystemPushes.{below_push, with_refs, with_refs-cons, untaken_sent}
+use Rattle.cache_core.proofs.SystemPushes.{lower_events_push, with_refs, with_refs-cons}
+use Rattle.cache_core.proofs.SystemPushes.{untaken_sent}
 
 -- of four lists all but one are empty
 pub only_first : {X : Type 0} (a b c d : List X) → b ≡ [] → c ≡ [] → d ≡ [] → a ++ b ++ c ++ d ≡ a
@@ -115,12 +116,12 @@ module _ {X : Type 0} (p : Arrival → List X) where
       ≡ flat_map p (flushes seed L1I plan.i (events_for L1I earlier)) ++
       flat_map p (flushes seed L1D plan.d (events_for L1D earlier))
       ++ flat_map p (flushes seed L1U plan.u (events_for L1U earlier)) ++
-      flat_map p (flushes seed L2U plan.second (below plan seed earlier))
+      flat_map p (flushes seed L2U plan.second (lower_events plan seed earlier))
   flush_parts plan seed earlier =
       let i = flushes seed L1I plan.i (events_for L1I earlier) in
       let d = flushes seed L1D plan.d (events_for L1D earlier) in
       let u = flushes seed L1U plan.u (events_for L1U earlier) in
-      let second = flushes seed L2U plan.second (below plan seed earlier) in
+      let second = flushes seed L2U plan.second (lower_events plan seed earlier) in
       flat_map-append p (i ++ d ++ u) second
       ∙ ap (λ xs. xs ++ flat_map p second) (flat_map-append p (i ++ d) u ∙
       ap (λ xs. xs ++ flat_map p u) (flat_map-append p i d))
@@ -133,7 +134,7 @@ module _ {X : Type 0} (p : Arrival → List X) where
       ∙ only_first (flat_map p (flushes seed L1I plan.i (events_for L1I earlier))) _ _ _
       (quiet_flush seed L1D plan.d (events_for L1D earlier) d)
       (quiet_flush seed L1U plan.u (events_for L1U earlier) u) (quiet_flush seed L2U plan.second
-      (below plan seed earlier) second)
+      (lower_events plan seed earlier) second)
       ∙ quiet_flush seed L1I plan.i (events_for L1I earlier) i
 
   -- nothing is picked from the lines below the first level
@@ -143,9 +144,9 @@ module _ {X : Type 0} (p : Arrival → List X) where
   quiet_lower plan seed earlier ref q m n = by_test (is_taken plan ref)
     where
       by_test : (b : Bool) →
-          flat_map p (cond b (all_arrivals_below seed plan.second (below plan seed earlier)
+          flat_map p (cond b (all_arrivals_below seed plan.second (lower_events plan seed earlier)
           (first_level_references plan seed earlier ref)) (Bypassed ref ∷ [])) ≡ []
-      by_test true = quiet_below seed plan.second q m (below plan seed earlier)
+      by_test true = quiet_below seed plan.second q m (lower_events plan seed earlier)
           (first_level_references plan seed earlier ref)
       by_test false = ap (λ xs. xs ++ []) n
 
@@ -199,22 +200,23 @@ module _ {X : Type 0} (p : Arrival → List X) where
       ∙ only_first (flat_map p (flushes seed L1I plan.i (events_for L1I earlier))) _ _ _
       (quiet_flush seed L1D plan.d (events_for L1D earlier) (q L1D refl))
       (quiet_flush seed L1U plan.u (events_for L1U earlier) (q L1U refl))
-      (quiet_flush seed L2U plan.second (below plan seed earlier) (q L2U refl))
+      (quiet_flush seed L2U plan.second (lower_events plan seed earlier) (q L2U refl))
   at_flush plan seed earlier L1D q =
       flush_parts plan seed earlier
       ∙ only_second _ (flat_map p (flushes seed L1D plan.d (events_for L1D earlier))) _ _
       (quiet_flush seed L1I plan.i (events_for L1I earlier) (q L1I refl))
       (quiet_flush seed L1U plan.u (events_for L1U earlier) (q L1U refl))
-      (quiet_flush seed L2U plan.second (below plan seed earlier) (q L2U refl))
+      (quiet_flush seed L2U plan.second (lower_events plan seed earlier) (q L2U refl))
   at_flush plan seed earlier L1U q =
       flush_parts plan seed earlier
       ∙ only_third _ _ (flat_map p (flushes seed L1U plan.u (events_for L1U earlier))) _
       (quiet_flush seed L1I plan.i (events_for L1I earlier) (q L1I refl))
       (quiet_flush seed L1D plan.d (events_for L1D earlier) (q L1D refl))
-      (quiet_flush seed L2U plan.second (below plan seed earlier) (q L2U refl))
+      (quiet_flush seed L2U plan.second (lower_events plan seed earlier) (q L2U refl))
   at_flush plan seed earlier L2U q =
       flush_parts plan seed earlier
-      ∙ only_fourth _ _ _ (flat_map p (flushes seed L2U plan.second (below plan seed earlier)))
+      ∙ only_fourth _ _ _
+      (flat_map p (flushes seed L2U plan.second (lower_events plan seed earlier)))
       (quiet_flush seed L1I plan.i (events_for L1I earlier) (q L1I refl))
       (quiet_flush seed L1D plan.d (events_for L1D earlier) (q L1D refl))
       (quiet_flush seed L1U plan.u (events_for L1U earlier) (q L1U refl))
@@ -258,13 +260,13 @@ module _ {X : Type 0} (p : Arrival → List X) (seed : ℕ) (plan : PlannedCache
       ∙ ap (λ xs. told before ++ xs) (sym (flat_map-append p here later))
 
   pub told_lower : ((ref : Ref) → p (Bypassed ref) ≡ []) → (earlier : List Event) (ref : Ref) →
-      told (below plan seed (earlier ++ event.Reference ref ∷ []))
-      ≡ told (below plan seed earlier) ++ flat_map p (lower_arrivals plan seed earlier ref)
+      told (lower_events plan seed (earlier ++ event.Reference ref ∷ []))
+      ≡ told (lower_events plan seed earlier) ++ flat_map p (lower_arrivals plan seed earlier ref)
   told_lower quiet earlier ref =
-      ap told (below_push plan seed earlier ref) ∙ by_test (is_taken plan ref) refl
+      ap told (lower_events_push plan seed earlier ref) ∙ by_test (is_taken plan ref) refl
     where
       before : List Event
-      before = below plan seed earlier
+      before = lower_events plan seed earlier
 
       by_test : (b : Bool) → is_taken plan ref ≡ b →
           told (with_refs before (first_level_references plan seed earlier ref))

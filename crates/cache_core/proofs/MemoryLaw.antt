@@ -13,12 +13,13 @@ use Rattle.cache_core.specs.declared.arrival.Arrival.TheVariants.{Bypassed}
 use Rattle.cache_core.specs.declared.plan.PlannedCache.{PlannedCache}
 use Rattle.cache_core.specs.declared.plan.CacheName.TheVariants.{L2U}
 use Rattle.cache_core.specs.Plans.{PlannedCaches}
-use Rattle.cache_core.specs.Systems.{first_level_references, below, is_taken, to_memory}
+use Rattle.cache_core.specs.Systems.{first_level_references, lower_events, is_taken, to_memory}
 use Rattle.cache_core.specs.Arrivals.{cache_arrivals, arrivals_below, all_arrivals_below, at_memory}
 use Rattle.cache_core.specs.Arrivals.{references_passed, lower_arrivals, arrivals_of}
 use Rattle.cache_core.specs.LogLaws.{refs_at_memory, refs_past, is_left_out, MemoryLaw, BypassedLaw}
 use Rattle.cache_core.proofs.SystemPushes.{references_push, references_flush}
-use Rattle.cache_core.proofs.SystemPushes.{below_flush, memory_push, memory_flush, memory_nil}
+use Rattle.cache_core.proofs.SystemPushes.{lower_events_flush, memory_push, memory_flush}
+use Rattle.cache_core.proofs.SystemPushes.{memory_nil}
 use Rattle.cache_core.proofs.LogParts.{none_then, quiet_arrives, quiet_below, quiet_flushes}
 use Rattle.cache_core.proofs.LogParts.{at_lower, whole_log, told_lower}
 
@@ -39,7 +40,7 @@ one_at seed second before ref =
 
 module _ (plan : PlannedCaches) (seed : ℕ) where
   abbrev whole : List Event → List Ref
-  whole events = to_memory seed plan.second (below plan seed events)
+  whole events = to_memory seed plan.second (lower_events plan seed events)
 
   lower : (earlier : List Event) (ref : Ref) → whole (earlier ++ event.Reference ref ∷ []) ≡ whole
       earlier ++ at (lower_arrivals plan seed earlier ref)
@@ -58,8 +59,8 @@ module _ (plan : PlannedCaches) (seed : ℕ) where
             (λ r h v. refl) (λ r h v. refl),
       )
   more earlier event.Flush =
-      ap (to_memory seed plan.second) (below_flush plan seed earlier) ∙
-      memory_flush seed plan.second (below plan seed earlier)
+      ap (to_memory seed plan.second) (lower_events_flush plan seed earlier) ∙
+      memory_flush seed plan.second (lower_events plan seed earlier)
       ∙ sym (append-nil (whole earlier))
       ∙ ap (λ xs. whole earlier ++ xs)
       (sym (quiet_flushes refs_at_memory plan seed earlier (λ n. refl) (λ n. refl) (λ n. refl)
@@ -98,11 +99,11 @@ module _ (plan : PlannedCaches) (seed : ℕ) where
       by_test : (b : Bool) →
           cond (not b) (ref ∷ []) []
           ≡ flat_map refs_past
-          (cond b (all_arrivals_below seed plan.second (below plan seed earlier)
+          (cond b (all_arrivals_below seed plan.second (lower_events plan seed earlier)
           (first_level_references plan seed earlier ref)) (Bypassed ref ∷ []))
       by_test true =
           sym (quiet_below refs_past seed plan.second (λ r h v. refl) (λ r. refl)
-          (below plan seed earlier) (first_level_references plan seed earlier ref))
+          (lower_events plan seed earlier) (first_level_references plan seed earlier ref))
       by_test false = refl
 
   past_more : (earlier : List Event) (e : Event) → past (earlier ++ e ∷ []) ≡ past earlier ++

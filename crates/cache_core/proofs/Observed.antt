@@ -24,7 +24,7 @@ use Rattle.cache_core.specs.internal.CacheSteps.{Enters, Empties, system_cache_c
 use Rattle.cache_core.specs.Machine.{run, step}
 use Rattle.cache_core.specs.Plans.{IsPlan, IsPlannedCache, PlannedCaches}
 use Rattle.cache_core.specs.internal.Stands.{CacheStandsFor}
-use Rattle.cache_core.specs.Systems.{machine_of, events_for, is_taken, below}
+use Rattle.cache_core.specs.Systems.{machine_of, events_for, is_taken, lower_events}
 use Rattle.cache_core.specs.Systems.{first_level_references}
 use Rattle.cache_core.specs.internal.SystemStands.{PlannedCacheStandsFor}
 use Rattle.cache_core.specs.internal.SystemSteps.{present_refs, Descends}
@@ -165,12 +165,12 @@ module _ (plan : PlannedCaches) (seed : ℕ) (events : List Event) (ref : Ref)
 -- what is seen below the first level, where a cache of it takes the reference and where none does
 module _ (plan : PlannedCaches) (seed : ℕ) (events : List Event) (ref : Ref) where
   abbrev lower : Bool → List Arrival
-  lower taken = cond taken (all_arrivals_below seed plan.second (below plan seed events)
+  lower taken = cond taken (all_arrivals_below seed plan.second (lower_events plan seed events)
       (first_level_references plan seed events ref)) (Bypassed ref ∷ [])
 
   pub seen_below : (refs : List Ref) → refs ≡ first_level_references plan seed events ref →
       false ≡ not (is_taken plan ref) →
-      all_arrivals_below seed plan.second (below plan seed events) refs ≡ lower_arrivals plan
+      all_arrivals_below seed plan.second (lower_events plan seed events) refs ≡ lower_arrivals plan
       seed events ref
   seen_below refs e t = cc (e, by_test (is_taken plan ref) t)
     where

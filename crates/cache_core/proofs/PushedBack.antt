@@ -22,7 +22,7 @@ use Rattle.deep_list.specs.Deep.{has_block}
 use Rattle.cache_core.specs.Geometry.{GeometryValue, block_of, set_of, set_of_block}
 use Rattle.cache_core.specs.LruLaws.{lru_machine, lru_contents, occurrence_after}
 use Rattle.cache_core.specs.internal.LruSets.{near_geometry, IsBehind, LruSetsStandFor, far_lookup}
-use Rattle.cache_core.specs.internal.LruSets.{pushed_back}
+use Rattle.cache_core.specs.internal.LruSets.{far_after_push}
 use Rattle.cache_core.specs.Machine.{run, lines_of_set}
 use Rattle.cache_core.specs.Order.{Accesses, slots_of}
 use Rattle.cache_core.specs.Simulation.{lookup_at}
@@ -265,7 +265,7 @@ module _ (g : GeometryValue) (events : List Event) (ref : Ref) (old near : Cache
       LruSetsStandFor g (events ++ event.Reference ref ∷ []) (record {
         near = near;
         far =
-            pushed_back far set block victim.block;
+            far_after_push far set block victim.block;
       })
       × (far_lookup far set block ≡ lookup_at g (occurrence_after g events ref))
   follows_push None s = follows_evict g events ref old near outcome s access victim leaves

@@ -13,7 +13,8 @@ use Rattle.cache_core.specs.declared.outcome.Outcome.{Outcome}
 use Rattle.cache_core.specs.Geometry.{GeometryValue, set_of_block, block_of}
 use Rattle.cache_core.specs.Outcomes.{outcome_of, on_placing, is_dirtied, is_allocated}
 use Rattle.cache_core.specs.Machine.{Machine, MachineState, Line, slot_of, is_block, lines_of_set}
-use Rattle.cache_core.specs.Machine.{without, with_line_at, key_at, victim_line, Step, placing_step}
+use Rattle.cache_core.specs.Machine.{lines_without, with_line_at, key_at, victim_line, Step}
+use Rattle.cache_core.specs.Machine.{placing_step}
 use Rattle.cache_core.specs.Machine.{passing_step, step_at, step}
 use Rattle.cache_core.specs.Order.{Contents, Accesses, Visits, VisitsAt, Fills, PassesOn, TakesIn}
 use Rattle.cache_core.specs.Order.{random_numbers_after, slots_of}
@@ -21,7 +22,8 @@ use Rattle.cache_core.specs.Rules.{Place, InFront, InPlace, rules}
 use Rattle.cache_core.specs.Stands.{Absent}
 use Rattle.cache_core.specs.internal.Stands.{IsState, IsGood, IsSoundState}
 use Rattle.cache_core.proofs.Lines.{ne-eqb, not_found, find_in_set, absent_other, set_without}
-use Rattle.cache_core.proofs.Lines.{set_exchange, without_absent, exchange_absent, Found, found}
+use Rattle.cache_core.proofs.Lines.{set_exchange, lines_without_absent, exchange_absent, Found}
+use Rattle.cache_core.proofs.Lines.{found}
 use Rattle.cache_core.proofs.Lines.{absent_right, order_later}
 use Rattle.cache_core.proofs.SetLaw.{touched, with_mark, position_absent, insert_law, insert_good}
 use Rattle.cache_core.proofs.SetLaw.{exchange_law}
@@ -43,7 +45,7 @@ pub line_here : (p : Place) (g : GeometryValue) (k : ℕ) (y : Line) (gone : Opt
     IfSome gone (λ x. set_of_block g x.block ≡ set_of_block g y.block) →
     lines_of_set g k (with_line_at p y gone ls) ≡ with_line_at p y gone (lines_of_set g k ls)
 line_here InFront g k y None ls e f = cons_here g k y ls e
-line_here InFront g k y (Some x) ls e f = cons_here g k y (without x.block ls) e ∙
+line_here InFront g k y (Some x) ls e f = cons_here g k y (lines_without x.block ls) e ∙
     ap (λ s. y ∷ s) (set_without g k x.block ls)
 line_here InPlace g k y None ls e f =
     cc (filter-append (λ line. set_of_block g line.block == k) ls (y ∷ []), cons_here g k y [] e)
@@ -54,7 +56,8 @@ pub line_other : (p : Place) (g : GeometryValue) (k : ℕ) (y : Line) (gone : Op
     IfSome gone (λ x. set_of_block g x.block ≡ set_of_block g y.block) →
     lines_of_set g k (with_line_at p y gone ls) ≡ lines_of_set g k ls
 line_other InFront g k y None ls e f = cons_other g k y ls e
-line_other InFront g k y (Some x) ls e f = grind (arith, set_without, without_absent, absent_other)
+line_other InFront g k y (Some x) ls e f =
+    grind (arith, set_without, lines_without_absent, absent_other)
 line_other InPlace g k y None ls e f = grind (arith, filter-append, append-nil)
 line_other InPlace g k y (Some x) ls e f = grind (
   arith,

@@ -14,7 +14,7 @@ use Rattle.cache_core.specs.declared.system_cache.SystemCache.{SystemCache}
 use Rattle.cache_core.specs.Machine.{Machine, run, dirty_count}
 use Rattle.cache_core.specs.Plans.{PlannedCaches, IsPlan}
 use Rattle.cache_core.specs.internal.CacheSteps.{system_cache_contents, Empties}
-use Rattle.cache_core.specs.Systems.{machine_of, events_for, first_level_references, below}
+use Rattle.cache_core.specs.Systems.{machine_of, events_for, first_level_references, lower_events}
 use Rattle.cache_core.specs.Systems.{flush_counts, flush_copybacks, is_taken}
 use Rattle.cache_core.specs.internal.SystemSteps.{SystemValue, present_refs, AccessesFirstLevel}
 use Rattle.cache_core.specs.internal.SystemSteps.{AllDescend, StepsSystem, FlushesSystem}
@@ -26,7 +26,8 @@ use Rattle.cache_core.proofs.RunLaw.{start_law, flush_run}
 use Rattle.cache_core.proofs.Pushes.{count_by_push}
 use Rattle.cache_core.proofs.SystemPushes.{counts_flush, flush_counts_flush, flush_counts_taken}
 use Rattle.cache_core.proofs.SystemPushes.{flush_counts_refs, events_flush, references_push}
-use Rattle.cache_core.proofs.SystemPushes.{references_flush, below_push, below_flush, with_refs}
+use Rattle.cache_core.proofs.SystemPushes.{references_flush, lower_events_push, lower_events_flush}
+use Rattle.cache_core.proofs.SystemPushes.{with_refs}
 use Rattle.cache_core.proofs.SystemPushes.{memory_flush}
 use Rattle.cache_core.proofs.FirstLevelLaw.{Kept, KeptIfPlanned, with_counts, stands_of, down_list}
 use Rattle.cache_core.proofs.FirstLevelLaw.{FirstKept, first_keeps}
@@ -38,7 +39,7 @@ flushed_all plan seed events =
     flush_copybacks seed plan.i (events_for L1I events) + flush_copybacks seed plan.d
     (events_for L1D events)
     + flush_copybacks seed plan.u (events_for L1U events) + flush_copybacks seed plan.second
-    (below plan seed events)
+    (lower_events plan seed events)
 
 -- a reference that no cache takes
 abbrev pub is_untaken : PlannedCaches → Ref → Bool
@@ -50,7 +51,7 @@ record SystemKept (plan : PlannedCaches) (seed : ℕ) (events : List Event)
   i : KeptIfPlanned seed plan.i (events_for L1I events) v.i
   d : KeptIfPlanned seed plan.d (events_for L1D events) v.d
   u : KeptIfPlanned seed plan.u (events_for L1U events) v.u
-  lower : Lower seed plan.second (below plan seed events) (flushed_all plan seed events)
+  lower : Lower seed plan.second (lower_events plan seed events) (flushed_all plan seed events)
       v.second v.memory
   bypassed : v.bypassed ≡ count_by (is_untaken plan) (references_in events)
 
@@ -93,8 +94,8 @@ module _ (plan : PlannedCaches) (seed : ℕ) (events : List Event) (ref : Ref) w
     ap sum (flush_counts_taken seed L1I plan.i events ref),
     ap sum (flush_counts_taken seed L1D plan.d events ref),
     ap sum (flush_counts_taken seed L1U plan.u events ref),
-    ap (flush_copybacks seed plan.second) (below_push plan seed events ref)
-        ∙ ap sum (flush_counts_refs seed plan.second (below plan seed events)
+    ap (flush_copybacks seed plan.second) (lower_events_push plan seed events ref)
+        ∙ ap sum (flush_counts_refs seed plan.second (lower_events plan seed events)
         (first_level_references plan seed events ref)),
   )
 
@@ -109,15 +110,17 @@ module _ (plan : PlannedCaches) (seed : ℕ) (events : List Event) (ref : Ref) w
       down_list down ≡ first_level_references plan seed events ref →
       MatchOption down ((new.second ≡ old.second) × (new.memory ≡ old.memory))
       (λ refs. AllDescend (present_refs refs) old.second old.memory new.second new.memory) →
-      Lower seed plan.second (below plan seed more) (flushed_all plan seed more)
+      Lower seed plan.second (lower_events plan seed more) (flushed_all plan seed more)
       new.second new.memory
   lower_step old new down p k all_sent l =
       let moved =
-      lower_after seed (flushed_all plan seed events) plan.second (below plan seed events)
+      lower_after seed (flushed_all plan seed events) plan.second (lower_events plan seed events)
       old.second new.second old.memory new.memory down p.second
       k.lower l in
-      let to : with_refs (below plan seed events) (down_list down) ≡ below plan seed more =
-      ap (with_refs (below plan seed events)) all_sent ∙ sym (below_push plan seed events ref) in
+      let to : with_refs (lower_events plan seed events) (down_list down) ≡
+      lower_events plan seed more =
+      ap (with_refs (lower_events plan seed events)) all_sent ∙
+      sym (lower_events_push plan seed events ref) in
       grind (arith, flushed_step)
 
   kept_step : (old new : SystemValue) → IsPlan plan → SystemKept plan seed events old →
@@ -210,7 +213,7 @@ module _ (plan : PlannedCaches) (seed : ℕ) (events : List Event) where
   kept_flush : (old new : SystemValue) → SystemKept plan seed events old → FlushesSystem old new →
       SystemKept plan seed (events ++ event.Flush ∷ []) new
   kept_flush old new k t =
-      let lower = below plan seed events in
+      let lower = lower_events plan seed events in
       grind (
         arith,
         emptied_if_planned seed plan.i (events_for L1I events) _ old.i t.dirty_i new.i
@@ -220,8 +223,8 @@ module _ (plan : PlannedCaches) (seed : ℕ) (events : List Event) where
         emptied_if_planned seed plan.u (events_for L1U events) _ old.u t.dirty_u new.u
             (events_flush L1U events) k.u t.u,
         emptied_if_planned seed plan.second lower _ old.second t.dirty_second new.second
-            (below_flush plan seed events) k.lower.kept t.second,
-        below_flush,
+            (lower_events_flush plan seed events) k.lower.kept t.second,
+        lower_events_flush,
         memory_flush,
         references_flush,
       )

@@ -21,7 +21,8 @@ use Rattle.cache_core.specs.Machine.{dirty_count}
 use Rattle.cache_core.specs.Plans.{PlannedCaches}
 use Rattle.cache_core.specs.CacheStats.{stats_from, stats_after_access, stats_after_flush}
 use Rattle.cache_core.specs.Systems.{is_taken_by, is_event_of, events_for, first_level_references}
-use Rattle.cache_core.specs.Systems.{below_from, below, to_memory, is_taken, flush_counts_from}
+use Rattle.cache_core.specs.Systems.{lower_events_from, lower_events, to_memory, is_taken}
+use Rattle.cache_core.specs.Systems.{flush_counts_from}
 use Rattle.cache_core.specs.Systems.{flush_counts, flush_counts_if_planned, cache_stats}
 use Rattle.cache_core.specs.Arrivals.{references_passed}
 use Rattle.cache_core.proofs.Pushes.{with_effects_push, with_effects_flush}
@@ -190,45 +191,52 @@ references_flush (event.Reference r ∷ events) = ap (λ xs. r ∷ xs) (referenc
 references_flush (event.Flush ∷ events) = references_flush events
 
 -- what is sent down from the first level
-below_push_from : (plan : PlannedCaches) (seed : ℕ) (earlier events : List Event) (ref : Ref) →
-    below_from plan seed earlier (events ++ event.Reference ref ∷ [])
-    ≡ below_from plan seed earlier events ++ map (λ x. event.Reference x)
+lower_events_push_from : (plan : PlannedCaches) (seed : ℕ) (earlier events : List Event)
+    (ref : Ref) →
+    lower_events_from plan seed earlier (events ++ event.Reference ref ∷ [])
+    ≡ lower_events_from plan seed earlier events ++ map (λ x. event.Reference x)
     (first_level_references plan seed (earlier ++ events) ref)
-below_push_from plan seed earlier [] ref =
+lower_events_push_from plan seed earlier [] ref =
     cc (
       append-nil (map (λ x. event.Reference x) (first_level_references plan seed earlier ref)),
       append-nil earlier,
     )
-below_push_from plan seed earlier (event.Reference r ∷ events) ref =
+lower_events_push_from plan seed earlier (event.Reference r ∷ events) ref =
     grind (
       arith,
       append_assoc,
-      below_push_from plan seed (earlier ++ event.Reference r ∷ []) events ref,
+      lower_events_push_from plan seed (earlier ++ event.Reference r ∷ []) events ref,
     )
-below_push_from plan seed earlier (event.Flush ∷ events) ref =
-    grind (arith, append_assoc, below_push_from plan seed (earlier ++ event.Flush ∷ []) events ref)
+lower_events_push_from plan seed earlier (event.Flush ∷ events) ref =
+    grind (
+      arith,
+      append_assoc,
+      lower_events_push_from plan seed (earlier ++ event.Flush ∷ []) events ref,
+    )
 
-pub below_push : (plan : PlannedCaches) (seed : ℕ) (events : List Event) (ref : Ref) →
-    below plan seed (events ++ event.Reference ref ∷ []) ≡ below plan seed events ++
+pub lower_events_push : (plan : PlannedCaches) (seed : ℕ) (events : List Event) (ref : Ref) →
+    lower_events plan seed (events ++ event.Reference ref ∷ []) ≡ lower_events plan seed events ++
     map (λ x. event.Reference x) (first_level_references plan seed events ref)
-below_push plan seed events ref = below_push_from plan seed [] events ref
+lower_events_push plan seed events ref = lower_events_push_from plan seed [] events ref
 
-below_flush_from : (plan : PlannedCaches) (seed : ℕ) (earlier events : List Event) →
-    below_from plan seed earlier (events ++ event.Flush ∷ []) ≡ below_from plan seed earlier
-    events ++ event.Flush ∷ []
-below_flush_from plan seed earlier [] = refl
-below_flush_from plan seed earlier (event.Reference r ∷ events) =
+lower_events_flush_from : (plan : PlannedCaches) (seed : ℕ) (earlier events : List Event) →
+    lower_events_from plan seed earlier (events ++ event.Flush ∷ []) ≡
+    lower_events_from plan seed earlier events ++ event.Flush ∷ []
+lower_events_flush_from plan seed earlier [] = refl
+lower_events_flush_from plan seed earlier (event.Reference r ∷ events) =
     grind (
       arith,
       append_assoc,
-      below_flush_from plan seed (earlier ++ event.Reference r ∷ []) events,
+      lower_events_flush_from plan seed (earlier ++ event.Reference r ∷ []) events,
     )
-below_flush_from plan seed earlier (event.Flush ∷ events) =
-    ap (λ es. event.Flush ∷ es) (below_flush_from plan seed (earlier ++ event.Flush ∷ []) events)
+lower_events_flush_from plan seed earlier (event.Flush ∷ events) =
+    ap (λ es. event.Flush ∷ es)
+    (lower_events_flush_from plan seed (earlier ++ event.Flush ∷ []) events)
 
-pub below_flush : (plan : PlannedCaches) (seed : ℕ) (events : List Event) →
-    below plan seed (events ++ event.Flush ∷ []) ≡ below plan seed events ++ event.Flush ∷ []
-below_flush plan seed events = below_flush_from plan seed [] events
+pub lower_events_flush : (plan : PlannedCaches) (seed : ℕ) (events : List Event) →
+    lower_events plan seed (events ++ event.Flush ∷ []) ≡ lower_events plan seed events ++
+    event.Flush ∷ []
+lower_events_flush plan seed events = lower_events_flush_from plan seed [] events
 
 -- what reaches memory
 pub memory_push : (seed : ℕ) (planned : Option PlannedCache) (events : List Event) (ref : Ref) →

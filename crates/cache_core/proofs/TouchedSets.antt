@@ -29,7 +29,7 @@ zero_at (suc n) (suc k) = zero_at n k
 
 -- a list of no set stands for counts that are all 0
 pub covers_none : (touched : TouchedValue) (capacity n : ℕ) (counts : List ℕ) →
-    touched ≡ record { capacity = capacity; listed = Some [] } →
+    touched ≡ record { capacity = capacity; sets = Some [] } →
     counts ≡ replicate n 0 → Covers touched counts
 covers_none touched capacity n counts is none = rw (is, none) record {
   within =

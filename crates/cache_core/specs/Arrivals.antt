@@ -17,7 +17,7 @@ use Rattle.cache_core.specs.Geometry.{GeometryValue, address_of}
 use Rattle.cache_core.specs.Machine.{run, step, dirty_count}
 use Rattle.cache_core.specs.Plans.{PlannedCaches}
 use Rattle.cache_core.specs.Systems.{machine_of, is_taken_by, events_for, first_level_references}
-use Rattle.cache_core.specs.Systems.{below, is_taken}
+use Rattle.cache_core.specs.Systems.{lower_events, is_taken}
 
 -- the address of an evicted block, and whether it was dirty
 abbrev pub victim_of : GeometryValue → Slot → Victim
@@ -81,7 +81,7 @@ first_arrivals plan seed earlier ref =
 -- the arrivals of a reference below the first level, or past it
 abbrev pub lower_arrivals : PlannedCaches → ℕ → List Event → Ref → List Arrival
 lower_arrivals plan seed earlier ref =
-    if is_taken plan ref then all_arrivals_below seed plan.second (below plan seed earlier)
+    if is_taken plan ref then all_arrivals_below seed plan.second (lower_events plan seed earlier)
     (first_level_references plan seed earlier ref) else Bypassed ref ∷ []
 
 -- the arrivals of an event that comes after earlier ones
@@ -92,7 +92,7 @@ arrivals_of plan seed earlier event.Flush =
     flushes seed L1I plan.i (events_for L1I earlier) ++ flushes seed L1D plan.d
     (events_for L1D earlier)
     ++ flushes seed L1U plan.u (events_for L1U earlier) ++ flushes seed L2U plan.second
-    (below plan seed earlier)
+    (lower_events plan seed earlier)
 
 -- the arrivals of events that come after earlier ones
 abbrev pub arrivals_from : PlannedCaches → ℕ → List Event → List Event → List Arrival

@@ -24,7 +24,7 @@ use Rattle.cache_core.specs.Geometry.{GeometryValue}
 use Rattle.cache_core.specs.Outcomes.{Effect}
 use Rattle.cache_core.specs.Machine.{with_effects}
 use Rattle.cache_core.specs.Plans.{PlannedCaches, IsPlan}
-use Rattle.cache_core.specs.Systems.{machine_of, events_for, below, to_memory}
+use Rattle.cache_core.specs.Systems.{machine_of, events_for, lower_events, to_memory}
 use Rattle.cache_core.specs.Systems.{flush_counts_if_planned}
 use Rattle.cache_core.specs.Arrivals.{arrivals_from, arrivals}
 
@@ -56,7 +56,7 @@ refs_past _ = []
 abbrev pub MemoryLaw : Type 0
 MemoryLaw = (plan : PlannedCaches) (seed : ℕ) (events : List Event) →
     flat_map refs_at_memory (arrivals plan seed events) ≡ to_memory seed plan.second
-    (below plan seed events)
+    (lower_events plan seed events)
 
 -- whether no cache takes a reference: there is no unified one, and none for fetches or for data
 abbrev pub is_left_out : PlannedCaches → Ref → Bool
@@ -96,7 +96,8 @@ UnifiedCacheLaw = (plan : PlannedCaches) (seed : ℕ) (events : List Event) →
 abbrev pub SecondLevelLaw : Type 0
 SecondLevelLaw = (plan : PlannedCaches) (seed : ℕ) (events : List Event) →
     is_some plan.second ≡ true →
-    flat_map (refs_at L2U) (arrivals plan seed events) ≡ references_in (below plan seed events)
+    flat_map (refs_at L2U) (arrivals plan seed events) ≡
+    references_in (lower_events plan seed events)
 
 -- a dirty victim is written back at its address
 abbrev pub victim_write : Option Victim → List Ref
@@ -193,7 +194,7 @@ abbrev pub events_at : PlannedCaches → ℕ → CacheName → List Event → Li
 events_at plan seed L1I events = events_for L1I events
 events_at plan seed L1D events = events_for L1D events
 events_at plan seed L1U events = events_for L1U events
-events_at plan seed L2U events = below plan seed events
+events_at plan seed L2U events = lower_events plan seed events
 
 -- a line, if it is one of this cache
 abbrev pub lines_at : CacheName → Arrival → List Arrival

@@ -60,8 +60,8 @@ abbrev pub lines_of_set : GeometryValue → ℕ → List Line → List Line
 lines_of_set g set lines = filter (λ line. set_of_block g line.block == set) lines
 
 -- the lines without that of a block
-abbrev pub without : ℕ → List Line → List Line
-without block lines = filter (λ line. not (is_block block line)) lines
+abbrev pub lines_without : ℕ → List Line → List Line
+lines_without block lines = filter (λ line. not (is_block block line)) lines
 
 -- the lines with another instead of that of a block
 abbrev pub exchange : ℕ → Line → List Line → List Line
@@ -87,7 +87,7 @@ victim Drawn way lines = find (λ line. line.key == way) lines
 -- them if none goes
 abbrev pub with_line_at : Place → Line → Option Line → List Line → List Line
 with_line_at InFront new None lines = new ∷ lines
-with_line_at InFront new (Some gone) lines = new ∷ without gone.block lines
+with_line_at InFront new (Some gone) lines = new ∷ lines_without gone.block lines
 with_line_at InPlace new None lines = lines ++ new ∷ []
 with_line_at InPlace new (Some gone) lines = exchange gone.block new lines
 

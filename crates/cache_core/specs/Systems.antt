@@ -52,31 +52,31 @@ abbrev pub events_for : CacheName → List Event → List Event
 events_for name events = filter (is_event_of name) events
 
 -- the references that a cache of the first level sends on for one, after earlier events
-abbrev pub sends : ℕ → CacheName → Option PlannedCache → List Event → Ref → List Ref
-sends seed name None earlier ref = []
-sends seed name (Some planned) earlier ref =
+abbrev pub references_sent : ℕ → CacheName → Option PlannedCache → List Event → Ref → List Ref
+references_sent seed name None earlier ref = []
+references_sent seed name (Some planned) earlier ref =
     if is_taken_by name ref then (step (machine_of seed planned)
     (run (machine_of seed planned) (events_for name earlier)) ref).effect.down else []
 
 -- the references that the first level sends on for one
 abbrev pub first_level_references : PlannedCaches → ℕ → List Event → Ref → List Ref
 first_level_references plan seed earlier ref =
-    sends seed L1I plan.i earlier ref ++ sends seed L1D plan.d earlier ref ++
-    sends seed L1U plan.u earlier ref
+    references_sent seed L1I plan.i earlier ref ++ references_sent seed L1D plan.d earlier ref ++
+    references_sent seed L1U plan.u earlier ref
 
 -- the references that the first level sends on for events that come after earlier ones, in order,
 -- with each flush where it comes
-abbrev pub below_from : PlannedCaches → ℕ → List Event → List Event → List Event
-below_from plan seed earlier [] = []
-below_from plan seed earlier (event.Reference ref ∷ events) =
+abbrev pub lower_events_from : PlannedCaches → ℕ → List Event → List Event → List Event
+lower_events_from plan seed earlier [] = []
+lower_events_from plan seed earlier (event.Reference ref ∷ events) =
     map event.Reference (first_level_references plan seed earlier ref) ++
-    below_from plan seed (earlier ++ event.Reference ref ∷ []) events
-below_from plan seed earlier (event.Flush ∷ events) = event.Flush ∷ below_from plan seed (earlier ++
-    event.Flush ∷ []) events
+    lower_events_from plan seed (earlier ++ event.Reference ref ∷ []) events
+lower_events_from plan seed earlier (event.Flush ∷ events) =
+    event.Flush ∷ lower_events_from plan seed (earlier ++ event.Flush ∷ []) events
 
 -- the events of the second level: those that the first sends on for a whole list
-abbrev pub below : PlannedCaches → ℕ → List Event → List Event
-below plan seed events = below_from plan seed [] events
+abbrev pub lower_events : PlannedCaches → ℕ → List Event → List Event
+lower_events plan seed events = lower_events_from plan seed [] events
 
 -- how many dirty blocks each flush of a list finds, from a state
 abbrev pub flush_counts_from : Machine → MachineState → List Event → List ℕ
@@ -123,7 +123,7 @@ is_taken plan ref = is_some plan.u || (is_some plan.i && is_taken_by L1I ref) ||
 -- the statistics of a system after a list of events
 abbrev pub system_run : PlannedCaches → ℕ → List Event → Stats
 system_run plan seed events =
-    let lower = below plan seed events in
+    let lower = lower_events plan seed events in
     let memory = to_memory seed plan.second lower in
     record {
       l1i = counts_if_planned seed plan.i (events_for L1I events);

@@ -3,7 +3,7 @@ ghost use Rattle.std.specs.Prelude.{◌≡◌, ◌<◌, false, length, [], None,
 ghost use Rattle.std.specs.Prelude.{slice_index_or, option_map};
 ghost use Rattle.cache_core.specs.internal.DeepSets.{no_blocks};
 ghost use Rattle.deep_list.specs.Deep.{has_block};
-ghost use Rattle.cache_core.specs.internal.LruSets.{LruSetsStandFor, far_lookup, pushed_back};
+ghost use Rattle.cache_core.specs.internal.LruSets.{LruSetsStandFor, far_lookup, far_after_push};
 
 use crate::cache::Cache;
 use crate::deep_sets::DeepSets;
@@ -135,7 +135,7 @@ fn push_back(far: &mut Option<DeepSets>, set: usize, block: u64, victim: u64) ->
     requires apart { IfSome far.old
         (λ d. has_block victim (slice_index_or d.lists set []) ≡ false) }
     ensures found { result ≡ far_lookup far.old set block }
-    ensures moved { far.new ≡ pushed_back far.old set block victim }
+    ensures moved { far.new ≡ far_after_push far.old set block victim }
 {
     match far {
         Some(far) => far.bring(set, block, victim),

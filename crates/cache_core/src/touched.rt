@@ -30,7 +30,7 @@ impl Model for TouchedSets {
 
     ghost view = { λ t. record {
       capacity = length t.entries.items;
-      listed = option_map (λ used. take used t.entries.items) t.used;
+      sets = option_map (λ used. take used t.entries.items) t.used;
     } };
 
     ghost invariant = { λ t. IfSome t.used (λ used. used ≤ length t.entries.items) };
@@ -51,7 +51,7 @@ impl TouchedSets {
     /// of its memory here, which alone can fail.
     pub fn new(alloc: Global, sets: usize) -> Result<TouchedSets, AllocError>
         ensures { IfOk result (λ touched.
-            touched ≡ record { capacity = sets / 16; listed = Some [] }) }
+            touched ≡ record { capacity = sets / 16; sets = Some [] }) }
     {
         Ok(TouchedSets {
             entries: vec![in alloc; 0; sets / SETS_PER_ENTRY]?,
@@ -77,7 +77,7 @@ impl TouchedSets {
     #[inline(never)]
     fn add(&mut self, set: u32)
         ensures { self.new
-            ≡ record self.old { listed = with_set self.old.capacity set self.old.listed } }
+            ≡ record self.old { sets = with_set self.old.capacity set self.old.sets } }
     {
         self.used = match self.used {
             Some(used) if used < self.entries.len() => {
@@ -90,7 +90,7 @@ impl TouchedSets {
 
     /// The sets that are listed, or `None` if there were more than entries.
     pub fn listed(&self) -> Option<&[u32]>
-        ensures { option_map (λ sets. sets.now) result ≡ self.now.listed }
+        ensures { option_map (λ sets. sets.now) result ≡ self.now.sets }
     {
         self.used.map(|used| &self.entries[..used])
     }

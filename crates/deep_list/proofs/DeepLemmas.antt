@@ -9,7 +9,8 @@ use Rattle.std.proofs.lemmas.Bool.{cases_eq, cases_lt, false≢true}
 use Rattle.std.proofs.lemmas.List.{take_all, length-take-le, get_or_past, nil_from_length}
 use Rattle.std.proofs.lemmas.List.{length-replicate}
 use Rattle.std.proofs.lemmas.List.Sums.{sum_by-set, sum_by_more, sum_by-take-le}
-use Rattle.deep_list.specs.Slots.{SlotsValue, AreFlags, kept, slots_with_block, slots_without, IsAt}
+use Rattle.deep_list.specs.Slots.{SlotsValue, AreFlags, live_blocks, slots_with_block}
+use Rattle.deep_list.specs.Slots.{slots_without, IsAt}
 use Rattle.deep_list.specs.Slots.{NoneHas}
 use Rattle.deep_list.specs.Chains.{ChainsValue, AreChains, AreFiled, AreFiledFrom, IsFiled}
 use Rattle.deep_list.specs.Chains.{chain_of, with_slot}
@@ -18,10 +19,12 @@ use Rattle.deep_list.specs.Deep.{IsDeep, IsGathering, IsGathered}
 use Rattle.deep_list.proofs.ChainLemmas.{chain_small, chains_more, filed_more, same_all, same_most}
 use Rattle.deep_list.proofs.ChainLemmas.{zeros}
 use Rattle.deep_list.proofs.SlotLemmas.{sum_take-set_above, flags_set, flags_sum}
-use Rattle.deep_list.proofs.KeptLemmas.{kept-vacate, kept-fill, kept-move, kept-dead, length-kept}
-use Rattle.deep_list.proofs.KeptLemmas.{sum-dead, is_in-kept, absent-kept, index-kept, sum-some}
-use Rattle.deep_list.proofs.KeptLemmas.{remove-last, remove-end, once-take, once-remove}
-use Rattle.deep_list.proofs.KeptLemmas.{index-absent}
+use Rattle.deep_list.proofs.LiveBlockLemmas.{live_blocks-vacate, live_blocks-fill, live_blocks-move}
+use Rattle.deep_list.proofs.LiveBlockLemmas.{live_blocks-dead, length-live_blocks}
+use Rattle.deep_list.proofs.LiveBlockLemmas.{sum-dead, is_in-live_blocks, absent-live_blocks}
+use Rattle.deep_list.proofs.LiveBlockLemmas.{index-live_blocks, sum-some}
+use Rattle.deep_list.proofs.LiveBlockLemmas.{remove-last, remove-end, once-take, once-remove}
+use Rattle.deep_list.proofs.LiveBlockLemmas.{index-absent}
 
 zero_set : (xs : List ℕ) (s k : ℕ) → get_or xs k 0 ≡ 0 → get_or (set xs s 0) k 0 ≡ 0
 zero_set [] s k h = h
@@ -119,9 +122,9 @@ module _ {top end : ℕ} {slots : SlotsValue} {chains : ChainsValue}
     lt : t < length slots.live
     lt = omega (arith, r.order, r.within)
 
-    pub filled_kept : kept (set slots.blocks t x) (set slots.live t 1) ≡ x ∷ kept
+    pub filled_kept : live_blocks (set slots.blocks t x) (set slots.live t 1) ≡ x ∷ live_blocks
         slots.blocks slots.live
-    filled_kept = kept-fill slots.blocks slots.live t x r.same lt free
+    filled_kept = live_blocks-fill slots.blocks slots.live t x r.same lt free
 
     pub filled_sum : sum (set slots.live t 1) ≡ sum slots.live + 1
     filled_sum = omega (arith, sum_by-set (λ x. x) slots.live t 1 0 lt, free t (omega arith))
@@ -223,7 +226,7 @@ module _ {from to : ℕ} {v w : SlotsValue} (g : IsGathering from to v w) (f : �
               | inr other ↦ get_or-set_other w.live f s 0 0 other ∙ g.dead s (omega arith)
                   (omega arith)
             ];
-        kept_same = kept-move w.blocks w.live f u g.same one (omega (arith, g.order))
+        kept_same = live_blocks-move w.blocks w.live f u g.same one (omega (arith, g.order))
             (omega (arith, g.within))
             (λ k past le. g.dead k (omega arith) (omega arith)) ∙ g.kept_same;
         left = omega (
@@ -273,8 +276,8 @@ module _ (cap n : ℕ) (slots : SlotsValue) (long : length slots.blocks ≡ n)
   size : length slots.live ≡ n
   size = ap length none ∙ length-replicate {A = ℕ} n 0
 
-  pub none_kept : kept slots.blocks slots.live ≡ []
-  none_kept = kept-dead slots.blocks slots.live dead
+  pub none_kept : live_blocks slots.blocks slots.live ≡ []
+  none_kept = live_blocks-dead slots.blocks slots.live dead
 
   pub none_deep : (chains : ChainsValue) → 1 ≤ cap → cap < n → n ≤ 2 ^ 24 → AreChains n n chains →
       IsDeep cap 0 n n slots chains
@@ -315,17 +318,19 @@ chains_none n count v one few heads next = record {
 
 module _ {cap held top end : ℕ} {slots : SlotsValue} {chains : ChainsValue}
     (d : IsDeep cap held top end slots chains) where
-  pub held_length : held ≡ length (kept slots.blocks slots.live)
-  held_length = d.held_is ∙ sym (length-kept slots.blocks slots.live d.ranked.same d.ranked.flags)
+  pub held_length : held ≡ length (live_blocks slots.blocks slots.live)
+  held_length = d.held_is ∙ sym (length-live_blocks slots.blocks slots.live d.ranked.same
+      d.ranked.flags)
 
-  pub held_none : held ≤ 0 → kept slots.blocks slots.live ≡ []
-  held_none none = nil_from_length (kept slots.blocks slots.live) (omega (arith, held_length, none))
+  pub held_none : held ≤ 0 → live_blocks slots.blocks slots.live ≡ []
+  held_none none = nil_from_length (live_blocks slots.blocks slots.live)
+      (omega (arith, held_length, none))
 
   -- a live slot vacated
   module _ (s : ℕ) (one : get_or slots.live s 0 ≡ 1) where
-    pub vacated_kept : kept slots.blocks (set slots.live s 0) ≡ remove
-        (kept slots.blocks slots.live) (sum (take s slots.live))
-    vacated_kept = kept-vacate slots.blocks slots.live s d.ranked.same d.ranked.flags one
+    pub vacated_kept : live_blocks slots.blocks (set slots.live s 0) ≡ remove
+        (live_blocks slots.blocks slots.live) (sum (take s slots.live))
+    vacated_kept = live_blocks-vacate slots.blocks slots.live s d.ranked.same d.ranked.flags one
 
     pub vacated_deep : (end' : ℕ) (w : SlotsValue) → w ≡ slots_without slots s →
         IsRanked top end' (slots_without slots s) chains
@@ -340,42 +345,44 @@ module _ {cap held top end : ℕ} {slots : SlotsValue} {chains : ChainsValue}
           held_is = omega (arith, d.held_is, sums);
           once = let Q : List ℕ → Type 0 = IsOnce in
               subst Q (sym vacated_kept) (once-remove (sum (take s slots.live))
-              (kept slots.blocks slots.live) d.once);
+              (live_blocks slots.blocks slots.live) d.once);
           ranked = ranked;
         })
 
   -- the slot of a block
   module _ (x s : ℕ) (at : IsAt slots x s) where
-    pub found_inside : has_block x (kept slots.blocks slots.live) ≡ true
-    found_inside = is_in-kept x slots.blocks slots.live s d.ranked.same at.live at.block
+    pub found_inside : has_block x (live_blocks slots.blocks slots.live) ≡ true
+    found_inside = is_in-live_blocks x slots.blocks slots.live s d.ranked.same at.live at.block
 
-    pub found_index : index_of_block x (kept slots.blocks slots.live) ≡ sum (take s slots.live)
-    found_index = index-kept x slots.blocks slots.live s d.ranked.same d.ranked.flags d.once
+    pub found_index : index_of_block x (live_blocks slots.blocks slots.live) ≡
+        sum (take s slots.live)
+    found_index = index-live_blocks x slots.blocks slots.live s d.ranked.same d.ranked.flags d.once
         at.live at.block
 
-  pub not_found : (x : ℕ) → NoneHas slots x → has_block x (kept slots.blocks slots.live) ≡ false
+  pub not_found : (x : ℕ) → NoneHas slots x →
+      has_block x (live_blocks slots.blocks slots.live) ≡ false
   not_found x none =
-      absent-kept x slots.blocks slots.live d.ranked.flags
+      absent-live_blocks x slots.blocks slots.live d.ranked.flags
       (λ s lt live is. none s lt (record { live = live; block = is }))
 
   -- the last live slot
   module _ (s : ℕ) (one : get_or slots.live s 0 ≡ 1) (past : (k : ℕ) → s < k → k < end →
       get_or slots.live k 0 ≡ 1 → ⊥) where
-    pub last_kept : kept slots.blocks (set slots.live s 0) ≡ take
-        (length (kept slots.blocks slots.live) - 1) (kept slots.blocks slots.live)
+    pub last_kept : live_blocks slots.blocks (set slots.live s 0) ≡ take
+        (length (live_blocks slots.blocks slots.live) - 1) (live_blocks slots.blocks slots.live)
     last_kept =
         let sums : sum slots.live ≡ sum (take s slots.live) + 1 =
         sum-some slots.live s (live_within slots.live s one) one (behind_last d.ranked s past) in
-        let index : suc (sum (take s slots.live)) ≡ length (kept slots.blocks slots.live) =
+        let index : suc (sum (take s slots.live)) ≡ length (live_blocks slots.blocks slots.live) =
         omega (arith, held_length, d.held_is, sums) in
-        vacated_kept s one ∙ remove-last (kept slots.blocks slots.live)
+        vacated_kept s one ∙ remove-last (live_blocks slots.blocks slots.live)
         (sum (take s slots.live)) index
-        ∙ ap (λ n. take n (kept slots.blocks slots.live)) (omega (arith, index))
+        ∙ ap (λ n. take n (live_blocks slots.blocks slots.live)) (omega (arith, index))
 
   pub some_live : ((k : ℕ) → k < end → get_or slots.live k 0 ≡ 1 → ⊥) →
-      kept slots.blocks slots.live ≡ []
+      live_blocks slots.blocks slots.live ≡ []
   some_live none =
-      kept-dead slots.blocks slots.live
+      live_blocks-dead slots.blocks slots.live
       (λ k. elim (cases_lt k end) [
         | inl inside ↦ dead_flag slots.live k d.ranked.flags
             (none k inside)
@@ -390,17 +397,18 @@ without_absent x xs absent = remove-end xs (index_of_block x xs) (index-absent x
 pub filled_deep : {cap held top0 end0 top end : ℕ} {slots0 slots : SlotsValue}
     {chains0 chains : ChainsValue}
     → IsDeep cap held top0 end0 slots0 chains0 → IsRanked top end slots chains →
-    kept slots.blocks slots.live ≡ kept slots0.blocks slots0.live
+    live_blocks slots.blocks slots.live ≡ live_blocks slots0.blocks slots0.live
     → length slots.live ≡ length slots0.live → (x t : ℕ) → t + 1 ≡ top →
-    has_block x (kept slots0.blocks slots0.live) ≡ false
-    → length (kept slots0.blocks slots0.live) < cap → (w : SlotsValue) (chains' : ChainsValue) →
+    has_block x (live_blocks slots0.blocks slots0.live) ≡ false
+    → length (live_blocks slots0.blocks slots0.live) < cap →
+    (w : SlotsValue) (chains' : ChainsValue) →
     w ≡ slots_with_block slots t x
     → IsRanked t end (slots_with_block slots t x) chains' → IsDeep cap (held + 1) t end w chains'
 filled_deep {cap} {held} {top0} {end0} {top} {end} {slots0} {slots} d r same long x t next absent
     short w chains' is ranked =
     let P : SlotsValue → Type 0 = λ v. IsDeep cap (held + 1) t end v chains' in
     let Q : List ℕ → Type 0 = IsOnce in
-    let once : IsOnce (x ∷ kept slots.blocks slots.live) =
+    let once : IsOnce (x ∷ live_blocks slots.blocks slots.live) =
     (ap (has_block x) same ∙ absent, subst Q (sym same) d.once) in
     subst P (sym is) (record {
       some = d.some;
@@ -410,7 +418,7 @@ filled_deep {cap} {held} {top0} {end0} {top} {end} {slots0} {slots} d r same lon
         arith,
         held_length d,
         ap length same,
-        length-kept slots.blocks slots.live
+        length-live_blocks slots.blocks slots.live
             r.same r.flags,
         filled_sum r x t next,
       );
@@ -432,7 +440,7 @@ pub record IsHeld (cap held : ℕ) (v : Deep) : Type 0 where
 
 pub held_is : {cap held top end : ℕ} {slots : SlotsValue} {chains : ChainsValue} (v : Deep) →
     IsDeep cap held top end slots chains
-    → record { cap = cap; blocks = kept slots.blocks slots.live } ≡ v → IsHeld cap held v
+    → record { cap = cap; blocks = live_blocks slots.blocks slots.live } ≡ v → IsHeld cap held v
 held_is v d is = record {
   cap_is = ap (λ w. w.cap) is;
   some = d.some;

@@ -1,4 +1,4 @@
 pub mod SlotLemmas
 pub mod ChainLemmas
-pub mod KeptLemmas
+pub mod LiveBlockLemmas
 pub mod DeepLemmas

@@ -44,8 +44,8 @@ with_slot v s k = record {
 }
 
 -- with empty chains
-abbrev pub cleared : ChainsValue → ChainsValue
-cleared v = record v { heads = replicate (length v.heads) (length v.next) }
+abbrev pub empty_chains : ChainsValue → ChainsValue
+empty_chains v = record v { heads = replicate (length v.heads) (length v.next) }
 
 -- chains of n slots, on which slots rise, and none is before `top`
 pub record AreChains (top n : ℕ) (v : ChainsValue) : Type 0 where

@@ -3,7 +3,7 @@ use Rattle.std.specs.Prelude.{ℕ, ◌≡◌, ◌≤◌, ◌<◌, ◌+◌, ◌-�
 use Rattle.std.specs.Prelude.{if◌then◌else◌, Option, Some, None, List, [], ◌∷◌, length, take, sum}
 use Rattle.std.specs.Prelude.{slice_index}
 use Rattle.std.specs.List.{list_any, position_or_len, remove}
-use Rattle.deep_list.specs.Slots.{SlotsValue, AreFlags, kept}
+use Rattle.deep_list.specs.Slots.{SlotsValue, AreFlags, live_blocks}
 use Rattle.deep_list.specs.Chains.{ChainsValue, AreChains, AreFiled}
 
 -- the index of x in a list, or the list's length
@@ -57,7 +57,7 @@ pub record IsDeep (cap held top end : ℕ) (slots : SlotsValue) (chains : Chains
   pub room : cap < length slots.live
   pub at_most : held ≤ cap
   pub held_is : held ≡ sum slots.live
-  pub once : IsOnce (kept slots.blocks slots.live)
+  pub once : IsOnce (live_blocks slots.blocks slots.live)
   pub ranked : IsRanked top end slots chains
 
 -- the slots while the live ones are moved to the end: those from `from` on were moved, and of these
@@ -69,7 +69,7 @@ pub record IsGathering (from to : ℕ) (before slots : SlotsValue) : Type 0 wher
   pub order : from ≤ to
   pub within : to ≤ length slots.live
   pub dead : (s : ℕ) → from ≤ s → s < to → slice_index slots.live s ≡ 0
-  pub kept_same : kept slots.blocks slots.live ≡ kept before.blocks before.live
+  pub kept_same : live_blocks slots.blocks slots.live ≡ live_blocks before.blocks before.live
   pub left : length slots.live + sum (take from slots.live) ≡ to + sum before.live
 
 -- the live slots at the end, from `top` on
@@ -78,5 +78,5 @@ pub record IsGathered (top : ℕ) (before slots : SlotsValue) : Type 0 where
   pub long : length slots.live ≡ length before.live
   pub flags : AreFlags slots.live
   pub dead : (s : ℕ) → s < top → slice_index slots.live s ≡ 0
-  pub kept_same : kept slots.blocks slots.live ≡ kept before.blocks before.live
+  pub kept_same : live_blocks slots.blocks slots.live ≡ live_blocks before.blocks before.live
   pub top_is : length slots.live ≡ top + sum before.live

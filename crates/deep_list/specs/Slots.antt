@@ -42,8 +42,8 @@ pub record HasCounts (blocks live counts : List ℕ) : Type 0 where
   pub prefixes : (c : ℕ) → c ≤ length counts → sum (take c counts) ≡ sum (take (c * 256) live)
 
 -- the blocks of the live slots, in order
-unfoldable pub kept : List ℕ → List ℕ → List ℕ
-kept [] live = []
-kept (x ∷ blocks) [] = []
-kept (x ∷ blocks) (zero ∷ live) = kept blocks live
-kept (x ∷ blocks) (suc n ∷ live) = x ∷ kept blocks live
+unfoldable pub live_blocks : List ℕ → List ℕ → List ℕ
+live_blocks [] live = []
+live_blocks (x ∷ blocks) [] = []
+live_blocks (x ∷ blocks) (zero ∷ live) = live_blocks blocks live
+live_blocks (x ∷ blocks) (suc n ∷ live) = x ∷ live_blocks blocks live

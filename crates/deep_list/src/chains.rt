@@ -3,7 +3,7 @@
 ghost use Rattle.std.specs.Prelude.{◌≡◌, ◌<◌, ◌≤◌, ◌^◌, length, replicate};
 ghost use Rattle.std.specs.Prelude.{IfOk, MatchOption};
 ghost use Rattle.deep_list.specs.Slots.{IsAt, NoneHas};
-ghost use Rattle.deep_list.specs.Chains.{chain_of, with_slot, cleared};
+ghost use Rattle.deep_list.specs.Chains.{chain_of, with_slot, empty_chains};
 ghost use Rattle.deep_list.specs.Deep.{IsRanked};
 
 use crate::slots::{Slots, Span};
@@ -94,7 +94,7 @@ impl Chains {
     /// Empties all chains.
     pub fn clear(&mut self)
         requires { length self.old.next ≤ 2 ^ 24 }
-        ensures { self.new ≡ cleared self.old }
+        ensures { self.new ≡ empty_chains self.old }
     {
         let none = self.next.len() as u32;
         self.heads.fill(none);

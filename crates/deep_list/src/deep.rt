@@ -4,7 +4,7 @@
 ghost use Rattle.std.specs.Prelude.{◌≡◌, ◌+◌, ◌-◌, ◌<◌, ◌≤◌, ◌^◌, ◌≢◌, ℕ, false, [], ◌∷◌, length};
 ghost use Rattle.std.specs.Prelude.{sum, take, IfOk, MatchOption, slice_index};
 ghost use Rattle.deep_list.specs.Slots.{SlotsValue, AreFlags, slots_with_block, slots_without};
-ghost use Rattle.deep_list.specs.Slots.{kept};
+ghost use Rattle.deep_list.specs.Slots.{live_blocks};
 ghost use Rattle.deep_list.specs.Chains.{AreChains, AreFiled};
 ghost use Rattle.deep_list.specs.Deep.{has_block, place_of, without_block, list_after_exchange};
 ghost use Rattle.deep_list.specs.Deep.{IsRanked, IsGathered};
@@ -27,12 +27,12 @@ pub struct DeepList {
 }
 
 impl Model for DeepList {
-    ghost use Rattle.deep_list.specs.Slots.{kept};
+    ghost use Rattle.deep_list.specs.Slots.{live_blocks};
     ghost use Rattle.deep_list.specs.Deep.{Deep, IsDeep};
 
     ghost Value = { Deep };
 
-    ghost view = { λ d. record { cap = d.cap; blocks = kept d.slots.blocks d.slots.live } };
+    ghost view = { λ d. record { cap = d.cap; blocks = live_blocks d.slots.blocks d.slots.live } };
 
     ghost invariant = { λ d. IsDeep d.cap d.held d.span.top d.span.end d.slots d.chains };
 }
@@ -170,7 +170,7 @@ fn make_room(slots: &mut Slots, chains: &mut Chains, span: Span) -> Span
     requires room { sum slots.old.live < length slots.old.live }
     ensures ranked { IsRanked result.top result.end slots.new chains.new }
     ensures free { 1 ≤ result.top }
-    ensures kept_same { kept slots.new.blocks slots.new.live ≡ kept slots.old.blocks
+    ensures kept_same { live_blocks slots.new.blocks slots.new.live ≡ live_blocks slots.old.blocks
         slots.old.live }
     ensures long { length slots.new.live ≡ length slots.old.live }
 {

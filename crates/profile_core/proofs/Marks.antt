@@ -13,8 +13,9 @@ use Rattle.std.proofs.lemmas.Nat.{shr-shr, shr_le}
 use Rattle.std.proofs.lemmas.Simd.{leading_from_mask_l, trailing_mask_l}
 use Rattle.profile_core.specs.declared.recency.Touch.TheVariants.{Behind, New}
 use Rattle.profile_core.specs.internal.Moves.{is_in, touch_of}
-use Rattle.profile_core.specs.internal.Slots.{mark_of, listed, IsOrder}
-use Rattle.profile_core.proofs.SlotLemmas.{length-listed, listed_at, found_at, found_nowhere}
+use Rattle.profile_core.specs.internal.Slots.{mark_of, ordered_numbers, IsOrder}
+use Rattle.profile_core.proofs.SlotLemmas.{length-ordered_numbers, ordered_numbers_at, found_at}
+use Rattle.profile_core.proofs.SlotLemmas.{found_nowhere}
 use Rattle.profile_core.proofs.SlotLemmas.{touch_found, touch_new, absent_to, absent_at}
 
 mask_half : (m : Bool) (ms : List Bool) → mask_l (m ∷ ms) / 2 ^ 1 ≡ mask_l ms
@@ -39,12 +40,12 @@ pub record CameTo (marks slots blocks : List ℕ) (len x place left : ℕ) : Typ
   pub order : IsOrder marks slots blocks
   pub most : len ≤ 16
   pub left_is : left ≡ mask_l (map (λ m. eqb m (mark_of x)) (drop place marks))
-  pub absent : is_in x (take place (listed slots blocks len)) ≡ false
+  pub absent : is_in x (take place (ordered_numbers slots blocks len)) ≡ false
 
 module _ {marks slots blocks : List ℕ} {len x place left : ℕ}
     (c : CameTo marks slots blocks len x place left) where
   abbrev list : List ℕ
-  list = listed slots blocks len
+  list = ordered_numbers slots blocks len
 
   -- the next place with a mark, and how many marks are left out
   abbrev next : ℕ
@@ -54,7 +55,7 @@ module _ {marks slots blocks : List ℕ} {len x place left : ℕ}
   fits = omega (arith, c.order.order_len, c.most)
 
   long : length list ≡ len
-  long = length-listed slots blocks len fits
+  long = length-ordered_numbers slots blocks len fits
 
   -- none of the next blocks is x whose marks differ
   absent_past : (n : ℕ) → n ≤ position_or_len (λ m. eqb m (mark_of x)) (drop place marks) →
@@ -67,7 +68,7 @@ module _ {marks slots blocks : List ℕ} {len x place left : ℕ}
         let same : get_or (drop place marks) (k - place) 0 ≡ mark_of x =
         get_or-drop place marks (k - place) 0 ∙ ap (λ j. get_or marks j 0) here
         ∙ c.order.marked k (omega (arith, within, c.most))
-        ∙ ap mark_of (sym (listed_at slots blocks len k fits within) ∙ e) in
+        ∙ ap mark_of (sym (ordered_numbers_at slots blocks len k fits within) ∙ e) in
         absurd (false≢true (sym (fails_before_first (λ m. eqb m (mark_of x)) (drop place marks)
         (k - place) 0 (omega arith))
         ∙ eq-eqb (get_or (drop place marks) (k - place) 0) (mark_of x) same)))
@@ -120,13 +121,13 @@ module _ {marks slots blocks : List ℕ} {len x place left : ℕ}
         let within : next < length list = omega (arith, long) in
         touch_found x next list (found_at x next list within
         (λ k h e. absent_at x next k list absent_before h (omega arith) e)
-        (listed_at slots blocks len next fits lt ∙ at)) within
+        (ordered_numbers_at slots blocks len next fits lt ∙ at)) within
 
     pub absent_behind : next < len → (get_or blocks (get_or slots next 0) 0 ≡ x → ⊥) →
         is_in x (take (next + 1) list) ≡ false
     absent_behind lt other = absent_to x (next + 1) list (λ k h le e. elim (cases_lt k next) [
       | inl near ↦ absent_at x next k list absent_before near le e
       | inr far ↦ (let here : k ≡ next = omega arith in
-          other (sym (listed_at slots blocks len next fits lt) ∙
+          other (sym (ordered_numbers_at slots blocks len next fits lt) ∙
           ap (λ j. get_or list j 0) (sym here) ∙ e))
     ])

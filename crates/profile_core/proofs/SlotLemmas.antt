@@ -16,27 +16,28 @@ use Rattle.std.specs.List.{remove}
 use Rattle.profile_core.specs.declared.recency.Touch.TheVariants.{Behind, New}
 use Rattle.profile_core.specs.declared.slotted_rests.TheConstants.{TURNS, FIRST_LANE}
 use Rattle.profile_core.specs.internal.Moves.{index_of, is_in, touch_of}
-use Rattle.profile_core.specs.internal.Slots.{mark_of, listed, IsOrder}
+use Rattle.profile_core.specs.internal.Slots.{mark_of, ordered_numbers, IsOrder}
 use Rattle.profile_core.proofs.Elements.{all_same}
 use Rattle.profile_core.proofs.Shifting.{index_found, index_end, is_found, is_absent, length-remove}
 
 -- the length of a list, and its block at an index
-pub length-listed : (order numbers : List ℕ) (len : ℕ) → len ≤ length order →
-    length (listed order numbers len) ≡ len
-length-listed order numbers len le = length-map (take len order) (λ s. get_or numbers s 0) ∙
+pub length-ordered_numbers : (order numbers : List ℕ) (len : ℕ) → len ≤ length order →
+    length (ordered_numbers order numbers len) ≡ len
+length-ordered_numbers order numbers len le =
+    length-map (take len order) (λ s. get_or numbers s 0) ∙
     length-take-le len order le
 
-pub listed_at : (order numbers : List ℕ) (len k : ℕ) → len ≤ length order → k < len →
-    get_or (listed order numbers len) k 0 ≡ get_or numbers (get_or order k 0) 0
-listed_at order numbers len k le lt =
+pub ordered_numbers_at : (order numbers : List ℕ) (len k : ℕ) → len ≤ length order → k < len →
+    get_or (ordered_numbers order numbers len) k 0 ≡ get_or numbers (get_or order k 0) 0
+ordered_numbers_at order numbers len k le lt =
     get_or-map (λ s. get_or numbers s 0) (take len order) k 0 0
     (omega (arith, length-take-le len order le))
     ∙ ap (λ s. get_or numbers s 0) (get_or-take len order k 0 lt)
 
 -- the numbers in the first slots
-pub listed_take : (order numbers : List ℕ) (n m : ℕ) → n ≤ m →
-    listed order numbers n ≡ take n (listed order numbers m)
-listed_take order numbers n m le =
+pub ordered_numbers_take : (order numbers : List ℕ) (n m : ℕ) → n ≤ m →
+    ordered_numbers order numbers n ≡ take n (ordered_numbers order numbers m)
+ordered_numbers_take order numbers n m le =
     ap (map (λ s. get_or numbers s 0)) (sym (take-take n m order le)) ∙
     sym (take-map (λ s. get_or numbers s 0) n (take m order))
 
@@ -175,27 +176,30 @@ module _ (p y mark : ℕ) (marks order numbers : List ℕ) (o : IsOrder marks or
     marked = marked_at;
   }
 
-  whole_long : length (listed order numbers 16) ≡ 16
-  whole_long = length-listed order numbers 16 (omega (arith, o.order_len))
+  whole_long : length (ordered_numbers order numbers 16) ≡ 16
+  whole_long = length-ordered_numbers order numbers 16 (omega (arith, o.order_len))
 
-  put_at : (k : ℕ) → k < 16 → get_or (listed (turned p order) written 16) k 0 ≡
-      get_or (y ∷ remove (listed order numbers 16) p) k 0
-  put_at zero h = listed_at (turned p order) written 16 zero
+  put_at : (k : ℕ) → k < 16 → get_or (ordered_numbers (turned p order) written 16) k 0 ≡
+      get_or (y ∷ remove (ordered_numbers order numbers 16) p) k 0
+  put_at zero h = ordered_numbers_at (turned p order) written 16 zero
       (omega (arith, put_order.order_len)) h ∙ front_number
   put_at (suc k) h =
-      listed_at (turned p order) written 16 (suc k) (omega (arith, put_order.order_len)) h
+      ordered_numbers_at (turned p order) written 16 (suc k) (omega (arith, put_order.order_len)) h
       ∙ ap (λ s. get_or written s 0) (turned_at p (suc k) order in_order)
       ∙ other_number k h
-      ∙ sym (listed_at order numbers 16 (source p (suc k)) (omega (arith, o.order_len))
+      ∙ sym (ordered_numbers_at order numbers 16 (source p (suc k)) (omega (arith, o.order_len))
       (behind_lt k h))
-      ∙ sym (turned_at p (suc k) (listed order numbers 16) (omega (arith, whole_long, lt)))
+      ∙ sym (turned_at p (suc k) (ordered_numbers order numbers 16) (omega (arith, whole_long, lt)))
 
-  pub put_listed : listed (turned p order) written 16 ≡ y ∷ remove (listed order numbers 16) p
-  put_listed =
-      let long : length (listed (turned p order) written 16) ≡ 16 =
-      length-listed (turned p order) written 16 (omega (arith, put_order.order_len)) in
-      ext_get_or 0 (listed (turned p order) written 16) (y ∷ remove (listed order numbers 16) p)
-      (long ∙ sym (length-remove (listed order numbers 16) p (omega (arith, whole_long, lt)) ∙
+  pub put_numbers : ordered_numbers (turned p order) written 16 ≡
+      y ∷ remove (ordered_numbers order numbers 16) p
+  put_numbers =
+      let long : length (ordered_numbers (turned p order) written 16) ≡ 16 =
+      length-ordered_numbers (turned p order) written 16 (omega (arith, put_order.order_len)) in
+      ext_get_or 0 (ordered_numbers (turned p order) written 16)
+      (y ∷ remove (ordered_numbers order numbers 16) p)
+      (long ∙ sym (length-remove (ordered_numbers order numbers 16) p
+      (omega (arith, whole_long, lt)) ∙
       whole_long))
       (λ k h. put_at k (omega (arith, h, long)))
 

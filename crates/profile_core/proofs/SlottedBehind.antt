@@ -7,10 +7,10 @@ use Rattle.std.proofs.lemmas.List.{take_all, take-take, length-take-le}
 use Rattle.profile_core.specs.declared.recency.Touch.TheVariants.{Behind, New}
 use Rattle.profile_core.specs.declared.slotted_rests.Slots.{Slots}
 use Rattle.profile_core.specs.internal.Moves.{index_of, touch_of}
-use Rattle.profile_core.specs.internal.Slots.{listed}
+use Rattle.profile_core.specs.internal.Slots.{ordered_numbers}
 use Rattle.profile_core.proofs.Feeding.{FoundAt, FoundNowhere, found_behind, found_nowhere}
 use Rattle.profile_core.proofs.Shifting.{length-remove, remove_end}
-use Rattle.profile_core.proofs.SlotLemmas.{length-listed, listed_take}
+use Rattle.profile_core.proofs.SlotLemmas.{length-ordered_numbers, ordered_numbers_take}
 use Rattle.profile_core.proofs.SlottedRestLemmas.{AreOrdered}
 
 pub removed_take : (h p : ℕ) (xs : List ℕ) → p ≤ h →
@@ -68,22 +68,23 @@ module _ (x y len most : ℕ) (before after : Slots) (o : AreOrdered before) (so
   held = len - 2
 
   abbrev pub list : List ℕ
-  list = listed before.order before.numbers held
+  list = ordered_numbers before.order before.numbers held
 
   abbrev whole : List ℕ
-  whole = listed before.order before.numbers 16
+  whole = ordered_numbers before.order before.numbers 16
 
   few : held ≤ 16
   few = omega (arith, short, fits)
 
   pub list_long : length list ≡ held
-  list_long = length-listed before.order before.numbers held (omega (arith, o.order_len, few))
+  list_long = length-ordered_numbers before.order before.numbers held
+      (omega (arith, o.order_len, few))
 
   whole_long : length whole ≡ 16
-  whole_long = length-listed before.order before.numbers 16 (omega (arith, o.order_len))
+  whole_long = length-ordered_numbers before.order before.numbers 16 (omega (arith, o.order_len))
 
   list_is : list ≡ take held whole
-  list_is = listed_take before.order before.numbers held 16 few
+  list_is = ordered_numbers_take before.order before.numbers held 16 few
 
   module _ (p : ℕ) (at : Behind p ≡ touch_of x list) where
     found : FoundAt x p list
@@ -95,13 +96,15 @@ module _ (x y len most : ℕ) (before after : Slots) (o : AreOrdered before) (so
     pub found_small : p < 16
     found_small = omega (arith, found_lt, few)
 
-    pub found_list : listed after.order after.numbers 16 ≡ y ∷ remove whole p →
-        listed after.order after.numbers held ≡ take most (y ∷ remove list (index_of x list))
+    pub found_list : ordered_numbers after.order after.numbers 16 ≡ y ∷ remove whole p →
+        ordered_numbers after.order after.numbers held ≡
+        take most (y ∷ remove list (index_of x list))
     found_list put =
-        let P : List ℕ → Type 0 = λ xs. listed after.order after.numbers held ≡
+        let P : List ℕ → Type 0 = λ xs. ordered_numbers after.order after.numbers held ≡
         take most (y ∷ remove xs (index_of x xs)) in
-        subst P (sym list_is) (listed_take after.order after.numbers held 16 few
-        ∙ found_moved x y held most whole (listed after.order after.numbers 16) whole_long some
+        subst P (sym list_is) (ordered_numbers_take after.order after.numbers held 16 few
+        ∙ found_moved x y held most whole (ordered_numbers after.order after.numbers 16)
+        whole_long some
         short (omega (arith, fits)) p put
         (sym (ap (index_of x) list_is) ∙ found.distance_is) found_lt)
 
@@ -118,17 +121,18 @@ module _ (x y len most : ℕ) (before after : Slots) (o : AreOrdered before) (so
     pub new_held : h ≡ held
     new_held = omega (arith, nowhere.len_is, list_long)
 
-    pub new_list : listed after.order after.numbers 16 ≡ y ∷ remove whole place →
-        listed after.order after.numbers (place + 3 - 2) ≡
+    pub new_list : ordered_numbers after.order after.numbers 16 ≡ y ∷ remove whole place →
+        ordered_numbers after.order after.numbers (place + 3 - 2) ≡
         take most (y ∷ remove list (index_of x list))
     new_list put =
-        let P : List ℕ → Type 0 = λ xs. listed after.order after.numbers (place + 1) ≡
+        let P : List ℕ → Type 0 = λ xs. ordered_numbers after.order after.numbers (place + 1) ≡
         take most (y ∷ remove xs (index_of x xs)) in
         let e : place + 3 - 2 ≡ place + 1 = omega arith in
-        ap (listed after.order after.numbers) e
-        ∙ subst P (sym list_is) (listed_take after.order after.numbers (place + 1) 16
+        ap (ordered_numbers after.order after.numbers) e
+        ∙ subst P (sym list_is) (ordered_numbers_take after.order after.numbers (place + 1) 16
         (omega (arith, place_small))
-        ∙ new_moved x y held most whole (listed after.order after.numbers 16) whole_long some
+        ∙ new_moved x y held most whole (ordered_numbers after.order after.numbers 16)
+        whole_long some
         short (omega (arith, fits)) place put
         (sym (ap (index_of x) list_is) ∙ nowhere.index_is ∙ ap length list_is)
         (ap (λ n. min n (most - 1)) new_held))

@@ -10,15 +10,15 @@ use Rattle.std.proofs.Math.Seq.{get_or-append_seam}
 use Rattle.profile_core.specs.declared.slotted_rests.Slots.{Slots}
 use Rattle.profile_core.specs.declared.slotted_rests.TheConstants.{BLANK}
 use Rattle.profile_core.specs.internal.Rows.{RowsValue, rows_by_set, row_for, with_row}
-use Rattle.profile_core.specs.internal.Places.{taken, ArePlaces}
-use Rattle.profile_core.specs.internal.Slots.{listed, IsOrder}
+use Rattle.profile_core.specs.internal.Places.{taken_count, ArePlaces}
+use Rattle.profile_core.specs.internal.Slots.{ordered_numbers, IsOrder}
 use Rattle.profile_core.specs.internal.SlottedRests.{no_slots, slots_at, slotted_rest, ArePlaced}
 use Rattle.profile_core.specs.internal.SlottedRests.{IsSlotted}
 use Rattle.profile_core.proofs.Elements.{all_set, all_same}
 use Rattle.profile_core.proofs.Places.{places_then, one_more, place_left, place_here, place_other}
 use Rattle.profile_core.proofs.Places.{places_taken, taken_none, none_taken}
 use Rattle.profile_core.proofs.RowsBySet.{HasRow, rows_kept, row_is, rows_blank, row_put}
-use Rattle.profile_core.proofs.SlotLemmas.{listed_take, blank_order}
+use Rattle.profile_core.proofs.SlotLemmas.{ordered_numbers_take, blank_order}
 
 -- slots that have an order
 abbrev pub AreOrdered : Slots → Type 0
@@ -55,11 +55,12 @@ module _ {places : List ℕ} {rests : List Slots} {room : ℕ} (a : ArePlaced pl
   pub written_rests : {n : ℕ} {rows : RowsValue} →
       HasRow n (length places) k (slotted_rest n places rests) rows →
       record { stride = n; rows = rows_by_set (length places) (slotted_rest n places rests_then) } ≡
-      with_row rows k (listed s.order s.numbers n)
+      with_row rows k (ordered_numbers s.order s.numbers n)
   written_rests {n} {rows} r =
-      row_put r (slotted_rest n places rests_then) (listed s.order s.numbers n)
-      (ap (λ (t : Slots). listed t.order t.numbers n) written_here)
-      (λ j lt other. ap (λ (t : Slots). listed t.order t.numbers n) (written_other j other))
+      row_put r (slotted_rest n places rests_then) (ordered_numbers s.order s.numbers n)
+      (ap (λ (t : Slots). ordered_numbers t.order t.numbers n) written_here)
+      (λ j lt other. ap (λ (t : Slots). ordered_numbers t.order t.numbers n)
+      (written_other j other))
 
 -- what is known once set k has slots of its own, at place p
 pub record HasOwn (n k p : ℕ) (places : List ℕ) (rests : List Slots) (room : ℕ)
@@ -81,7 +82,7 @@ own_of {n} rests seen is_set is count same placed some which = record {
   own = omega (arith, some, which);
   which = which;
   row = rows_kept seen is_set (count ∙ ap length is)
-      (λ j. ap (λ (s : Slots). listed s.order s.numbers n)
+      (λ j. ap (λ (s : Slots). ordered_numbers s.order s.numbers n)
       (same j ∙ ap (λ ps. slots_at ps rests j) is));
 }
 
@@ -94,11 +95,11 @@ module _ {n k p room : ℕ} {places : List ℕ} {rests : List Slots} {rows : Row
 
   -- the first numbers in them
   pub own_listed : {s : Slots} → s ≡ get_or rests p s → (m : ℕ) → m ≤ n →
-      listed s.order s.numbers m ≡ take m (row_for rows k)
+      ordered_numbers s.order s.numbers m ≡ take m (row_for rows k)
   own_listed read m le =
       let s = slots_at places rests k in
-      ap (λ (t : Slots). listed t.order t.numbers m) (own_lent read)
-      ∙ listed_take s.order s.numbers m n le ∙ ap (take m) (sym (row_is o.row))
+      ap (λ (t : Slots). ordered_numbers t.order t.numbers m) (own_lent read)
+      ∙ ordered_numbers_take s.order s.numbers m n le ∙ ap (take m) (sym (row_is o.row))
 
   -- and as they are put back
   pub own_back : {places' : List ℕ} {s : Slots} → places' ≡ places → AreOrdered s →
@@ -107,7 +108,7 @@ module _ {n k p room : ℕ} {places : List ℕ} {rests : List Slots} {rows : Row
         rows = rows_by_set (length places') (slotted_rest n places' (set rests p
             s));
       }
-      ≡ with_row rows k (listed s.order s.numbers n)
+      ≡ with_row rows k (ordered_numbers s.order s.numbers n)
   own_back {places'} {s} places_is ordered =
       let seen : List ℕ → ℕ → RowsValue = λ ps i. record {
         stride = n;
@@ -149,7 +150,7 @@ module _ {places : List ℕ} {rests : List Slots} {room : ℕ} (a : ArePlaced pl
 
   more_placed : {more : ℕ} → room ≤ more → ArePlaced (places_then a.own lt none) rests_more more
   more_placed {more} le =
-      let long = length-set places k (taken places + 1) in
+      let long = length-set places k (taken_count places + 1) in
       record {
         few = omega (arith, long, a.few);
         rests_len = omega (arith, more_len, a.rests_len, one_more a.own lt none);
@@ -192,7 +193,7 @@ ready_taken {k} {room} {more} {number} {places} {places'} {rests} {rests'} a lt 
       placed = more_placed a lt none le;
       own = omega (arith, place_here a.own lt none);
       same = more_same a lt none;
-      count = length-set places k (taken places + 1);
+      count = length-set places k (taken_count places + 1);
     }))
 
 -- rests of which none has slots of its own yet
@@ -210,7 +211,7 @@ module _ (n m : ℕ) {places : List ℕ} {rests : List Slots} (some : 1 ≤ n) (
     most = most;
     placed = record {
       few = omega (arith, place_count, few);
-      rests_len = ap length one ∙ omega (arith, ap taken none, taken_none m);
+      rests_len = ap length one ∙ omega (arith, ap taken_count none, taken_none m);
       fits = omega (arith, place_count, fits);
       own = subst ArePlaces (sym none) (none_taken m);
       each = λ r lt.
@@ -224,9 +225,9 @@ module _ (n m : ℕ) {places : List ℕ} {rests : List Slots} (some : 1 ≤ n) (
   blank_rest k =
       let blank : slots_at places rests k ≡ BLANK =
       ap (λ g. get_or rests g no_slots) (place_none k) ∙ ap (λ rs. get_or rs 0 no_slots) one in
-      let all : listed BLANK.order BLANK.numbers 16 ≡ replicate 16 0 = refl in
-      ap (λ (s : Slots). listed s.order s.numbers n) blank
-      ∙ listed_take BLANK.order BLANK.numbers n 16 most
+      let all : ordered_numbers BLANK.order BLANK.numbers 16 ≡ replicate 16 0 = refl in
+      ap (λ (s : Slots). ordered_numbers s.order s.numbers n) blank
+      ∙ ordered_numbers_take BLANK.order BLANK.numbers n 16 most
       ∙ ap (take n) all ∙ take-replicate n 16 0 most
 
   pub new_rests : rows_by_set (length places) (slotted_rest n places rests) ≡

@@ -10,7 +10,7 @@ use Rattle.std.proofs.lemmas.List.{length-replicate, length-take-le}
 use Rattle.std.specs.Vec.{with_items}
 use borrow.Rule.Slice.PartMut.{put_mid}
 use Rattle.profile_core.specs.internal.Rows.{RowsValue, rows_by_set, row_for, with_row}
-use Rattle.profile_core.specs.internal.Places.{taken}
+use Rattle.profile_core.specs.internal.Places.{taken_count}
 use Rattle.profile_core.specs.internal.SparseRests.{sparse_rest, IsSparse}
 use Rattle.profile_core.proofs.Elements.{all_same}
 use Rattle.profile_core.proofs.Places.{places_then, one_more, place_left, place_here, place_other}
@@ -29,7 +29,7 @@ module _ {n room : ℕ} {places numbers : List ℕ} (a : IsSparse n places numbe
   rest_ends k = omega (
     arith,
     a.numbers_len,
-    in_front (get_or places k 0) (taken places + 1) n (omega (arith, a.own.within k)),
+    in_front (get_or places k 0) (taken_count places + 1) n (omega (arith, a.own.within k)),
   )
 
   pub first_ends : n ≤ length numbers
@@ -124,14 +124,14 @@ module _ {n room : ℕ} {places numbers : List ℕ} (a : IsSparse n places numbe
 
   pub room_left : length numbers + n ≤ room
   room_left =
-      let fewer : taken places + 2 ≤ length places + 1 =
+      let fewer : taken_count places + 2 ≤ length places + 1 =
       omega (arith, place_left a.own lt none) in
       omega (arith, a.numbers_len, a.fits, mul-le-mul_right n fewer)
 
   more_sound : {more : ℕ} → room ≤ more → IsSparse n (places_then a.own lt none) numbers_more more
   more_sound {more} le =
       let long : length (places_then a.own lt none) ≡ length places =
-      length-set places k (taken places + 1) in
+      length-set places k (taken_count places + 1) in
       record {
         some = a.some;
         small = subst (λ m. (m + 1) * n ≤ 2 ^ 26) (sym long) a.small;
@@ -177,8 +177,8 @@ pub ready_taken : {n k room more number : ℕ} {places numbers places' numbers' 
     numbers' ≡ numbers ++ take n numbers → IsReady n k places numbers more places' numbers'
 ready_taken {n} {k} {room} {more} {number} {places} {numbers} {places'} {numbers'} a lt none le
     which put grown =
-    let next : number ≡ taken places + 1 =
-    which ∙ ap (λ m. m / n) a.numbers_len ∙ mul-div_cancel (taken places + 1) a.some in
+    let next : number ≡ taken_count places + 1 =
+    which ∙ ap (λ m. m / n) a.numbers_len ∙ mul-div_cancel (taken_count places + 1) a.some in
     let are : places' ≡ places_then a.own lt none = put ∙ ap (set places k) next in
     subst (λ ps. IsReady n k places numbers more ps numbers') (sym are)
     (subst (λ ns. IsReady n k places numbers more (places_then a.own lt none) ns) (sym grown)
@@ -186,7 +186,7 @@ ready_taken {n} {k} {room} {more} {number} {places} {numbers} {places'} {numbers
       sound = more_sound a lt none le;
       own = omega (arith, place_here a.own lt none);
       same = more_same a lt none;
-      count = length-set places k (taken places + 1);
+      count = length-set places k (taken_count places + 1);
     }))
 
 -- rests of which none is taken yet

@@ -21,7 +21,7 @@ use Rattle.cache_core.specs.Windows.{Occurrence, distinct_of_set, has_last, dist
 use Rattle.cache_core.specs.Windows.{is_hit, window, occurrences, occurrences_after, probes}
 use Rattle.profile_core.specs.internal.Moves.{index_of, is_in, move_to_front}
 use Rattle.profile_core.specs.internal.State.{ProfileState, empty, list_of, one_more_at}
-use Rattle.profile_core.specs.internal.State.{referenced_in, after_reference, after_flush}
+use Rattle.profile_core.specs.internal.State.{after_reference_in_list, after_reference, after_flush}
 use Rattle.profile_core.specs.internal.ProfileStandsFor.{ProfileStandsFor}
 use Rattle.profile_core.proofs.Steps.{raise_if, raise_unless, Finds, finds, distance_within}
 use Rattle.profile_core.proofs.Steps.{probes_within}
@@ -31,7 +31,7 @@ lists_step : (es : List Event) (v : ProfileState) (r : Ref) (xs : List ℕ) → 
     → xs ≡ take v.geometry.e (distinct_of_set v.geometry
     (set_of_block v.geometry (block_of v.geometry r.addr)) (window v.geometry es))
     → (k : ℕ) → k < 2 ^ v.geometry.s
-    → list_of (referenced_in v (block_of v.geometry r.addr) xs) k ≡ take v.geometry.e
+    → list_of (after_reference_in_list v (block_of v.geometry r.addr) xs) k ≡ take v.geometry.e
     (distinct_of_set v.geometry k (window v.geometry (es ++ event.Reference r ∷ [])))
 lists_step es v r xs h e k lt =
     let g = v.geometry in
@@ -73,7 +73,7 @@ referenced_in_stands : (es : List Event) (v : ProfileState) (r : Ref) (xs : List
     → xs ≡ take v.geometry.e (distinct_of_set v.geometry
     (set_of_block v.geometry (block_of v.geometry r.addr)) (window v.geometry es))
     → ProfileStandsFor (es ++ event.Reference r ∷ [])
-    (referenced_in v (block_of v.geometry r.addr) xs)
+    (after_reference_in_list v (block_of v.geometry r.addr) xs)
 unfolding probes
 referenced_in_stands es v r xs h e =
     let g = v.geometry in

@@ -37,8 +37,8 @@ covers_kept : (touched : TouchedValue) (lens : List ℕ) (k held len : ℕ) → 
 covers_kept touched lens k held len lt is some covers =
     let filled : eqb held 0 ≡ false = ne_eqb held 0 (λ e. absurd (omega (arith, e, some))) in
     let grown : TouchedValue = record touched {
-      listed =
-          with_set touched.capacity k touched.listed;
+      sets =
+          with_set touched.capacity k touched.sets;
     } in
     let same : after_count k held len touched ≡ touched =
     ap (λ b. cond (b && not (eqb len 0)) grown touched) filled in

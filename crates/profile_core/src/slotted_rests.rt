@@ -7,7 +7,7 @@ ghost use Rattle.std.specs.Simd.Lanes.{mask_l};
 ghost use Rattle.std.specs.List.{remove};
 ghost use Rattle.profile_core.specs.internal.Moves.{index_of, touch_of, rest_touch_of};
 ghost use Rattle.profile_core.specs.internal.Rows.{blank_rows};
-ghost use Rattle.profile_core.specs.internal.Slots.{mark_of, listed, IsOrder};
+ghost use Rattle.profile_core.specs.internal.Slots.{mark_of, ordered_numbers, IsOrder};
 ghost use Rattle.profile_core.specs.internal.SlottedRests.{no_slots, ArePlaced};
 
 use crate::recency::Touch;
@@ -161,12 +161,12 @@ fn bring_in_slots(slots: &mut Slots, most: usize, second: u64, len: &mut u32, bl
     requires two { 2 ≤ len.old }
     requires fits { len.old ≤ most + 2 }
     ensures found { result
-        ≡ rest_touch_of 2 block (listed slots.old.order slots.old.numbers (len.old - 2)) }
+        ≡ rest_touch_of 2 block (ordered_numbers slots.old.order slots.old.numbers (len.old - 2)) }
     ensures sound { IsOrder slots.new.marks slots.new.order slots.new.numbers }
     ensures two { 2 ≤ len.new }
     ensures fits { len.new ≤ most + 2 }
-    ensures moved { let list = listed slots.old.order slots.old.numbers (len.old - 2) in
-        listed slots.new.order slots.new.numbers (len.new - 2)
+    ensures moved { let list = ordered_numbers slots.old.order slots.old.numbers (len.old - 2) in
+        ordered_numbers slots.new.order slots.new.numbers (len.new - 2)
         ≡ take most (second ∷ remove list (index_of block list)) }
 {
     match find(slots, *len as usize - 2, block) {
@@ -189,7 +189,7 @@ fn bring_in_slots(slots: &mut Slots, most: usize, second: u64, len: &mut u32, bl
 fn find(slots: &Slots, held: usize, block: u64) -> Touch
     requires sound { IsOrder slots.now.marks slots.now.order slots.now.numbers }
     requires most { held ≤ 16 }
-    ensures { result ≡ touch_of block (listed slots.now.order slots.now.numbers held) }
+    ensures { result ≡ touch_of block (ordered_numbers slots.now.order slots.now.numbers held) }
 {
     let mut place = 0;
     let mut left = lanes_with(&slots.marks, mark_of(block));
@@ -214,8 +214,8 @@ fn put(slots: &mut Slots, place: usize, number: u64)
     requires sound { IsOrder slots.old.marks slots.old.order slots.old.numbers }
     requires within { place < 16 }
     ensures sound { IsOrder slots.new.marks slots.new.order slots.new.numbers }
-    ensures moved { listed slots.new.order slots.new.numbers 16
-        ≡ number ∷ remove (listed slots.old.order slots.old.numbers 16) place }
+    ensures moved { ordered_numbers slots.new.order slots.new.numbers 16
+        ≡ number ∷ remove (ordered_numbers slots.old.order slots.old.numbers 16) place }
 {
     let slot = slots.order[place];
     slots.numbers[slot as usize] = number;

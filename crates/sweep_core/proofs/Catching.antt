@@ -25,7 +25,8 @@ use Rattle.sweep_core.specs.declared.profiles.PairProfile.{PairProfile}
 use Rattle.sweep_core.specs.declared.request.Request.{Request}
 use Rattle.sweep_core.specs.internal.Pass.{pair_after_reference, pair_after_flush, profiles_after}
 use Rattle.sweep_core.specs.internal.Pass.{kept_events, SweepStandsFor, WasFed}
-use Rattle.sweep_core.specs.internal.Implied.{implied_by, linked, IsLinked, AreLed, IsFresh}
+use Rattle.sweep_core.specs.internal.Implied.{implied_count, linked_profiles, IsLinked, AreLed}
+use Rattle.sweep_core.specs.internal.Implied.{IsFresh}
 use Rattle.sweep_core.specs.internal.Implied.{pair_unless_front, pair_with_fronts}
 use Rattle.sweep_core.specs.internal.Implied.{profiles_with_fronts, FedAtMost, AreBehind}
 use Rattle.sweep_core.specs.Work.{pair_of}
@@ -176,31 +177,32 @@ few-flush n (x ∷ xs) h = (h.0, few-flush n xs h.1)
 
 -- The links.
 refined-each : (g : GeometryValue) (xs : List PairProfile) →
-    Each (λ y. is_refined g y.profile.geometry ≡ true) (take (implied_by g xs) (linked xs))
-unfolding linked
+    Each (λ y. is_refined g y.profile.geometry ≡ true)
+    (take (implied_count g xs) (linked_profiles xs))
+unfolding linked_profiles
 refined-each g [] = tt
 refined-each g (x ∷ xs) =
     cases (λ b. is_refined g x.profile.geometry ≡ b →
     Each (λ y. is_refined g y.profile.geometry ≡ true)
-    (take (cond (not (not b)) (1 + implied_by g xs) 0) (linked (x ∷ xs))))
+    (take (cond (not (not b)) (1 + implied_count g xs) 0) (linked_profiles (x ∷ xs))))
     (is_refined g x.profile.geometry)
     (λ t is. subst (λ n. Each (λ y. is_refined g y.profile.geometry ≡ true)
-    (take n (linked (x ∷ xs)))) {x = suc (implied_by g xs)}
-    {y = 1 + implied_by g xs} (omega arith) (is, refined-each g xs))
+    (take n (linked_profiles (x ∷ xs)))) {x = suc (implied_count g xs)}
+    {y = 1 + implied_count g xs} (omega arith) (is, refined-each g xs))
     (λ f is. tt)
     refl
 
-implied-most : (g : GeometryValue) (xs : List PairProfile) → implied_by g xs ≤ length xs
+implied-most : (g : GeometryValue) (xs : List PairProfile) → implied_count g xs ≤ length xs
 implied-most g [] = omega arith
 implied-most g (x ∷ xs) =
-    cases (λ b. cond (not (not b)) (1 + implied_by g xs) 0 ≤ length (x ∷ xs))
+    cases (λ b. cond (not (not b)) (1 + implied_count g xs) 0 ≤ length (x ∷ xs))
     (is_refined g x.profile.geometry)
     (λ t. omega (arith, implied-most g xs)) (λ f. omega arith)
 
 pub implied-is : (g : GeometryValue) (xs : List PairProfile) (i : ℕ) → i ≤ length xs
     → ((k : ℕ) (d : PairProfile) → k < i → is_refined g (get_or xs k d).profile.geometry ≡ true)
     → ((d : PairProfile) → i < length xs → is_refined g (get_or xs i d).profile.geometry ≡ false) →
-    i ≡ implied_by g xs
+    i ≡ implied_count g xs
 implied-is g [] i le first stop = omega (arith, le)
 implied-is g (x ∷ xs) i le first stop =
     sym (position_or_len_is (λ y. not (is_refined g y.profile.geometry)) (x ∷ xs) i x le
@@ -210,114 +212,116 @@ implied-is g (x ∷ xs) i le first stop =
 pub implied-at : (g : GeometryValue) (xs : List PairProfile) (i : ℕ) (x : PairProfile) (b : Bool) →
     i < length xs
     → ((k : ℕ) (d : PairProfile) → k < i → is_refined g (get_or xs k d).profile.geometry ≡ true)
-    → x ≡ get_or xs i x → b ≡ is_refined g x.profile.geometry → b ≡ false → i ≡ implied_by g xs
+    → x ≡ get_or xs i x → b ≡ is_refined g x.profile.geometry → b ≡ false → i ≡ implied_count g xs
 implied-at g xs i x b inside first is refines fails =
     implied-is g xs i (omega (arith, inside)) first
     (λ d lt. ap (λ y. is_refined g y.profile.geometry) (sym (get_or_read xs i x inside is d)) ∙
     sym refines ∙ fails)
 
-length-linked : (xs : List PairProfile) → length (linked xs) ≡ length xs
-unfolding linked
-length-linked [] = refl
-length-linked (x ∷ xs) = ap suc (length-linked xs)
+length-linked_profiles : (xs : List PairProfile) → length (linked_profiles xs) ≡ length xs
+unfolding linked_profiles
+length-linked_profiles [] = refl
+length-linked_profiles (x ∷ xs) = ap suc (length-linked_profiles xs)
 
-pub linked-is : (xs : List PairProfile) → IsLinked (linked xs)
-unfolding linked
-linked-is [] = tt
-linked-is (x ∷ xs) = (
-  omega (arith, implied-most x.profile.geometry xs, length-linked xs),
+pub linked_profiles-is : (xs : List PairProfile) → IsLinked (linked_profiles xs)
+unfolding linked_profiles
+linked_profiles-is [] = tt
+linked_profiles-is (x ∷ xs) = (
+  omega (arith, implied-most x.profile.geometry xs, length-linked_profiles xs),
   refined-each x.profile.geometry xs,
-  linked-is xs,
+  linked_profiles-is xs,
 )
 
 link-here : (xs : List PairProfile) (i n : ℕ) (d : PairProfile) → i < length xs
-    → n ≡ implied_by (get_or (take i (linked xs) ++ drop i xs) i d).profile.geometry
-    (drop (suc i) (take i (linked xs) ++ drop i xs))
-    → set (take i (linked xs) ++ drop i xs) i (record (get_or (take i (linked xs) ++ drop i xs) i d)
-    { implied = n }) ≡ take (suc i) (linked xs) ++ drop
+    → n ≡ implied_count (get_or (take i (linked_profiles xs) ++ drop i xs) i d).profile.geometry
+    (drop (suc i) (take i (linked_profiles xs) ++ drop i xs))
+    → set (take i (linked_profiles xs) ++ drop i xs) i
+    (record (get_or (take i (linked_profiles xs) ++ drop i xs) i d)
+    { implied = n }) ≡ take (suc i) (linked_profiles xs) ++ drop
     (suc i) xs
-unfolding linked
+unfolding linked_profiles
 link-here [] i n d inside is = absurd (omega (arith, inside))
 link-here (x ∷ xs) zero n d inside is = ap (λ m. record x { implied = m } ∷ xs) is
 link-here (x ∷ xs) (suc i) n d inside is =
-    ap (λ l. record x { implied = implied_by x.profile.geometry xs } ∷ l)
+    ap (λ l. record x { implied = implied_count x.profile.geometry xs } ∷ l)
     (link-here xs i n d (omega (arith, inside)) is)
 
-pub linked-whole : (xs : List PairProfile) (i : ℕ) → length xs ≤ i → take i (linked xs) ++
-    drop i xs ≡ linked xs
-unfolding linked
-linked-whole [] zero all = refl
-linked-whole [] (suc i) all = refl
-linked-whole (x ∷ xs) zero all = absurd (omega (arith, all))
-linked-whole (x ∷ xs) (suc i) all =
-    ap (λ l. record x { implied = implied_by x.profile.geometry xs } ∷ l)
-    (linked-whole xs i (omega (arith, all)))
+pub linked_profiles-whole : (xs : List PairProfile) (i : ℕ) → length xs ≤ i →
+    take i (linked_profiles xs) ++ drop i xs ≡ linked_profiles xs
+unfolding linked_profiles
+linked_profiles-whole [] zero all = refl
+linked_profiles-whole [] (suc i) all = refl
+linked_profiles-whole (x ∷ xs) zero all = absurd (omega (arith, all))
+linked_profiles-whole (x ∷ xs) (suc i) all =
+    ap (λ l. record x { implied = implied_count x.profile.geometry xs } ∷ l)
+    (linked_profiles-whole xs i (omega (arith, all)))
 
 -- what is counted over the rest of the profiles
 pub rest-implied : (now : List PairProfile) (i n : ℕ) (x d : PairProfile) → i < length now →
     x ≡ get_or now i x
-    → n ≡ implied_by (get_or now i x).profile.geometry
+    → n ≡ implied_count (get_or now i x).profile.geometry
     (take (length now - (i + 1)) (drop (i + 1) now))
-    → n ≡ implied_by (get_or now i d).profile.geometry (drop (i + 1) now)
+    → n ≡ implied_count (get_or now i d).profile.geometry (drop (i + 1) now)
 rest-implied now i n x d inside read is =
-    is ∙ ap (implied_by (get_or now i x).profile.geometry) (take_all (length now - (i + 1))
+    is ∙ ap (implied_count (get_or now i x).profile.geometry) (take_all (length now - (i + 1))
     (drop (i + 1) now) (omega (arith, length-drop (i + 1) now)))
-    ∙ ap (λ y. implied_by y.profile.geometry (drop (i + 1) now)) (sym read ∙
+    ∙ ap (λ y. implied_count y.profile.geometry (drop (i + 1) now)) (sym read ∙
     get_or_read now i x inside read d)
 
 pub link-next : (xs now : List PairProfile) (i n : ℕ) (d : PairProfile) →
-    now ≡ take i (linked xs) ++ drop i xs → i < length xs
-    → n ≡ implied_by (get_or now i d).profile.geometry (drop (i + 1) now)
-    → set now i (record (get_or now i d) { implied = n }) ≡ take (i + 1) (linked xs) ++
+    now ≡ take i (linked_profiles xs) ++ drop i xs → i < length xs
+    → n ≡ implied_count (get_or now i d).profile.geometry (drop (i + 1) now)
+    → set now i (record (get_or now i d) { implied = n }) ≡ take (i + 1) (linked_profiles xs) ++
     drop (i + 1) xs
 link-next xs now i n d so_far inside is =
-    let all = take i (linked xs) ++ drop i xs in
+    let all = take i (linked_profiles xs) ++ drop i xs in
     ap (λ (ys : List PairProfile). set ys i (record (get_or ys i d) { implied = n })) so_far
     ∙ link-here xs i n d inside
-    (is ∙ ap (λ (ys : List PairProfile). implied_by (get_or ys i d).profile.geometry
+    (is ∙ ap (λ (ys : List PairProfile). implied_count (get_or ys i d).profile.geometry
     (drop (i + 1) ys)) so_far
-    ∙ ap (λ k. implied_by (get_or all i d).profile.geometry (drop k all)) {x = i + 1} {y = suc i}
+    ∙ ap (λ k. implied_count (get_or all i d).profile.geometry (drop k all)) {x = i + 1} {y = suc i}
     (omega arith))
-    ∙ ap (λ k. take k (linked xs) ++ drop k xs) {x = suc i} {y = i + 1} (omega arith)
+    ∙ ap (λ k. take k (linked_profiles xs) ++ drop k xs) {x = suc i} {y = i + 1} (omega arith)
 
 -- they change nothing else
-linked-stands : (r : Request) (xs : List PairProfile) → SweepStandsFor r [] xs →
-    SweepStandsFor r [] (linked xs)
-unfolding linked
-linked-stands r xs h = record {
+linked_profiles-stands : (r : Request) (xs : List PairProfile) → SweepStandsFor r [] xs →
+    SweepStandsFor r [] (linked_profiles xs)
+unfolding linked_profiles
+linked_profiles-stands r xs h = record {
   space = h.space;
   pairs = pairs-kept xs ∙ h.pairs;
   rows = rows-kept xs ∙ h.rows;
   fed = fed-kept xs h.fed;
 }
   where
-    pairs-kept : (ys : List PairProfile) → map (λ x. pair_of x.first) (linked ys) ≡ map
+    pairs-kept : (ys : List PairProfile) → map (λ x. pair_of x.first) (linked_profiles ys) ≡ map
         (λ x. pair_of x.first) ys
     pairs-kept [] = refl
     pairs-kept (y ∷ ys) = ap (λ l. pair_of y.first ∷ l) (pairs-kept ys)
 
     rows-kept : (ys : List PairProfile) → flat_map (rows_of_profile r.space.powers)
-        (linked ys) ≡ flat_map (rows_of_profile r.space.powers) ys
+        (linked_profiles ys) ≡ flat_map (rows_of_profile r.space.powers) ys
     rows-kept [] = refl
     rows-kept (y ∷ ys) = ap (λ l. rows_of_profile r.space.powers y ++ l) (rows-kept ys)
 
     fed-kept : (ys : List PairProfile) → Each (WasFed (configs_of r) []) ys →
-        Each (WasFed (configs_of r) []) (linked ys)
+        Each (WasFed (configs_of r) []) (linked_profiles ys)
     fed-kept [] h = tt
     fed-kept (y ∷ ys) h = (
       record { some = h.0.some; sound = h.0.sound; is = h.0.is },
       fed-kept ys h.1,
     )
 
-pub linked-items : (made now rest : List PairProfile) (n : ℕ) → n ≡ length made →
-    now ≡ linked made → take n (now ++ rest) ≡ linked made
-linked-items made now rest n len is = take_at now rest n (ap length is ∙ length-linked made ∙
+pub linked_profiles-items : (made now rest : List PairProfile) (n : ℕ) → n ≡ length made →
+    now ≡ linked_profiles made → take n (now ++ rest) ≡ linked_profiles made
+linked_profiles-items made now rest n len is =
+    take_at now rest n (ap length is ∙ length-linked_profiles made ∙
     sym len) ∙ is
 
-pub linked-sweep : (r : Request) (made now : List PairProfile) → SweepStandsFor r [] made →
-    now ≡ linked made → SweepStandsFor r [] now
-linked-sweep r made now stands is = subst (SweepStandsFor r []) (sym is)
-    (linked-stands r made stands)
+pub linked_profiles-sweep : (r : Request) (made now : List PairProfile) → SweepStandsFor r [] made →
+    now ≡ linked_profiles made → SweepStandsFor r [] now
+linked_profiles-sweep r made now stands is = subst (SweepStandsFor r []) (sym is)
+    (linked_profiles-stands r made stands)
 
 pub fresh-sweep : (r : Request) (xs : List PairProfile) → Each (WasFed (configs_of r) []) xs →
     Each IsFresh xs

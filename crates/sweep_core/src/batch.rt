@@ -4,7 +4,7 @@ ghost use Rattle.std.specs.Prelude.{IfOk, take, drop};
 ghost use Rattle.std.specs.List.{AllByRecursion};
 ghost use Rattle.profile_core.specs.internal.State.{fed_of};
 ghost use Rattle.sweep_core.specs.internal.Batches.{AreAlwaysLed, profiles_after_batch};
-ghost use Rattle.sweep_core.specs.internal.Batches.{IsFedToTwo, IsGiven, leads_rest, with_waiting};
+ghost use Rattle.sweep_core.specs.internal.Batches.{IsFedToTwo, IsGiven, has_leader, with_waiting};
 
 use crate::profiles::PairProfile;
 use profile_core::MAX_REFERENCES;
@@ -185,7 +185,7 @@ fn give(
 /// Whether a block in front in the profile after an index is in front in all later ones.
 fn is_followed(profiles: &[PairProfile], at: usize) -> bool
     requires { at < length profiles.now }
-    ensures { result ≡ leads_rest (drop (at + 1) profiles.now) }
+    ensures { result ≡ has_leader (drop (at + 1) profiles.now) }
 {
     let next = at + 1;
     next < profiles.len() && profiles[next].implied == profiles.len() - next - 1

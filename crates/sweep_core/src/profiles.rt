@@ -4,7 +4,7 @@ ghost use Rattle.sweep_core.specs.Space.{space_fault};
 ghost use Rattle.sweep_core.specs.internal.Runs.{BeginsWith};
 ghost use Rattle.sweep_core.specs.internal.Walk.{HasDepth, rows_left};
 ghost use Rattle.sweep_core.specs.internal.Pass.{SweepStandsFor};
-ghost use Rattle.sweep_core.specs.internal.Implied.{IsLinked, linked, implied_by};
+ghost use Rattle.sweep_core.specs.internal.Implied.{IsLinked, linked_profiles, implied_count};
 
 use crate::request::Request;
 use crate::space::Config;
@@ -55,7 +55,7 @@ pub(crate) fn make_profiles(
 
 /// Has each profile say how many of the next its own front implies.
 fn link(profiles: &mut [PairProfile])
-    ensures { profiles.new ≡ linked profiles.old }
+    ensures { profiles.new ≡ linked_profiles profiles.old }
 {
     for at in 0..profiles.len() {
         let all = &profiles[..];
@@ -66,7 +66,7 @@ fn link(profiles: &mut [PairProfile])
 
 /// How many of `others`, from the first on, refine a profile.
 fn implied_by(profile: &Profile, others: &[PairProfile]) -> usize
-    ensures { result ≡ implied_by profile.now.geometry others.now }
+    ensures { result ≡ implied_count profile.now.geometry others.now }
 {
     let mut count = 0;
     for other in others {

@@ -6,7 +6,8 @@ use Rattle.std.specs.Io.KnownBytes.{IsAtEnd}
 use Rattle.trace_core.specs.Lines.{HoldsNoFeed}
 use Rattle.trace_core.specs.Reading.{Reading, reading_end, judgement, reading_with_line, Ending}
 use Rattle.trace_core.specs.Reading.{at_end, at_failure, reading_after, longest_line}
-use Rattle.trace_core.specs.Reader.{Progress, left_in, still_gives, MayFollow, reading_with_entries}
+use Rattle.trace_core.specs.Reader.{Progress, reading_in_state, remaining_reading, MayFollow}
+use Rattle.trace_core.specs.Reader.{reading_with_entries}
 use Rattle.trace_core.specs.Reader.{Advances}
 use Rattle.trace_core.specs.declared.events.Entry.{Entry}
 use Rattle.trace_core.specs.declared.line.Format.{Format}
@@ -44,10 +45,10 @@ module _ (reported : Option (List ℕ)) where
     gives = λ e later may.
         let any : MayFollow between b.state e (d₂ ++ later) =
         subst (λ s. MayFollow between s e (d₂ ++ later)) (sym goes_on) tt in
-        ap (still_gives e a) (append_assoc d₁ d₂ later) ∙ first.gives e (d₂ ++ later) any ∙
+        ap (remaining_reading e a) (append_assoc d₁ d₂ later) ∙ first.gives e (d₂ ++ later) any ∙
         ap (reading_with_entries xs) (second.gives e later may)
-        ∙ ap (λ zs. record { entries = zs; fault = (still_gives e c later).fault })
-        (sym (append_assoc xs ys (still_gives e c later).entries));
+        ∙ ap (λ zs. record { entries = zs; fault = (remaining_reading e c later).fault })
+        (sym (append_assoc xs ys (remaining_reading e c later).entries));
   }
 
   module _ (f : Format) (limit n : ℕ) where
@@ -71,7 +72,8 @@ module _ (reported : Option (List ℕ)) where
         → p.state ≡ state.Failed x → Advances reported (at f limit n u state.Open) p [] []
     Advances-fault p u x settled failed = record {
       gives = λ e later may. settled e later ∙
-          sym (ap (λ s. left_in s (reading_after e p.format p.limit p.lines (p.unread ++ later)))
+          sym (ap (λ s. reading_in_state s (reading_after e p.format p.limit p.lines
+          (p.unread ++ later)))
           failed);
     }
 

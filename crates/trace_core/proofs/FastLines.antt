@@ -11,7 +11,7 @@ use Rattle.std.proofs.lemmas.List.{length-take-le, length-append, get_or_append_
 use Rattle.std.proofs.lemmas.List.{length-drop}
 use Rattle.std.proofs.Math.Seq.{get_or-append_seam, take-append_seam, drop-append-add}
 use Rattle.std.proofs.Math.Seq.{drop-append_seam}
-use Rattle.trace_core.specs.Fields.{is_blank, is_trailing, without_trailing, fields, ends_field}
+use Rattle.trace_core.specs.Fields.{is_blank, is_trailing, without_trailing, fields, is_field_end}
 use Rattle.trace_core.specs.Fields.{number_written, without_0x}
 use Rattle.trace_core.specs.Line.{meaning, din_op, entry_of_label, lackey_op, is_comma, is_message}
 use Rattle.memchr.specs.Find.{IsFirstByte, is_byte}
@@ -169,7 +169,7 @@ begins-field : (text rest end field : List ℕ) (label : ℕ) → (begun : Begin
     is_trailing label ≡ false
     → rest ≡ field ++ end
     → 1 ≤ length field → Plain field → (text ≡ (begun.front ++ field) ++ end)
-    × ((more : List ℕ) → ends_field more ≡ true →
+    × ((more : List ℕ) → is_field_end more ≡ true →
     fields (without_trailing ((begun.front ++ field) ++ more)) ≡ (label ∷ []) ∷ field ∷ fields
     (without_trailing more))
 begins-field text rest end field label begun plain_label splits some plain = (

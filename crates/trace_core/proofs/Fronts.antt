@@ -12,7 +12,7 @@ use Rattle.std.proofs.lemmas.List.Sums.{suffix_len-le-length}
 use Rattle.std.proofs.Math.Seq.{take-append_seam, drop-append_seam}
 use Rattle.trace_core.specs.Lines.{is_line_feed, HoldsNoFeed}
 use Rattle.trace_core.specs.internal.FastLine.{BeginsLabel}
-use Rattle.trace_core.specs.Fields.{is_blank, is_trailing, without_trailing, fields, ends_field}
+use Rattle.trace_core.specs.Fields.{is_blank, is_trailing, without_trailing, fields, is_field_end}
 use Rattle.trace_core.proofs.Splits.{fields-blank, fields-first}
 
 module _ (p : ℕ → Bool) where
@@ -115,7 +115,7 @@ fields-first_is (c ∷ cs) rest some plain at =
     ∙ ap (λ xs. xs ∷ fields (drop (length (c ∷ cs)) ((c ∷ cs) ++ rest))) front
     ∙ ap (λ xs. (c ∷ cs) ∷ fields xs) back
 
-ends-trimmed : (rest : List ℕ) → ends_field rest ≡ true →
+ends-trimmed : (rest : List ℕ) → is_field_end rest ≡ true →
     position_or_len is_blank (without_trailing rest) ≡ 0
 ends-trimmed [] ends = refl
 ends-trimmed (c ∷ []) ends = rw ends refl
@@ -126,13 +126,13 @@ ends-trimmed (c ∷ d ∷ more) ends =
     ]
 
 -- the first field of a line that begins with it
-pub fields-field : (f rest : List ℕ) → 0 < length f → Plain f → ends_field rest ≡ true
+pub fields-field : (f rest : List ℕ) → 0 < length f → Plain f → is_field_end rest ≡ true
     → fields (without_trailing (f ++ rest)) ≡ f ∷ fields (without_trailing rest)
 fields-field f rest some plain ends =
     ap fields (trimmed-plain f rest plain) ∙ fields-first_is f (without_trailing rest) some plain
     (ends-trimmed rest ends)
 
-ends-blank : (c : ℕ) (cs : List ℕ) → is_blank c ≡ true → ends_field (c ∷ cs) ≡ true
+ends-blank : (c : ℕ) (cs : List ℕ) → is_blank c ≡ true → is_field_end (c ∷ cs) ≡ true
 ends-blank c [] blank = rw blank refl
 ends-blank c (d ∷ more) blank = blank
 

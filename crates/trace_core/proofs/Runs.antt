@@ -5,7 +5,8 @@ use Rattle.std.proofs.lemmas.List.{append-nil}
 use Rattle.std.specs.Io.KnownBytes.{IsAtEnd}
 use Rattle.trace_core.specs.Device.{SourceView, failures_after}
 use Rattle.trace_core.specs.Reading.{Reading, at_end, at_failure, reading, cut_reading, reading_end}
-use Rattle.trace_core.specs.Reader.{Progress, still_gives, MayFollow, Advances, Delivers, Reached}
+use Rattle.trace_core.specs.Reader.{Progress, remaining_reading, MayFollow, Advances, Delivers}
+use Rattle.trace_core.specs.Reader.{Reached}
 use Rattle.trace_core.specs.Reader.{new_progress, device_failed, reading_with_entries}
 use Rattle.trace_core.specs.declared.events.Entry.{Entry}
 use Rattle.trace_core.specs.declared.line.Format.{Format}
@@ -176,8 +177,11 @@ module _ (f : Format) (limit : ℕ) where
       first_of None delivers reads = absurd delivers
       first_of (Some rest) delivers reads =
           let may : MayFollow (Some rest) p.state at_end rest =
-          subst (λ s. MayFollow (Some rest) s at_end rest) (sym opened) tt in
-          (still_gives at_end p rest, ap (reading f limit) delivers ∙ reads.gives at_end rest may)
+          subst (λ s. MayFollow (Some rest) s at_end rest) (sym opened) tt in (
+            remaining_reading at_end p rest,
+            ap (reading f limit) delivers ∙
+                reads.gives at_end rest may,
+          )
 
   -- a reader that met no fault has read the first entries of the text
   pub Reached-prefix : (text : List ℕ) (start now : SourceView) (xs : List (ℕ × Entry))

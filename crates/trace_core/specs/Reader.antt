@@ -24,14 +24,14 @@ pub record Progress : Type 0 where
   pub state : ReaderState
 
 -- the reading that a reader in this state still returns, if an open one would return this one
-abbrev pub left_in : ReaderState → Reading → Reading
-left_in state.Open r = r
-left_in state.Ended r = reading_end None
-left_in (state.Failed f) r = reading_end (Some f)
+abbrev pub reading_in_state : ReaderState → Reading → Reading
+reading_in_state state.Open r = r
+reading_in_state state.Ended r = reading_end None
+reading_in_state (state.Failed f) r = reading_end (Some f)
 
 -- the reading that a reader will return, if these bytes come and then this ending
-abbrev pub still_gives : Ending → Progress → List ℕ → Reading
-still_gives e p later = left_in p.state (reading_after e p.format p.limit p.lines
+abbrev pub remaining_reading : Ending → Progress → List ℕ → Reading
+remaining_reading e p later = reading_in_state p.state (reading_after e p.format p.limit p.lines
     (p.unread ++ later))
 
 -- The continuations of the bytes that led to a state (`reported` is what the source still reports):
@@ -56,7 +56,8 @@ reading_with_entries xs r = record { entries = xs ++ r.entries; fault = r.fault 
 pub record Advances (reported : Option (List ℕ)) (old new : Progress) (bytes : List ℕ)
     (xs : List (ℕ × Entry)) : Type 0 where
   pub gives : (e : Ending) (later : List ℕ) → MayFollow reported new.state e later
-      → still_gives e old (bytes ++ later) ≡ reading_with_entries xs (still_gives e new later)
+      → remaining_reading e old (bytes ++ later) ≡
+      reading_with_entries xs (remaining_reading e new later)
 
 -- the state of a reader that began
 abbrev pub new_progress : Format → ℕ → Progress

@@ -53,5 +53,5 @@ far_lookup None set block = MissEviction
 far_lookup (Some far) set block = deep_lookup far.capacity block (slice_index_or far.lists set [])
 
 -- the deep lists after a block that left the part in front of a set
-abbrev pub pushed_back : Option DeepSetsValue → ℕ → ℕ → ℕ → Option DeepSetsValue
-pushed_back far set block victim = option_map (λ d. sets_after_touch d set block victim) far
+abbrev pub far_after_push : Option DeepSetsValue → ℕ → ℕ → ℕ → Option DeepSetsValue
+far_after_push far set block victim = option_map (λ d. sets_after_touch d set block victim) far

@@ -9,7 +9,7 @@ use Rattle.cache_core.specs.declared.system_cache.SystemCache.{SystemCache}
 use Rattle.cache_core.specs.Plans.{PlannedCaches, IsPlan}
 use Rattle.cache_core.specs.internal.Stands.{CacheStandsFor}
 use Rattle.cache_core.specs.internal.CacheSteps.{system_cache_contents}
-use Rattle.cache_core.specs.Systems.{machine_of, events_for, below, system_run}
+use Rattle.cache_core.specs.Systems.{machine_of, events_for, lower_events, system_run}
 use Rattle.cache_core.specs.internal.SystemSteps.{SystemValue, IsNewSystem, StepsSystem}
 use Rattle.cache_core.specs.internal.SystemSteps.{FlushesSystem, stats_of}
 
@@ -27,7 +27,7 @@ pub record SystemStandsFor (plan : PlannedCaches) (seed : ℕ) (events : List Ev
   pub i : PlannedCacheStandsFor seed plan.i (events_for L1I events) v.i
   pub d : PlannedCacheStandsFor seed plan.d (events_for L1D events) v.d
   pub u : PlannedCacheStandsFor seed plan.u (events_for L1U events) v.u
-  pub second : PlannedCacheStandsFor seed plan.second (below plan seed events) v.second
+  pub second : PlannedCacheStandsFor seed plan.second (lower_events plan seed events) v.second
   pub stats : stats_of v ≡ system_run plan seed events
   pub steps : v.steps ≡ length events
 

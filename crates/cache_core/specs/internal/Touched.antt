@@ -7,7 +7,7 @@ use Rattle.std.specs.List.{list_any}
 -- the sets that are listed, or `None` once there were more of them than its capacity
 pub record TouchedValue : Type 0 where
   pub capacity : ℕ
-  pub listed : Option (List ℕ)
+  pub sets : Option (List ℕ)
 
 -- a list with one set more, if it is not full yet
 abbrev pub with_set : ℕ → ℕ → Option (List ℕ) → Option (List ℕ)
@@ -19,8 +19,8 @@ with_set capacity set (Some sets) = if nat_lt (length sets) capacity then Some (
 abbrev pub after_count : ℕ → ℕ → ℕ → TouchedValue → TouchedValue
 after_count set before after touched =
     if (before == 0) && not (after == 0) then record touched {
-      listed =
-          with_set touched.capacity set touched.listed;
+      sets =
+          with_set touched.capacity set touched.sets;
     } else touched
 
 -- each listed set has a count, and a set that is not listed has the count 0
@@ -31,8 +31,8 @@ pub record ListsFilled (sets counts : List ℕ) : Type 0 where
 
 -- a list that stands for counts has each set whose count is not 0
 abbrev pub Covers : TouchedValue → List ℕ → Type 0
-Covers touched counts = IfSome touched.listed (λ sets. ListsFilled sets counts)
+Covers touched counts = IfSome touched.sets (λ sets. ListsFilled sets counts)
 
 -- a list of no set
 abbrev pub no_sets : TouchedValue → TouchedValue
-no_sets touched = record touched { listed = Some [] }
+no_sets touched = record touched { sets = Some [] }

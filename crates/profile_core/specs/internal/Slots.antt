@@ -8,8 +8,8 @@ mark_of x = bit_xor (x * 11400714819323198485 % 2 ^ 64 / 2 ^ 56)
     (bit_and (x * 11400714819323198485 % 2 ^ 64 / 2 ^ 32) 255)
 
 -- the numbers in the first slots of an order
-abbrev pub listed : List ℕ → List ℕ → ℕ → List ℕ
-listed order numbers n = map (λ s. slice_index numbers s) (take n order)
+abbrev pub ordered_numbers : List ℕ → List ℕ → ℕ → List ℕ
+ordered_numbers order numbers n = map (λ s. slice_index numbers s) (take n order)
 
 -- sixteen different slots, and the marks of the numbers in them
 pub record IsOrder (marks order numbers : List ℕ) : Type 0 where

@@ -2,8 +2,8 @@
 use Rattle.std.specs.Prelude.{ℕ, ◌≡◌, ◌≤◌, ◌<◌, ◌+◌, ◌^◌, List, [], length}
 use Rattle.std.specs.Prelude.{slice_index, slice_index_or}
 use Rattle.profile_core.specs.declared.slotted_rests.Slots.{Slots}
-use Rattle.profile_core.specs.internal.Places.{taken, ArePlaces}
-use Rattle.profile_core.specs.internal.Slots.{listed, IsOrder}
+use Rattle.profile_core.specs.internal.Places.{taken_count, ArePlaces}
+use Rattle.profile_core.specs.internal.Slots.{ordered_numbers, IsOrder}
 
 -- no slots
 abbrev pub no_slots : Slots
@@ -16,13 +16,13 @@ slots_at places rests k = slice_index_or rests (slice_index places k) no_slots
 -- the rest of `stride` numbers of set k
 abbrev pub slotted_rest : ℕ → List ℕ → List Slots → ℕ → List ℕ
 slotted_rest stride places rests k =
-    listed (slots_at places rests k).order (slots_at places rests k).numbers stride
+    ordered_numbers (slots_at places rests k).order (slots_at places rests k).numbers stride
 
 -- the first slots are those of all sets that took none of their own; behind them stand those of
 -- each of the others, and there is room for all
 pub record ArePlaced (places : List ℕ) (rests : List Slots) (room : ℕ) : Type 0 where
   pub few : length places ≤ 2 ^ 22
-  pub rests_len : length rests ≡ taken places + 1
+  pub rests_len : length rests ≡ taken_count places + 1
   pub fits : length places + 1 ≤ room
   pub own : ArePlaces places
   pub each : (r : ℕ) → r < length rests → IsOrder (slice_index_or rests r no_slots).marks

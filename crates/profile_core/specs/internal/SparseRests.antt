@@ -1,6 +1,6 @@
 -- Rests that stand in one array, each from when its set first writes it.
 use Rattle.std.specs.Prelude.{ℕ, ◌≡◌, ◌≤◌, ◌+◌, ◌*◌, ◌^◌, List, length, take, drop, slice_index}
-use Rattle.profile_core.specs.internal.Places.{taken, ArePlaces}
+use Rattle.profile_core.specs.internal.Places.{taken_count, ArePlaces}
 
 -- the rest of `stride` numbers of set k: `places` says which of the array's rests it has
 abbrev pub sparse_rest : ℕ → List ℕ → List ℕ → ℕ → List ℕ
@@ -11,6 +11,6 @@ sparse_rest stride places numbers k = take stride (drop (slice_index places k * 
 pub record IsSparse (stride : ℕ) (places numbers : List ℕ) (room : ℕ) : Type 0 where
   pub some : 1 ≤ stride
   pub small : (length places + 1) * stride ≤ 2 ^ 26
-  pub numbers_len : length numbers ≡ (taken places + 1) * stride
+  pub numbers_len : length numbers ≡ (taken_count places + 1) * stride
   pub fits : (length places + 1) * stride ≤ room
   pub own : ArePlaces places

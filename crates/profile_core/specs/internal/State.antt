@@ -40,8 +40,8 @@ abbrev pub one_more_at : List ℕ → ℕ → List ℕ
 one_more_at ns i = slice_set ns i (slice_index ns i + 1)
 
 -- after a reference to block x, whose set has the list xs
-abbrev pub referenced_in : ProfileState → ℕ → List ℕ → ProfileState
-referenced_in v x xs = record v {
+abbrev pub after_reference_in_list : ProfileState → ℕ → List ℕ → ProfileState
+after_reference_in_list v x xs = record v {
   lists = slice_set v.lists (set_of_block v.geometry x) (take v.geometry.e (move_to_front x xs));
   distances = if is_in x xs then one_more_at v.distances (index_of x xs) else v.distances;
   misses_by_occupancy = if is_in x xs then v.misses_by_occupancy else one_more_at
@@ -51,7 +51,7 @@ referenced_in v x xs = record v {
 
 -- after a reference to a block
 abbrev pub after_reference : ProfileState → ℕ → ProfileState
-after_reference v x = referenced_in v x (list_of v (set_of_block v.geometry x))
+after_reference v x = after_reference_in_list v x (list_of v (set_of_block v.geometry x))
 
 -- after a flush
 abbrev pub after_flush : ProfileState → ProfileState

@@ -27,9 +27,9 @@ AreAlwaysLed (x ∷ xs) = (x.implied ≤ length xs) × AllByRecursion
     (λ y. AlwaysLeads x.profile y.profile) (take x.implied xs) × AreAlwaysLed xs
 
 -- whether the first of some profiles leads all others
-abbrev pub leads_rest : List PairProfile → Bool
-leads_rest [] = false
-leads_rest (x ∷ xs) = x.implied == length xs
+abbrev pub has_leader : List PairProfile → Bool
+has_leader [] = false
+has_leader (x ∷ xs) = x.implied == length xs
 
 -- whether an address lies in the block of the last of some others, a block of 2^bits bytes
 abbrev pub is_in_last_block : ℕ → List ℕ → ℕ → Bool

@@ -9,13 +9,14 @@ use Rattle.profile_core.specs.internal.Fronts.{IsFit, Leads}
 use Rattle.sweep_core.specs.declared.profiles.PairProfile.{PairProfile}
 
 -- how many of some profiles, from the first on, refine a geometry
-abbrev pub implied_by : GeometryValue → List PairProfile → ℕ
-implied_by g xs = position_or_len (λ y. not (is_refined g y.profile.geometry)) xs
+abbrev pub implied_count : GeometryValue → List PairProfile → ℕ
+implied_count g xs = position_or_len (λ y. not (is_refined g y.profile.geometry)) xs
 
 -- some profiles, of which each says how many of the next its front implies
-unfoldable pub linked : List PairProfile → List PairProfile
-linked [] = []
-linked (x ∷ xs) = record x { implied = implied_by x.profile.geometry xs } ∷ linked xs
+unfoldable pub linked_profiles : List PairProfile → List PairProfile
+linked_profiles [] = []
+linked_profiles (x ∷ xs) = record x { implied = implied_count x.profile.geometry xs } ∷
+    linked_profiles xs
 
 -- as many of the next as each says refine it
 abbrev pub IsLinked : List PairProfile → Type 0

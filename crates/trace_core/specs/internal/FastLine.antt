@@ -2,7 +2,7 @@
 use Rattle.std.specs.Prelude.{◌≡◌, true, false, ℕ, List, [], ◌∷◌, ◌++◌, Some, Ok, take, length, ◌+◌}
 use Rattle.std.specs.Prelude.{◌-◌}
 use Rattle.memchr.specs.Find.{IsFirstByte, is_byte}
-use Rattle.trace_core.specs.Fields.{is_trailing, without_trailing, fields, ends_field}
+use Rattle.trace_core.specs.Fields.{is_trailing, without_trailing, fields, is_field_end}
 use Rattle.trace_core.specs.Lines.{is_line_feed, HoldsNoFeed}
 use Rattle.trace_core.specs.Line.{meaning}
 use Rattle.trace_core.specs.declared.events.Entry.TheVariants as entry
@@ -15,7 +15,7 @@ pub record BeginsLine (format : Format) (text rest : List ℕ) (item : Item) : T
   pub front : List ℕ
   pub splits : text ≡ front ++ rest
   pub no_line_feed : HoldsNoFeed front
-  pub means : (end : List ℕ) → ends_field end ≡ true → meaning format (front ++ end) ≡ Ok
+  pub means : (end : List ℕ) → is_field_end end ≡ true → meaning format (front ++ end) ≡ Ok
       (Some (entry.Item item))
 
 -- A text begins with some bytes. A line that begins with them has this label as its first field,
@@ -33,5 +33,5 @@ pub record BeginsLabel (text rest : List ℕ) (label : ℕ) : Type 0 where
 pub record EndsLine (text rest : List ℕ) (at : ℕ) : Type 0 where
   pub after : ℕ
   pub line_feed : IsFirstByte (is_byte 10) rest (Some after)
-  pub ends : ends_field (take after rest) ≡ true
+  pub ends : is_field_end (take after rest) ≡ true
   pub place : at ≡ length text - length rest + after

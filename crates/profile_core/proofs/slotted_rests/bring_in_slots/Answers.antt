@@ -1,7 +1,7 @@
 -- The block's slot, or one that is free, or else the last one's, gets the second block.
 use Rattle.std.proofs.Common.{◌∙◌, ◌+◌, ◌-◌, ◌∷◌, ap, arith}
 use Rattle.std.specs.List.{remove}
-use Rattle.profile_core.specs.internal.Slots.{listed}
+use Rattle.profile_core.specs.internal.Slots.{ordered_numbers}
 use Rattle.profile_core.proofs.SlottedBehind.{found_small, found_list}
 use Rattle.profile_core.proofs.SlottedBehind.{new_held, new_list}
 use Rattle.profile_core.proofs.slotted_rests.bring_in_slots.Goals as goal
@@ -39,8 +39,8 @@ returns-in-Behind-clause-moved c =
 pub returns-in-New-clause-moved : goal.returns-in-New-clause-moved
 returns-in-New-clause-moved c =
     let after = c.put-in-New.new.slots in
-    let whole = listed c.args.slots.now.order c.args.slots.now.numbers 16 in
-    ap (λ n. listed after.order after.numbers (n + 3 - 2)) c.min-place.ensures
+    let whole = ordered_numbers c.args.slots.now.order c.args.slots.now.numbers 16 in
+    ap (λ n. ordered_numbers after.order after.numbers (n + 3 - 2)) c.min-place.ensures
     ∙ new_list c.args.block c.args.second c.args.len.now c.args.most c.args.slots.now
     after c.requires.sound c.requires.some c.requires.most c.requires.two
     c.requires.fits c.in-New.held c.in-New.ensures

@@ -1,5 +1,5 @@
 -- A number in front, in the slot of a place.
-use Rattle.profile_core.proofs.SlotLemmas.{put_order, put_listed}
+use Rattle.profile_core.proofs.SlotLemmas.{put_order, put_numbers}
 use Rattle.profile_core.proofs.slotted_rests.put.Goals as goal
 
 pub returns-clause-sound : goal.returns-clause-sound
@@ -12,6 +12,6 @@ returns-clause-sound c =
 pub returns-clause-moved : goal.returns-clause-moved
 returns-clause-moved c =
     rw c.turn_with-2.ensures
-    (put_listed c.args.place c.args.number c.mark_of.result c.args.slots.now.marks
+    (put_numbers c.args.place c.args.number c.mark_of.result c.args.slots.now.marks
     c.args.slots.now.order c.args.slots.now.numbers c.requires.sound c.requires.within
     c.mark_of.ensures)

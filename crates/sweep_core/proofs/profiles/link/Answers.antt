@@ -1,6 +1,6 @@
 -- The profile at the index says how many of the next its front implies.
 use Rattle.std.proofs.Common.{◌∙◌, arith}
-use Rattle.sweep_core.proofs.Catching.{link-next, linked-whole, rest-implied}
+use Rattle.sweep_core.proofs.Catching.{link-next, linked_profiles-whole, rest-implied}
 use Rattle.sweep_core.proofs.profiles.link.Goals as goal
 
 pub loop-at-preserved : goal.loop-at-preserved
@@ -13,4 +13,5 @@ loop-at-preserved c =
     c.implied_by-implied.ensures)
 
 pub returns : goal.returns
-returns c = c.loop-at.invariant ∙ linked-whole c.args.profiles.now c.loop-at.at (omega arith)
+returns c = c.loop-at.invariant ∙ linked_profiles-whole c.args.profiles.now c.loop-at.at
+    (omega arith)

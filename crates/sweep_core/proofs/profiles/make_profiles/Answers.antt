@@ -6,8 +6,9 @@ use Rattle.sweep_core.proofs.Runs.{begins-shorter}
 use Rattle.sweep_core.proofs.Making.{Making, new-fed, making-start, making-first, making-more}
 use Rattle.sweep_core.proofs.Making.{making-end}
 use Rattle.sweep_core.specs.Table.{first_rows}
-use Rattle.sweep_core.specs.internal.Implied.{linked, IsLinked}
-use Rattle.sweep_core.proofs.Catching.{linked-items, linked-sweep, linked-is}
+use Rattle.sweep_core.specs.internal.Implied.{linked_profiles, IsLinked}
+use Rattle.sweep_core.proofs.Catching.{linked_profiles-items, linked_profiles-sweep}
+use Rattle.sweep_core.proofs.Catching.{linked_profiles-is}
 use Rattle.sweep_core.proofs.profiles.make_profiles.Goals as goal
 use Rattle.sweep_core.proofs.profiles.make_profiles.Goals.{After-link}
 
@@ -39,19 +40,19 @@ loop-rows-preserved c =
 
 -- what is made is linked
 items : (c : After-link) → take c.loop-rows.made.len (c.link.new.profiles ++
-    drop (length c.link.new.profiles) c.loop-rows.made.items) ≡ linked
+    drop (length c.link.new.profiles) c.loop-rows.made.items) ≡ linked_profiles
     c.loop-rows.made.items
-items c = linked-items c.loop-rows.made.items c.link.new.profiles _ c.loop-rows.made.len
+items c = linked_profiles-items c.loop-rows.made.items c.link.new.profiles _ c.loop-rows.made.len
     (omega (arith, c.loop-rows.made.ok))
-    (c.link.ensures ∙ ap linked c.deref_mut.ensures.value)
+    (c.link.ensures ∙ ap linked_profiles c.deref_mut.ensures.value)
 
 pub returns-clause-stands : goal.returns-clause-stands
 returns-clause-stands c =
-    linked-sweep c.args.request.now c.loop-rows.made.items _
+    linked_profiles-sweep c.args.request.now c.loop-rows.made.items _
     (making-end c.args.request.now c.loop-rows.made.items _ c.take_pair.ensures.limits
     c.loop-rows.invariant c.in_default.ensures.rows)
     (items (goal.at.returns-clause-stands c).After-link)
 
 pub returns-clause-linked : goal.returns-clause-linked
 returns-clause-linked c = subst IsLinked (sym (items (goal.at.returns-clause-linked c).After-link))
-    (linked-is c.loop-rows.made.items)
+    (linked_profiles-is c.loop-rows.made.items)

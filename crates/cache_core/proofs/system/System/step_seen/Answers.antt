@@ -3,7 +3,7 @@
 use Rattle.std.proofs.Common.{List, Some, None, arith, refl, sym, subst}
 use Rattle.cache_core.specs.declared.arrival.Arrival.{Arrival}
 use Rattle.cache_core.specs.Arrivals.{Saw}
-use Rattle.cache_core.specs.Systems.{below}
+use Rattle.cache_core.specs.Systems.{lower_events}
 use Rattle.cache_core.specs.internal.SystemStands.{SystemStandsFor}
 use Rattle.cache_core.specs.internal.SystemSteps.{present_refs}
 use Rattle.cache_core.proofs.Counters.{first_level_grows, all_grow}
@@ -39,7 +39,7 @@ returns-in-Some-clause-seen g c = λ plan seed events good stands.
     let s = subst (SystemStandsFor plan seed events) (sym c.self.view_is) stands in
     let sends = step_sends plan seed events _ c.args.reference (Some c.in-Some.down) _ _ _ good s
     c.in-Some.ensures.value in
-    let lower = c.descend_all.ensures.seen seed plan.second (below plan seed events)
+    let lower = c.descend_all.ensures.seen seed plan.second (lower_events plan seed events)
     good.second s.second in
     saw_both g.O.Observer.has_seen (c.in-Some.ensures.seen plan seed events good s.i s.d s.u)
     (subst (λ (xs : List Arrival). Saw g.O.Observer.has_seen c.first_level-down.new.observer xs

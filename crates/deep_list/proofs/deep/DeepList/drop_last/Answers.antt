@@ -1,5 +1,5 @@
 use Rattle.std.proofs.Common.{◌≡◌, ◌-◌, ◌∙◌, List, ℕ, length, take, sym, ap, arith}
-use Rattle.deep_list.specs.Slots.{kept}
+use Rattle.deep_list.specs.Slots.{live_blocks}
 use Rattle.deep_list.specs.Deep.{Deep}
 use Rattle.deep_list.proofs.DeepLemmas.{vacated_deep, vacated_last, last_kept, some_live}
 use Rattle.deep_list.proofs.deep.DeepList.drop_last.Goals as goal
@@ -20,6 +20,6 @@ pub returns : goal.returns
 returns c =
     let found = c.in-Some.ensures {u = tt} in
     let made : List ℕ → Deep = λ xs. record { cap = c.self.inside.cap; blocks = xs } in
-    ap made (ap (λ w. kept w.blocks w.live) c.vacate.ensures ∙
+    ap made (ap (λ w. live_blocks w.blocks w.live) c.vacate.ensures ∙
     last_kept c.self.invariant c.in-Some.slot found.1 found.2)
     ∙ ap (λ v. record { cap = v.cap; blocks = take (length v.blocks - 1) v.blocks }) c.self.view_is

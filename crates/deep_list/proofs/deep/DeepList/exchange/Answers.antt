@@ -2,7 +2,7 @@ use Rattle.std.proofs.Common.{◌≡◌, ◌-◌, ◌∙◌, ◌<◌, ◌≤◌,
 use Rattle.std.proofs.Common.{arith}
 use Rattle.std.specs.List.{remove}
 use Rattle.deep_list.specs.Deep.{Deep, has_block, index_of_block}
-use Rattle.deep_list.proofs.KeptLemmas.{not_in-take, not_in-remove}
+use Rattle.deep_list.proofs.LiveBlockLemmas.{not_in-take, not_in-remove}
 use Rattle.deep_list.proofs.DeepLemmas.{take_cap}
 use Rattle.deep_list.proofs.deep.DeepList.exchange.Goals as goal
 

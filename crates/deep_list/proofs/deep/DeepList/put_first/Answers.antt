@@ -1,6 +1,6 @@
 use Rattle.std.proofs.Common.{◌≡◌, ◌+◌, ◌-◌, ◌<◌, ◌≤◌, ◌∙◌, [], ◌∷◌, length, get_or, set, sym, ap}
 use Rattle.std.proofs.Common.{List, ℕ, arith, subst}
-use Rattle.deep_list.specs.Slots.{SlotsValue, kept, slots_with_block}
+use Rattle.deep_list.specs.Slots.{SlotsValue, live_blocks, slots_with_block}
 use Rattle.deep_list.specs.Chains.{ChainsValue}
 use Rattle.deep_list.specs.Deep.{Deep, IsDeep, has_block, IsRanked}
 use Rattle.deep_list.proofs.DeepLemmas.{filled_kept, filled_deep, filled_ranked}
@@ -39,7 +39,7 @@ returns c =
     let made : List ℕ → Deep = λ xs. record { cap = c.self.inside.cap; blocks = xs } in
     let front : Deep → Deep = λ v. record { cap = v.cap; blocks = c.args.block ∷ v.blocks } in
     ap made
-    (ap (λ w. kept w.blocks w.live) c.fill.ensures ∙
+    (ap (λ w. live_blocks w.blocks w.live) c.fill.ensures ∙
     filled_kept room.ensures.ranked c.args.block t at
     ∙ ap (λ xs. c.args.block ∷ xs) room.ensures.kept_same)
     ∙ ap front c.self.view_is

@@ -7,7 +7,7 @@ use Rattle.profile_core.specs.internal.Moves.{index_of, rest_touch_of}
 use Rattle.profile_core.specs.internal.Rows.{row_for}
 use Rattle.profile_core.specs.internal.SlottedRests.{IsSlotted}
 use Rattle.profile_core.proofs.RowsBySet.{known_row, within, stride_is, put_is, put_others}
-use Rattle.profile_core.proofs.SlotLemmas.{length-listed, listed_take}
+use Rattle.profile_core.proofs.SlotLemmas.{length-ordered_numbers, ordered_numbers_take}
 use Rattle.profile_core.proofs.SlottedRestLemmas.{own_of, own_listed, own_back, written_placed}
 use Rattle.profile_core.proofs.slotted_rests.SlottedRestsRestStore.bring.Goals as goal
 
@@ -63,7 +63,8 @@ returns-clause-moved c =
     let list = take (c.args.len.now - 2) (row_for c.args.self.now c.args.set) in
     let len = c.bring_in_slots.new.len - 2 in
     ap (take len) (put_is c.args.self.now put c.requires.within)
-    ∙ sym (listed_take s.order s.numbers len n (omega (arith, c.bring_in_slots.ensures.fits)))
+    ∙ sym (ordered_numbers_take s.order s.numbers len n
+    (omega (arith, c.bring_in_slots.ensures.fits)))
     ∙ c.bring_in_slots.ensures.moved
     ∙ ap (λ (xs : List ℕ). take n (c.args.second ∷ remove xs (index_of c.args.block xs))) held
     ∙ ap (λ m. take m (c.args.second ∷ remove list (index_of c.args.block list))) (stride_is o.row)
@@ -78,7 +79,7 @@ returns-clause-long c =
     (omega (arith, c.own_rest-rest.auto.places, c.deref_mut.ensures.len)))
     c.bring_in_slots.ensures.sound in
     ap length (put_is c.args.self.now put c.requires.within)
-    ∙ length-listed s.order s.numbers c.self.inside.stride
+    ∙ length-ordered_numbers s.order s.numbers c.self.inside.stride
     (omega (arith, c.bring_in_slots.ensures.sound.order_len, c.self.invariant.most))
     ∙ stride_is o.row
 

@@ -4,7 +4,7 @@ use Rattle.std.proofs.lemmas.List.{get_or_read}
 use Rattle.profile_core.specs.internal.SlottedRests.{no_slots, slots_at}
 use Rattle.profile_core.specs.internal.Rows.{row_for}
 use Rattle.profile_core.proofs.RowsBySet.{known_row, within, stride_is, row_is}
-use Rattle.profile_core.proofs.SlotLemmas.{listed_at}
+use Rattle.profile_core.proofs.SlotLemmas.{ordered_numbers_at}
 use Rattle.profile_core.proofs.SlottedRestLemmas.{AreOrdered, slots_are}
 use Rattle.profile_core.proofs.slotted_rests.SlottedRestsRestStore.last.Goals as goal
 use Rattle.profile_core.proofs.slotted_rests.SlottedRestsRestStore.last.Goals.{After-index}
@@ -55,7 +55,8 @@ returns c =
     c.number_at.ensures
     ∙ ap (λ t. get_or t.numbers (get_or t.order (n - 1) 0) 0) (here at.After-index-2
     (place at.After-index (within (known_row c.self.view_is c.requires.within))))
-    ∙ sym (listed_at s.order s.numbers n (n - 1) (omega (arith, o.order_len, c.self.invariant.most))
+    ∙ sym (ordered_numbers_at s.order s.numbers n (n - 1)
+    (omega (arith, o.order_len, c.self.invariant.most))
     (omega (arith, c.self.invariant.some)))
     ∙ ap (λ xs. get_or xs (n - 1) 0) (sym (row_is r))
     ∙ ap (λ m. get_or (row_for c.args.self.now c.args.set) (m - 1) 0)
