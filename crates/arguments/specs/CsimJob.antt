@@ -11,8 +11,7 @@ use Rattle.arguments.specs.declared.job.Job.{Job}
 use Rattle.arguments.specs.declared.job.Job.TheVariants.{Csim}
 
 -- The job of these entries, or the first fault: bad values in the table's order, then numbers that
--- no cache has. The options are those
--- of the CS:APP cache lab's csim.
+-- no cache has. The options are those of the CS:APP cache lab's csim.
 abbrev pub csim_of : List Row → Result Job JobFault
 csim_of rows =
     and_then (required_value set_bits_option.id number_of rows) (λ s.

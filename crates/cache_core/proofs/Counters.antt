@@ -29,7 +29,7 @@ first_grows : (old : Option SystemCache) (ref : Ref) (down : Option (List (Optio
     Grows (one_if (is_some down)) old new
 first_grows old ref down new a = grind arith
 
--- what is sent down for a visit stands in two places
+-- a visit sends down at most two references, in two places
 visit_sends : (d : Design) (policy : Option Repl) (numbers rest : ℕ → ℕ) (ref : Ref)
     (old : List Slot) (o : Outcome) (new : List Slot) →
     Visits d policy numbers ref old o new rest → (xs : List Ref) × (o.down ≡ two_options xs)

@@ -94,7 +94,7 @@ row_made ways slots new row next r within long same = record {
   same = ap (λ n. take (n - 16) next) (sym (length-map new of_slot)) ∙ same;
 }
 
--- what is said of a row, of numbers
+-- the fact that a row has a set's fingerprints, in terms of lists of numbers
 behind_row : (ways : ℕ) (slots : List Slot) (row : List ℕ) → HasFingerprints ways slots row →
     Behind 16 row (all_of slots)
 behind_row ways slots row r = ap (λ n. take (n - 16) row) (length-map slots of_slot) ∙ r.same

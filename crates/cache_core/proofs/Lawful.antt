@@ -1,5 +1,5 @@
--- What is said of each policy implies what is said of any: slots are neither made nor lost, and one
--- leaves a full set.
+-- The definition of each policy implies the definition of any policy: slots are neither made nor
+-- lost, and one leaves a full set.
 use Rattle.std.proofs.Common.{◌≡◌, ℕ, ◌+◌, ◌-◌, ◌%◌, ◌<◌, Bool, true, false, List, [], ◌∷◌, ◌++◌}
 use Rattle.std.proofs.Common.{length, get_or, take, ◌≤◌, drop, Option, Some, None, sym, ◌∙◌, ap}
 use Rattle.std.proofs.Common.{refl, arith, length-take, add-one, suc, set, length-set}

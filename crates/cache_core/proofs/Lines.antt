@@ -35,7 +35,7 @@ pub absent_round : (b : ℕ) (xs : List Line) (x : Line) (ys : List Line) → Ab
     Absent b xs × Absent b ys
 absent_round b xs x ys h = (absent_left b xs (x ∷ ys) h, (absent_right b xs (x ∷ ys) h).1)
 
--- what is round a line
+-- no other line has the block of a line, neither behind it nor before it
 pub distinct_back : (xs : List Line) (x : Line) (ys : List Line) → Distinct (xs ++ x ∷ ys) →
     Absent x.block ys
 distinct_back [] x ys d = d.0

@@ -1,5 +1,5 @@
--- What a reader of the log sees who picks something from each of its lines: line by line, event by
--- event, and of the whole.
+-- A reader of the log picks something from each of its lines. Here is what this gives for one line,
+-- for the lines of one event, and for the whole log.
 use Rattle.std.proofs.Common.{◌≡◌, ℕ, Bool, true, false, cond, List, [], ◌∷◌, ◌++◌, Option, Some}
 use Rattle.std.proofs.Common.{None, refl, sym, ap, ◌∙◌, append_assoc, append-nil}
 use Rattle.std.specs.Prelude.{flat_map}
@@ -150,7 +150,7 @@ module _ {X : Type 0} (p : Arrival → List X) where
           (first_level_references plan seed earlier ref)
       by_test false = ap (λ xs. xs ++ []) n
 
-  -- what is picked from the lines of no cache but one, nor of memory, nor of what is bypassed
+  -- something is picked only from the lines of one cache
   abbrev pub OnlyAt : CacheName → Type 0
   OnlyAt name = ((other : CacheName) → is_same name other ≡ false → QuietAt other) × QuietAtMemory ×
       ((ref : Ref) → p (Bypassed ref) ≡ [])
@@ -221,7 +221,7 @@ module _ {X : Type 0} (p : Arrival → List X) where
       (quiet_flush seed L1D plan.d (events_for L1D earlier) (q L1D refl))
       (quiet_flush seed L1U plan.u (events_for L1U earlier) (q L1U refl))
 
--- What is picked from the whole log, where each event adds what is picked from its lines.
+-- The picks from a whole log, if each event adds the picks from its own lines.
 module _ {X : Type 0} (p : Arrival → List X) (plan : PlannedCaches) (seed : ℕ) (whole : List Event →
     List X) (none : whole [] ≡ [])
     (more : (earlier : List Event) (e : Event) → whole (earlier ++ e ∷ []) ≡ whole earlier ++
@@ -241,8 +241,7 @@ module _ {X : Type 0} (p : Arrival → List X) (plan : PlannedCaches) (seed : �
   whole_log events = ap (λ xs. xs ++ flat_map p (arrivals plan seed events)) (sym none) ∙
       from [] events
 
--- What is told of the references below the first level grows by what a reader picks from the lines
--- of each.
+-- A list grows with each reference below the first level by the picks from that reference's lines.
 module _ {X : Type 0} (p : Arrival → List X) (seed : ℕ) (plan : PlannedCaches)
     (told : List Event → List X)
     (one : (before : List Event) (ref : Ref) → told (before ++ event.Reference ref ∷ [])

@@ -93,7 +93,8 @@ stacked_run g write w st (v ∷ events) some h =
     stacked_run g write (window_after g w v) (next (lru_machine g write) st v) events some
     (stacked_next g write w st v some h)
 
--- what each effect says by one test, the windows say by another, if the two agree for one reference
+-- a test of the effects and a test of the windows agree over a list of events, if they do for one
+-- reference
 lru_from : (f : Effect → Bool) (p : Occurrence → Bool) (g : GeometryValue) (write : WriteMode) →
     1 ≤ g.e →
     ((w : List ℕ) (st : MachineState) (ref : Ref) → IsStacked g write w st →

@@ -45,7 +45,7 @@ flushed_all plan seed events =
 abbrev pub is_untaken : PlannedCaches → Ref → Bool
 is_untaken plan ref = not (is_taken plan ref)
 
--- what a system holds and has counted after a list of events, apart from its steps
+-- the caches and counts of a system after a list of events, without the number of its steps
 record SystemKept (plan : PlannedCaches) (seed : ℕ) (events : List Event)
     (v : SystemValue) : Type 0 where
   i : KeptIfPlanned seed plan.i (events_for L1I events) v.i

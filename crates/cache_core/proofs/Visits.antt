@@ -9,7 +9,7 @@ use Rattle.cache_core.specs.Geometry.{set_of}
 use Rattle.cache_core.specs.Machine.{Machine}
 use Rattle.cache_core.specs.Order.{Contents, Accesses, Visits, slots_of}
 
--- what holds of one set, and of each other one, holds of each
+-- a fact that holds for one set, and for each other set, holds for each set
 pub at_each : (P : ℕ → Type 0) (k : ℕ) → P k → ((j : ℕ) → j ≢ k → P j) → (j : ℕ) → P j
 at_each P k here others j = ⊎_elim (λ t. subst P (sym t.1) here) (λ f. others j f.1) (eqb_tells j k)
 

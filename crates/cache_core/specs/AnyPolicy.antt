@@ -1,5 +1,5 @@
--- Any policy: it keeps a set's slots, and a cache under it does what a stamp machine does that may
--- evict any line of a full set.
+-- Any policy keeps the slots of a set, and a cache under it does the same as a stamp machine that
+-- may evict any line of a full set.
 use Rattle.std.specs.Prelude.{◌≡◌, ℕ, ◌<◌, ◌≤◌, ◌^◌, Bool, true, false, ◌&&◌, List, [], Option}
 use Rattle.std.specs.Prelude.{None, Some, is_none, find, map, length, replicate, Contains}
 use Rattle.std.specs.Prelude.{IsPermutation}
@@ -29,8 +29,7 @@ PlaceKeeps = (policy : Option Repl) (number capacity : ℕ) (old : List Slot) (s
     TakesIn None 0 capacity old slot gone new
 
 -- Each set holds the slots of the machine's lines of it, in some order; a block has one line at
--- most; a write-through cache
--- holds no dirty line.
+-- most; a write-through cache holds no dirty line.
 pub record HoldsSame (m : Machine) (st : MachineState) (c : Contents) : Type 0 where
   pub design : c.design ≡ m.design
   pub count : length c.sets ≡ 2 ^ m.design.geometry.s

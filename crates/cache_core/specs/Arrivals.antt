@@ -1,6 +1,5 @@
 -- The log of a system of caches: each arrival of a reference at a cache or at memory, each
--- reference that no cache takes, and each flush of
--- a cache, in the order in which they happen.
+-- reference that no cache takes, and each flush of a cache, in the order in which they happen.
 use Rattle.std.specs.Prelude.{ℕ, List, [], ◌∷◌, ◌++◌, map, Option, Some, None, Bool, if◌then◌else◌}
 use Rattle.std.specs.Option.{option_map}
 use Rattle.trace_core.specs.declared.events.Ref.{Ref}
@@ -78,7 +77,7 @@ first_arrivals plan seed earlier ref =
     first_level_arrivals seed L1I plan.i earlier ref ++ first_level_arrivals seed L1D plan.d earlier
     ref ++ first_level_arrivals seed L1U plan.u earlier ref
 
--- the arrivals of a reference below the first level, or past it
+-- the arrivals of a reference below the first level, or, if no cache takes it, the one that says so
 abbrev pub lower_arrivals : PlannedCaches → ℕ → List Event → Ref → List Arrival
 lower_arrivals plan seed earlier ref =
     if is_taken plan ref then all_arrivals_below seed plan.second (lower_events plan seed earlier)

@@ -151,11 +151,10 @@ abbrev pub second_level_references : Option PlannedCache → List Ref → List R
 second_level_references None down = []
 second_level_references (Some second) down = down
 
--- The lines of a log follow from one another; the first references are on their way to memory, and
--- the others to the second level. One
--- to memory arrives first; then the next at the second level, which may send more to memory. Only
--- if none is on its way another
--- reference comes to the first level, or is bypassed, or a cache is flushed.
+-- The lines of a log follow from one another. The first references are on their way to memory, and
+-- the others to the second level. Those to memory arrive first; then the next one arrives at the
+-- second level, which may send more to memory. Only when none is on its way, another reference
+-- comes to the first level, or is bypassed, or a cache is flushed.
 abbrev pub Follow : PlannedCaches → List Ref → List Ref → List Arrival → Type 0
 Follow plan [] [] [] = Unit {0}
 Follow plan [] [] (Cache L1I ref hit victim ∷ lines) =

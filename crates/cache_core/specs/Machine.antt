@@ -17,8 +17,7 @@ use Rattle.cache_core.specs.Outcomes.{is_allocated}
 use Rattle.cache_core.specs.Rules.{Place, InFront, InPlace, Victim, Last, Drawn, rules, is_random}
 
 -- a block that is held. Its key is the clock of the last touch or placing (LRU), the clock of
--- placing
--- (FIFO), or the way (random)
+-- placing (FIFO), or the way (random)
 pub record Line : Type 0 where
   pub block : ℕ
   pub key : ℕ
@@ -109,9 +108,8 @@ key_there None count = count
 key_there (Some gone) count = gone.key
 
 -- The lines with a new block placed at this clock in a set that held so many blocks, in place of
--- this line, if any: LRU and FIFO put
--- it in front with the clock as its key, random in the way of the line that goes, or in the next
--- one.
+-- this line, if any: LRU and FIFO put it in front with the clock as its key, random in the way of
+-- the line that goes, or in the next one.
 abbrev pub with_block : Repl → ℕ → ℕ → Slot → Option Line → List Line → List Line
 with_block policy clock count new gone lines =
     let to = (rules policy).placed in

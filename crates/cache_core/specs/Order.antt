@@ -20,8 +20,7 @@ Moves InFront old at new = (x : Slot) × (slice_get old at ≡ Some x) × (new �
 Moves InPlace old at new = new ≡ old
 
 -- A touch of the slot at an index. LRU brings it to the front; FIFO and random leave the order. Of
--- any
--- other policy it is known that the slots are the same.
+-- any other policy it is known that the slots are the same.
 abbrev pub Touches : Option Repl → List Slot → ℕ → List Slot → Type 0
 Touches None old at new = IsPermutation old new
 Touches (Some policy) old at new = Moves (rules policy).touched old at new
@@ -46,8 +45,7 @@ victim_at Last number slots = length slots - 1
 victim_at Drawn number slots = number % length slots
 
 -- A slot put into a full set, from which one leaves: LRU and FIFO put it in front and take out the
--- last,
--- random exchanges the way that the random number names.
+-- last, random exchanges the way that the random number names.
 abbrev pub Exchanges : Option Repl → ℕ → List Slot → Slot → Slot → List Slot → Type 0
 Exchanges None number old slot gone new =
     (rest : List Slot) × IsPermutation old (gone ∷ rest) × IsPermutation (slot ∷ rest) new

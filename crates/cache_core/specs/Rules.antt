@@ -22,8 +22,7 @@ pub record Rules : Type 0 where
   pub victim : Victim
 
 -- LRU puts a block in front when it is touched and when it is placed, FIFO only when it is placed;
--- from both the last leaves.
--- Random leaves each block in its way, and exchanges one that it draws.
+-- from both the last leaves. Random leaves each block in its way, and exchanges one that it draws.
 abbrev pub rules : Repl → Rules
 rules Lru = record { touched = InFront; placed = InFront; victim = Last }
 rules Fifo = record { touched = InPlace; placed = InFront; victim = Last }

@@ -1,6 +1,5 @@
 -- A system of caches: a first level, perhaps a second one, and memory below. (The levels -l1-i,
--- -l1-d, -l1-u and -l2-u of the
--- Dinero IV manual.)
+-- -l1-d, -l1-u and -l2-u of the Dinero IV manual.)
 use Rattle.std.specs.Prelude.{ℕ, ◌+◌, Bool, true, false, ◌||◌, ◌&&◌, not, List, [], ◌∷◌, ◌++◌}
 use Rattle.std.specs.Prelude.{Option, Some, None, if◌then◌else◌, sum, count_by, map, flat_map}
 use Rattle.std.specs.Prelude.{filter, is_some}
@@ -51,21 +50,21 @@ is_event_of name event.Flush = true
 abbrev pub events_for : CacheName → List Event → List Event
 events_for name events = filter (is_event_of name) events
 
--- the references that a cache of the first level sends on for one, after earlier events
+-- the references that a cache of the first level sends on for one reference, after earlier events
 abbrev pub references_sent : ℕ → CacheName → Option PlannedCache → List Event → Ref → List Ref
 references_sent seed name None earlier ref = []
 references_sent seed name (Some planned) earlier ref =
     if is_taken_by name ref then (step (machine_of seed planned)
     (run (machine_of seed planned) (events_for name earlier)) ref).effect.down else []
 
--- the references that the first level sends on for one
+-- the references that the first level sends on for one reference
 abbrev pub first_level_references : PlannedCaches → ℕ → List Event → Ref → List Ref
 first_level_references plan seed earlier ref =
     references_sent seed L1I plan.i earlier ref ++ references_sent seed L1D plan.d earlier ref ++
     references_sent seed L1U plan.u earlier ref
 
--- the references that the first level sends on for events that come after earlier ones, in order,
--- with each flush where it comes
+-- the events of the second level for events that come after earlier ones: the references that the
+-- first level sends on, in order, and each flush
 abbrev pub lower_events_from : PlannedCaches → ℕ → List Event → List Event → List Event
 lower_events_from plan seed earlier [] = []
 lower_events_from plan seed earlier (event.Reference ref ∷ events) =
@@ -74,7 +73,7 @@ lower_events_from plan seed earlier (event.Reference ref ∷ events) =
 lower_events_from plan seed earlier (event.Flush ∷ events) =
     event.Flush ∷ lower_events_from plan seed (earlier ++ event.Flush ∷ []) events
 
--- the events of the second level: those that the first sends on for a whole list
+-- the events of the second level for a whole list
 abbrev pub lower_events : PlannedCaches → ℕ → List Event → List Event
 lower_events plan seed events = lower_events_from plan seed [] events
 

@@ -67,8 +67,8 @@ impl<P: Replacement> Cache<P> {
         outcome
     }
 
-    /// Makes an access that finds its block in the first slot of its set and sends nothing down, as
-    /// most do, and returns its outcome. For any other access it does nothing.
+    /// Makes an access if it finds its block in the first slot of its set and sends nothing down,
+    /// as most do, and returns its outcome. Otherwise it does nothing.
     #[inline(always)]
     pub(crate) fn access_in_front(&mut self, reference: Ref) -> Option<Outcome>
         ensures { AccessesInFront P.policy P.words self.old reference result self.new }

@@ -23,9 +23,9 @@ use std::alloc::{AllocError, Global};
 use std::marker::Model;
 use trace_core::Ref;
 
-/// The sets of a cache under a policy. A set's slots are in the policy's order in one array, each
-/// set in a segment of its own. `touched` lists the sets with filled slots, while they are few, so
-/// that a flush goes to these alone.
+/// The sets of a cache under a policy. One array has the slots of all sets, each set in a segment
+/// of its own and in the policy's order. `touched` lists the sets with filled slots, as long as
+/// they are few, so that a flush visits only these.
 #[derive(Drop)]
 pub(crate) struct CacheSets<P> {
     design: Design,
@@ -91,8 +91,8 @@ impl<P: Replacement> CacheSets<P> {
         })
     }
 
-    /// Makes one access, by a caller that has found the index of its block in its set. Also returns
-    /// the index of the slot that it placed, if it placed one.
+    /// Makes one access, whose block has this index in its set, if it is there. Also returns the
+    /// index at which the block was placed, if it was.
     #[inline(always)]
     pub(crate) fn access_at(
         &mut self,
@@ -120,8 +120,8 @@ impl<P: Replacement> CacheSets<P> {
         )
     }
 
-    /// Makes an access that finds its block in the first slot of its set and sends nothing down, as
-    /// most do, and returns its outcome. For any other access it does nothing.
+    /// Makes an access if it finds its block in the first slot of its set and sends nothing down,
+    /// as most do, and returns its outcome. Otherwise it does nothing.
     #[inline(always)]
     pub(crate) fn access_in_front(&mut self, reference: Ref) -> Option<Outcome>
         ensures { AccessesInFront P.policy P.words self.old reference result self.new }
@@ -172,9 +172,9 @@ fn segment<'a>(design: Design, slots: &'a [Slot], filled: &[u32], reference: Ref
     &slots[start..start + held]
 }
 
-/// One access, in the slab of all sets, where the index of its block in its set is known. A set
-/// that gets its first block is listed. Also returns the index of the slot that is placed, if one
-/// is.
+/// Makes one access in the slab of all sets. Its block has this index in its set, if it is there. A
+/// set that gets its first block is listed. Also returns the index at which the block was placed,
+/// if it was.
 #[inline(always)]
 fn visit_slab<P: Replacement>(
     design: Design,
@@ -251,7 +251,7 @@ fn visit_front(
     Some(outcome)
 }
 
-/// So many sets with no filled slot.
+/// The number of filled slots of each set, 0 at first.
 fn no_slots(alloc: Global, sets: usize) -> Result<Vec<u32>, AllocError>
     ensures { IfOk result (λ filled. filled.items ≡ replicate sets 0) }
 {

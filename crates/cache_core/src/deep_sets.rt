@@ -13,7 +13,7 @@ use std::alloc::{AllocError, Global};
 use std::marker::Model;
 
 /// A deep list for each set, the blocks of each in order, the most recent first. `touched` lists
-/// the sets that have some, while they are few, so that a flush goes to these alone.
+/// the sets that have some, as long as they are few, so that a flush visits only these.
 #[derive(Drop)]
 pub(crate) struct DeepSets {
     lists: Vec<DeepList>,
@@ -36,7 +36,7 @@ impl Model for DeepSets {
 }
 
 impl DeepSets {
-    /// Empty lists of at most so many blocks each, for a number of sets. It takes all its memory
+    /// Empty lists for a number of sets, of at most `capacity` blocks each. It takes all its memory
     /// here, and that alone can fail.
     pub(crate) fn new(alloc: Global, sets: usize, capacity: usize) -> Result<Self, AllocError>
         requires some { 1 ≤ capacity }
@@ -51,8 +51,8 @@ impl DeepSets {
         })
     }
 
-    /// Takes a block out of the list of a set, wherever it is, and puts another in front; if the
-    /// list is full, its last block falls out. Tells how the look-up of the first block went.
+    /// Takes a block out of the list of a set, if it is there, and puts another in front. If the
+    /// list is full, its last block falls out. Returns how the look-up of the first block went.
     pub(crate) fn bring(&mut self, set: usize, block: u64, given: u64) -> Lookup
         requires within { set < length self.old.lists }
         requires apart { has_block given (slice_index_or self.old.lists set []) ≡ false }

@@ -23,12 +23,12 @@ use std::alloc::{AllocError, Global};
 use std::marker::Model;
 use trace_core::Ref;
 
-/// The fewest ways of a set that are searched by fingerprints. Fewer are searched slot by slot,
-/// which usually takes less time than to keep fingerprints that follow the slots.
+/// Sets of this many ways or more are searched by fingerprints. Sets of fewer ways are searched
+/// slot by slot, which usually takes less time than keeping fingerprints in the order of the slots.
 const FINGERPRINTED_WAYS: u64 = 128;
 
-/// A cache of a system, with the fingerprints of all sets beside its slots, a row for each set.
-/// There are none if its sets have few ways.
+/// A cache of a system, and a row of fingerprints for each set. There are no rows if the sets have
+/// few ways.
 #[derive(Drop)]
 pub(crate) struct FingerprintedCache {
     sets: CacheSets<ChosenPolicy>,
@@ -95,8 +95,8 @@ impl FingerprintedCache {
         access_by_rows(&mut self.sets, self.policy, &mut self.rows, reference)
     }
 
-    /// Makes an access that finds its block in the first slot of its set and sends nothing down,
-    /// and returns its outcome. For any other access it does nothing.
+    /// Makes an access if it finds its block in the first slot of its set and sends nothing down,
+    /// and returns its outcome. Otherwise it does nothing.
     #[inline(always)]
     pub(crate) fn access_in_front(&mut self, reference: Ref) -> Option<Outcome>
         ensures { AccessesInFront policy_of random_numbers_of self.old reference result self.new }
@@ -121,9 +121,9 @@ impl FingerprintedCache {
     }
 }
 
-/// One access. The first slots of its set are looked at one by one, and the others by their
-/// fingerprints, if there are any. Where the block is among the first, or these are not all filled,
-/// no fingerprint moves.
+/// One access. The first slots of its set are searched one by one, and the others by their
+/// fingerprints, if there are any. If the block is among the first slots, or these are not all
+/// filled, no fingerprint moves.
 #[inline(always)]
 fn access_by_rows(
     sets: &mut CacheSets<ChosenPolicy>,
@@ -157,9 +157,9 @@ fn access_by_rows(
     sets.access_at(reference, at).0
 }
 
-/// One access whose block is not among the first slots of its set, which are filled. It is
-/// searched for by the row of the set, and the row follows the slots. It stands apart, so that the
-/// path of the many references whose block is among the first stays short.
+/// One access whose block is not among the first slots of its set, which are filled. The block is
+/// searched for by the set's row, which is then changed as the slots are. This is a function of its
+/// own, so that the path of the many references whose block is among the first slots stays short.
 #[inline(never)]
 fn access_far(
     sets: &mut CacheSets<ChosenPolicy>,
@@ -200,8 +200,8 @@ fn access_far(
     outcome
 }
 
-/// A row after a touch of the slot at an index. Under LRU the slot goes to the front, and the last
-/// of the first slots passes to those that have fingerprints.
+/// Changes a row after a touch of the slot at an index. Under LRU the slot goes to the front, and
+/// the last of the first slots is now the first that has a fingerprint, `passing`.
 fn follow_touch(policy: Repl, row: &mut [u8], at: usize, passing: u8)
     requires far { 16 ≤ at }
     requires within { at < 16 + length row.old }
@@ -212,8 +212,8 @@ fn follow_touch(policy: Repl, row: &mut [u8], at: usize, passing: u8)
     }
 }
 
-/// A row after a placing, in front or in a way. In front the last slot leaves, and the last of the
-/// first slots passes to those that have fingerprints.
+/// Changes a row after a block was placed, in front or in a way. If in front, the last slot leaves,
+/// and the last of the first slots is now the first that has a fingerprint, `passing`.
 fn follow_placing(policy: Repl, row: &mut [u8], last: usize, way: usize, passing: u8, own: u8)
     requires far { 16 ≤ last }
     requires last { last < 16 + length row.old }

@@ -11,7 +11,7 @@ use crate::walk::find_block;
 use std::simd::prelude::*;
 
 /// The number of slots at the front of a set that have no fingerprint. Most blocks are found there,
-/// and to look at each costs less than fingerprints that follow the slots.
+/// and looking at each slot costs less than keeping fingerprints in their order.
 pub(crate) const NEAR: usize = 16;
 
 /// How many fingerprints are compared at once.
@@ -44,8 +44,8 @@ pub(crate) fn find_far(row: &[u8], slots: &[Slot], block: u64) -> Option<usize>
     None
 }
 
-/// The index of a block among the slots from an index up to another, as far as there are any. It
-/// stands apart, so that the loop over fingerprints stays short.
+/// The index of a block among the slots from one index up to another, or to the end of the slots.
+/// It is a function of its own, so that the loop over fingerprints stays short.
 #[inline(never)]
 fn find_between(slots: &[Slot], from: usize, next: usize, block: u64) -> Option<usize>
     requires { NoneBefore block slots.now from }
@@ -60,8 +60,8 @@ fn find_between(slots: &[Slot], from: usize, next: usize, block: u64) -> Option<
     Some(from + passed)
 }
 
-/// The fingerprint of a block. With one product alone, all blocks at some strides would have one
-/// fingerprint; with two, blocks at equal distances have many.
+/// The fingerprint of a block. With one product alone, all blocks at some strides would have the
+/// same fingerprint; with two, blocks at equal distances have many different ones.
 #[inline(always)]
 pub(crate) fn fingerprint(block: u64) -> u8
     ensures { result ≡ fingerprint_of block }

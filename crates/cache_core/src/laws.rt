@@ -110,8 +110,9 @@ pub fn inclusion()
     ensures held { HeldInclusion }
 {}
 
-/// With more lines in each of as many sets an LRU cache hits no less, and misses and evicts no more
-/// (Mattson and others 1970); so a fully associative cache of twice the lines misses no more.
+/// With more lines in each set, and as many sets, an LRU cache has no fewer hits, and no more
+/// misses and evictions (Mattson and others 1970). So a fully associative cache of twice the lines
+/// misses no more.
 /// Lemmas: `MoreWays.more-hits`, `MoreWays.fewer-misses`, `MoreWays.fewer-evictions`.
 pub fn more_ways_miss_no_more()
     ensures hits { (g : GeometryValue) (ways : ℕ) (events : List Event) → g.e ≤ ways →
@@ -169,8 +170,9 @@ pub fn first_level_gets_what_it_takes()
     ensures unified { UnifiedCacheLaw }
 {}
 
-/// The level below next gets what a line of a cache must send: the write of a dirty victim's
-/// address, the load of the block's address, and the write that goes on.
+/// After a line of a cache, the next references that arrive at the level below are those that the
+/// line must send: the write of a dirty victim's address, the load of the block's address, and the
+/// write that goes on.
 /// Lemma: `FollowLaw.follow_law`.
 pub fn lines_follow()
     ensures { FollowLaw }

@@ -22,8 +22,8 @@ const SEARCHED_WAYS: u64 = 256;
 /// How many blocks of each set are searched one by one if the others are in deep lists.
 const NEAR_WAYS: u64 = 16;
 
-/// The sets of an LRU cache, write-back and write-allocate: the first ways of each in a cache of
-/// their own, and those behind them, if there are many, in deep lists.
+/// The sets of an LRU cache, write-back and write-allocate: the first ways of each are in a cache
+/// of their own, and the blocks behind them, if there are many ways, in deep lists.
 #[derive(Drop)]
 pub(crate) struct LruSets {
     near: Cache<Lru>,
@@ -65,7 +65,7 @@ impl LruSets {
         })
     }
 
-    /// Makes a reference, and tells how it went.
+    /// Makes a reference, and returns how it went.
     #[inline(always)]
     pub(crate) fn access(&mut self, reference: Ref) -> Lookup
         ensures { (g : GeometryValue) (events : List Event) →
@@ -79,8 +79,8 @@ impl LruSets {
         self.access_further(reference)
     }
 
-    /// Makes a reference of any kind. It stands apart, so that the path of the many references that
-    /// find their block in the first slot of its set stays short.
+    /// Makes any reference. It is a function of its own, so that the path of the many references
+    /// that find their block in the first slot of its set stays short.
     #[inline(never)]
     fn access_further(&mut self, reference: Ref) -> Lookup
         ensures { (g : GeometryValue) (events : List Event) →
@@ -127,8 +127,8 @@ fn near_sets(alloc: Global, geometry: Geometry) -> Result<Cache<Lru>, AllocError
     Cache::new(alloc, geometry, policy, WriteMode::Back, AllocMode::Always)
 }
 
-/// Puts a block that has left the first ways of its set behind them, if there are more, and tells
-/// how the look-up of another block goes there.
+/// Puts `victim`, which has left the first ways of its set, in front of the set's deep list, if
+/// there is one. Returns how the look-up of `block` goes there.
 #[inline(always)]
 fn push_back(far: &mut Option<DeepSets>, set: usize, block: u64, victim: u64) -> Lookup
     requires within { IfSome far.old (λ d. set < length d.lists) }

@@ -34,8 +34,8 @@ impl Simulation {
 
     /// An empty cache of this geometry, with nothing counted. It takes all its memory here, and
     /// that alone can fail: 16 bytes for each line and 4 and a quarter for each set; with more than
-    /// 256 lines per set, this for 16 of them, and at most 21.6 bytes for each line more and 160
-    /// for each set.
+    /// 256 lines per set, this for 16 of them, and at most 21.6 bytes for each further line and 160
+    /// more for each set.
     pub fn new(alloc: Global, geometry: Geometry) -> Result<Simulation, AllocError>
         ensures { IfOk result (SimulationStandsFor geometry []) }
     {

@@ -145,8 +145,8 @@ impl System {
         }
     }
 
-    /// Makes a step of any kind. It stands apart, so that the path of the many references that find
-    /// their block in the first slot of its set stays short.
+    /// Makes any step. It is a function of its own, so that the path of the many references that
+    /// find their block in the first slot of its set stays short.
     #[inline(never)]
     fn step_seen<O: Observer>(&mut self, reference: Ref, observer: &mut O)
         requires steps { self.old.steps < MAX_STEPS }
@@ -304,8 +304,8 @@ fn first_level<O: Observer>(
     access_first(CacheName::L1D, d, reference, observer)
 }
 
-/// Makes a reference at a first-level cache, and returns true, if this finds the block in the first
-/// slot of its set and sends nothing down. If not, it does nothing.
+/// Makes a reference at a first-level cache if it finds its block in the first slot of its set and
+/// sends nothing down. Otherwise it does nothing. Returns whether it made the reference.
 #[inline(always)]
 fn access_first_in_front(cache: &mut Option<SystemCache>, reference: Ref) -> bool
     requires { accesses_of cache.old < 2 ^ 62 }

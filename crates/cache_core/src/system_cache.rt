@@ -48,8 +48,9 @@ impl SystemCache {
         Ok(SystemCache { cache, stats })
     }
 
-    /// One reference enters, and is counted by its kind, if it finds its block in the first slot of
-    /// its set and sends nothing down. For any other reference it does nothing.
+    /// Makes one reference, and counts it by its kind, if it finds its block in the first slot of
+    /// its set and sends nothing down. Otherwise it does nothing. Returns whether it made the
+    /// reference.
     #[inline(always)]
     pub(crate) fn access_in_front(&mut self, reference: Ref) -> bool
         requires { accesses self.old.stats < 2 ^ 62 }
@@ -67,7 +68,8 @@ impl SystemCache {
         }
     }
 
-    /// One reference enters, is counted by its kind, and is seen at the cache of this name.
+    /// Makes one reference, counts it by its kind, and shows it to the observer at the cache of
+    /// this name.
     #[inline(always)]
     pub(crate) fn access<O: Observer>(
         &mut self,

@@ -1,5 +1,5 @@
-//! The sets that got a block since the last flush, while they are few, so that a flush goes to them
-//! alone.
+//! The sets that got a block since the last flush, as long as they are few, so that a flush visits
+//! only these.
 ghost use Rattle.std.specs.Prelude.{◌≡◌, ◌<◌, ◌/◌, ◌^◌, [], length, Some, IfOk, option_map};
 ghost use Rattle.std.specs.Prelude.{replicate};
 ghost use Rattle.cache_core.specs.internal.Touched.{after_count, with_set, no_sets, Covers};
@@ -8,8 +8,8 @@ ghost use Rattle.cache_core.specs.internal.Touched.{ListsFilled};
 use std::alloc::{AllocError, Global};
 use std::marker::Model;
 
-/// The number of sets per entry of the list, which so takes a quarter of a byte for each set. If
-/// the list overflowed, a flush walks all sets: at most sixteen for each block that was placed.
+/// The list has one entry for this many sets, so it takes a quarter of a byte for each set. If it
+/// overflowed, a flush visits all sets: at most sixteen for each block that was placed.
 const SETS_PER_ENTRY: usize = 16;
 
 /// The sets that got a block since the last flush, each by its number, as long as there are entries
@@ -36,7 +36,7 @@ impl Model for TouchedSets {
     ghost invariant = { λ t. IfSome t.used (λ used. used ≤ length t.entries.items) };
 }
 
-/// Sets the counts of the listed sets to 0, which are all that are not 0.
+/// Sets the counts of the listed sets to 0; those of all other sets are 0 already.
 fn zero_listed(counts: &mut [u32], sets: &[u32])
     requires { ListsFilled sets.now counts.old }
     ensures { counts.new ≡ replicate (length counts.old) 0 }
@@ -72,8 +72,8 @@ impl TouchedSets {
         }
     }
 
-    /// Adds a set. It stands apart, so that the path of the many references that find their set
-    /// filled stays short.
+    /// Adds a set. It is a function of its own, so that the path of the many references that find
+    /// their set filled stays short.
     #[inline(never)]
     fn add(&mut self, set: u32)
         ensures { self.new
@@ -88,7 +88,7 @@ impl TouchedSets {
         };
     }
 
-    /// The sets that are listed, or `None` if there were more than entries.
+    /// The listed sets, or `None` if there were more sets than entries.
     pub fn listed(&self) -> Option<&[u32]>
         ensures { option_map (λ sets. sets.now) result ≡ self.now.sets }
     {

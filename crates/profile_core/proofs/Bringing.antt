@@ -17,7 +17,7 @@ use Rattle.profile_core.specs.internal.Lists.{IsBroughtInRow}
 use Rattle.profile_core.proofs.Shifting.{other_front, index_behind, index-le, length-remove}
 use Rattle.profile_core.proofs.Shifting.{remove_end}
 
--- what a pass tells of x: its distance, or that it is not there and which block is the last
+-- the result of a pass: the distance of x, or, if x is not there, the last block
 found_at : (b : Bool) (distance p last : ℕ) → Found distance ≡ cond b (Found p) (Out last) →
     (b ≡ true) × (distance ≡ p)
 found_at true distance p last e = (refl, cc)
@@ -48,8 +48,7 @@ put_last y h [] lt = absurd (omega arith)
 put_last y zero (x ∷ xs) lt = refl
 put_last y (suc h) (x ∷ xs) lt = ap (λ zs. y ∷ zs) (put_last x h xs (omega arith))
 
--- what is known of the places behind a front y, once its first h blocks were passed to bring x to
--- the front
+-- the places behind a front y, after its first h blocks were passed to bring x to the front
 pub record IsShifted (x y h : ℕ) (rest after : List ℕ) : Type 0 where
   pub within : h ≤ length rest
   pub after_is : after ≡ take (length (take h rest))

@@ -6,7 +6,7 @@ use Rattle.std.proofs.lemmas.Bool.{cases_eq}
 use Rattle.std.proofs.lemmas.Grind.{get_or-set_at}
 use Rattle.std.proofs.lemmas.List.{get_or-set_other}
 
--- what holds of the one that is set, and held of the others
+-- a fact that holds for the element that is set, and for the others, holds for all
 pub all_set : {A : Type 0} (P : ℕ → A → Type 0) (xs : List A) (k : ℕ) (y d : A) → k < length xs →
     P k y → ((i : ℕ) → (i ≡ k → ⊥) → P i (get_or xs i d)) → (i : ℕ) → P i (get_or (set xs k y) i d)
 all_set P xs k y d lt here others i = elim (cases_eq i k) [

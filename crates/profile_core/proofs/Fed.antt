@@ -84,8 +84,8 @@ module _ {g : GeometryValue} {was : Lists} {behind missed : List ℕ} {probes : 
             (at_most probes probes' m (n * g.e) g.e h.compared more le);
       }
 
--- what is known where block x is brought to the front of its set's list, and the numbers are as
--- they were
+-- the fields of a profile when block x was brought to the front of its set's list, and the counts
+-- are still the old ones
 pub record IsMoved (g : GeometryValue) (was now : Lists) (behind missed : List ℕ) (probes x k : ℕ)
     (v : ProfileState) : Type 0 where
   pub sound : IsSound g was behind missed probes

@@ -320,8 +320,7 @@ pub front_refined : (g h : GeometryValue) (es : List Event) (addr : ℕ) → IsG
     is_front_of (fold after_event (empty h) es) (block_of h addr) ≡ true
 front_refined g h es addr one other refined front = grind (arith, geometry_after, leads_after)
 
--- The same in the words of the definitions: a distance of 0 is one of 0 in a geometry that refines
--- it.
+-- A reference with distance 0 also has distance 0 in a geometry that refines this one.
 front_of_found : (x : ℕ) (xs : List ℕ) → is_in x xs ≡ true → index_of x xs ≡ 0 →
     is_front x xs ≡ true
 front_of_found x [] inside first = absurd (cc)

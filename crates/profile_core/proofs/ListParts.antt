@@ -86,7 +86,7 @@ gone_at true x y xs e other rest =
 gone_at false x y xs e other rest =
     ap (is_in x) (removed x y xs e) ∙ ap (λ b. b || is_in x (remove xs (index_of x xs))) e ∙ rest
 
--- what is taken out of different blocks is gone
+-- a block that is removed from different blocks is no longer among them
 pub gone : (x : ℕ) (xs : List ℕ) → IsOnce xs → is_in x (remove xs (index_of x xs)) ≡ false
 gone x [] once = refl
 gone x (y ∷ xs) once = gone_at (eqb y x) x y xs refl once.0 (gone x xs once.1)

@@ -90,7 +90,7 @@ pub index_behind : (x y : ℕ) (ys : List ℕ) → (y ≡ x → ⊥) → index_o
 index_behind x y ys ne = ap (λ b. cond (not b) (1 + index_of x ys) 0) (ne_eqb y x ne) ∙
     one-add (index_of x ys)
 
--- what is known once i blocks of xs were passed: none is x, and each went one index on, y first
+-- after i blocks of xs were passed: none of them is x, and each moved by one index, with y in front
 pub record IsPassed (x y i carried : ℕ) (xs now : List ℕ) : Type 0 where
   pub within : i ≤ length xs
   pub others : (k : ℕ) → k < i → eqb (get_or xs k 0) x ≡ false

@@ -37,7 +37,7 @@ pub raise_unless : (b : Bool) (ns : List ℕ) (i d : ℕ) → (b ≡ false → i
 raise_unless true ns i d h = omega arith
 raise_unless false ns i d h = raise_at ns i d (h refl)
 
--- what a reference finds, by the first n different blocks of its set
+-- whether and where a reference finds its block among the first n different blocks of its set
 pub record Finds (g : GeometryValue) (n : ℕ) (p : Occurrence) (xs : List ℕ) : Type 0 where
   pub last : has_last p ≡ ltb (distance g p) (blocks_seen g p)
   pub within : distance g p ≤ blocks_seen g p

@@ -17,9 +17,9 @@ use crate::recency::Touch;
 use crate::set_lists::SetLists;
 use cache_core::Geometry;
 
-/// Feeds a reference by its block, unless it finds that in front of its set's list. Returns whether
-/// it does. What has to be done for another stands apart, so that the path of the many references
-/// that find their block in front stays short.
+/// Feeds a reference by its block, unless the block is in front of its set's list. Returns whether
+/// it is. Most references find their block in front: the code for the others is a function of its
+/// own, so that the path of most stays short.
 #[inline(always)]
 pub fn feed_one(
     geometry: Geometry,
@@ -44,9 +44,9 @@ pub fn feed_one(
     false
 }
 
-/// Feeds references by their addresses, one after the other, but for those that find their block
-/// in front. Those that were fed come to the front of `addrs`, in their order. Returns how many
-/// they are. It is a function of its own for each way of keeping lists, so that the compiler has
+/// Feeds references by their addresses, one after the other, except those that find their block in
+/// front. The addresses that were fed are moved to the front of `addrs`, in order; returns how many
+/// they are. Each way of keeping lists has its own copy of this function, so that the compiler has
 /// all registers for it.
 #[inline(never)]
 pub fn feed_each<L: SetLists>(
@@ -77,10 +77,10 @@ pub fn feed_each<L: SetLists>(
     fed
 }
 
-/// Feeds references to two profiles whose lists are kept in the same way: to the second those that
-/// the first does not find in front. Those that neither does come to the front of `addrs`, in their
-/// order; returns how many they are. What a reference finds in one predicts what it finds in the
-/// next.
+/// Feeds references to two profiles whose lists are kept in the same way: to the second only those
+/// that do not find their block in front in the first. The addresses of those that find it in front
+/// in neither are moved to the front of `addrs`, in order; returns how many they are. One loop
+/// feeds both, since where a reference finds its block in one predicts where it does in the next.
 #[inline(never)]
 pub fn feed_each_to_two<L: SetLists>(
     geometry: &Geometry,
@@ -123,7 +123,7 @@ pub fn feed_each_to_two<L: SetLists>(
     left
 }
 
-/// Feeds one reference of a batch, unless it finds its block in front. Returns whether it does.
+/// Feeds one reference of a batch, unless it finds its block in front. Returns whether it does so.
 #[inline(always)]
 fn feed_in_batch<L: SetLists>(
     geometry: Geometry,
@@ -151,8 +151,9 @@ fn feed_in_batch<L: SetLists>(
     false
 }
 
-/// Feeds a reference to a block that is not the front of its set's list, or not in it at all,
-/// apart from its caller. No code reads the geometry: by a `&` the compiler leaves it out.
+/// Feeds a reference to a block that is behind the front of its set's list, or not in the list. It
+/// is never inlined. Only its contract uses the geometry: an argument by `&` that no code reads is
+/// left out by the compiler.
 #[inline(never)]
 fn feed_behind_apart(
     geometry: &Geometry,
@@ -172,7 +173,8 @@ fn feed_behind_apart(
     }
 }
 
-/// The same for the other ways: the caller has asked for rows in the order of the sets.
+/// Feeds a reference as `feed_behind_apart` does, which calls this for the other ways of keeping
+/// lists: it has already tried rows in the order of the sets.
 #[inline(never)]
 fn feed_otherwise(
     geometry: &Geometry,
@@ -193,8 +195,9 @@ fn feed_otherwise(
     }
 }
 
-/// The same for one way of keeping lists. More than a third of these references find their block
-/// second. What has to be done for another stands apart, so that the path of these stays short.
+/// Feeds a reference as `feed_behind_apart` does, to lists kept in one way. More than a third of
+/// these references find their block second: the code for the others is a function of its own, so
+/// that the path of these stays short.
 #[inline(always)]
 fn feed_by_parts<L: SetLists>(
     geometry: &Geometry,
@@ -214,7 +217,7 @@ fn feed_by_parts<L: SetLists>(
     }
 }
 
-/// Feeds a reference to a block that is not the front of its set's list, or not in it at all.
+/// Feeds a reference to a block that is behind the front of its set's list, or not in the list.
 #[inline(always)]
 fn feed_behind<L: SetLists>(
     geometry: Geometry,
@@ -253,7 +256,7 @@ fn feed_second<L: SetLists>(
     histograms.behind[1] += 1;
 }
 
-/// `feed_further`, apart from its caller.
+/// `feed_further`, never inlined.
 #[inline(never)]
 fn feed_further_apart<L: SetLists>(
     geometry: &Geometry,
@@ -270,8 +273,7 @@ fn feed_further_apart<L: SetLists>(
     feed_further(*geometry, lists, histograms, set, block);
 }
 
-/// Feeds a reference to a block that is neither the front nor the second of its set's list, or not
-/// in it at all.
+/// Feeds a reference to a block that is behind the second of its set's list, or not in the list.
 #[inline(always)]
 fn feed_further<L: SetLists>(
     geometry: Geometry,

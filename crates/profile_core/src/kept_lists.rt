@@ -1,4 +1,4 @@
-//! The ways of keeping lists that a profile has.
+//! The ways in which a profile can keep its lists.
 ghost use Rattle.std.specs.Prelude.{◌≡◌, ◌*◌, ◌^◌, ◌≤◌, ◌<◌, [], IfOk, replicate, length, sum_by};
 ghost use Rattle.std.specs.Prelude.{slice_index, slice_index_or, IsTrue, ◌↔◌};
 ghost use Rattle.profile_core.specs.internal.KeptLists.{lists_of};
@@ -13,27 +13,34 @@ use crate::sparse_rests::SparseRests;
 use crate::split_rows::SplitRows;
 use std::alloc::{AllocError, Global};
 
-/// With more sets than this, a start would clear more memory than most traces reach.
+/// With more sets than this, clearing all rows of blocks at the start would clear more memory than
+/// most traces use.
 const MANY_SETS: usize = 4096;
 
-/// With fewer ways than this, to find a row costs more than it saves.
+/// With fewer ways than this, looking up where a set's row is costs more than is saved by not
+/// clearing all rows at the start.
 const MANY_WAYS: usize = 32;
 
-/// With so many ways at least, and 16 at most, blocks stand in slots: with fewer it costs less to
-/// move them. The lanes of a vector have room for a list of 18, its first two blocks apart.
+/// From this many ways up to `SLOTTED_TO`, the blocks behind the second are kept in slots; with
+/// fewer ways it costs less to move them. The 16 lanes of a vector would be enough for 18 ways,
+/// since the first two blocks are kept elsewhere.
 const SLOTTED_FROM: usize = 12;
 
 const SLOTTED_TO: usize = 16;
 
-/// The lists of all sets, in one of these ways: each list in a row, and the rows in the order of
-/// the sets; or only its second block there, and the others in slots or in a rest that its set
-/// takes as it needs one; or, where lists may be long, the first blocks of each in a row, and the
-/// others in a deep list.
+/// The lists of all sets, kept in one of these ways. The fronts of all lists are in one array. The
+/// ways differ in how they keep the blocks behind the front.
 #[derive(Drop)]
 pub enum KeptLists {
+    /// A row of blocks for each set, in the order of the sets.
     InRows(RecencyLists<PlainRows>),
+    /// The second blocks in one array, and the others in slots, which a set takes when it needs
+    /// them.
     InSlots(RecencyLists<SplitRows<SlottedRests>>),
+    /// The second blocks in one array, and the others in a rest, which a set takes when it needs
+    /// one.
     InSparseRows(RecencyLists<SplitRows<SparseRests>>),
+    /// For long lists: the first blocks of each in a row of blocks, and the others in a deep list.
     Long(LongLists),
 }
 
@@ -53,9 +60,9 @@ impl KeptLists {
         Ok(KeptLists::InRows(RecencyLists::new(alloc, rows, sets)?))
     }
 
-    /// Empty lists as `new` makes them, but with 12 to 16 ways, and with many sets and many ways,
-    /// each set takes the memory behind its second block when it needs that: nothing is cleared
-    /// for those that a trace doesn't reach.
+    /// Empty lists as `new` makes them, except with 12 to 16 ways and few sets, or with many ways
+    /// and many sets. There a set takes memory for the blocks behind its second when it needs it,
+    /// and nothing is cleared for sets that a trace doesn't reach.
     pub fn sparse(alloc: Global, sets: usize, depth: usize) -> Result<KeptLists, AllocError>
         requires some { 1 ≤ depth }
         requires filled { 1 ≤ sets }
@@ -82,8 +89,8 @@ impl KeptLists {
         requires { set < length (lists_of self.now).lists }
         ensures { result ≡ is_front block (slice_index_or (lists_of self.now).lists set []) }
     {
-        // Only for block 0 has the program to ask in which way the lists are kept: the others are
-        // compared with the fronts alone, which stand at the same place in each.
+        // Only block 0 needs a look at the way in which the lists are kept. Any other block is
+        // compared with the fronts alone, which are at the same place in each way.
         self.front(set) == block && (block != 0 || self.has_block(set))
     }
 
@@ -130,7 +137,7 @@ impl KeptLists {
         }
     }
 
-    /// How many blocks stand in the lists. It goes over all sets.
+    /// How many blocks the lists have. It visits all sets.
     pub fn held(&self) -> u64
         ensures value { result ≡ sum_by length (lists_of self.now).lists }
         ensures at_most { result

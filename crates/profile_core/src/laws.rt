@@ -33,9 +33,9 @@ pub fn stands_after()
         → ProfileStandsFor es (fold after_event (empty g) es) }
 {}
 
-/// What finds its block in front of its set's list does so in each profile with more sets of the
-/// same block size too, and if there is but one set, in each with larger blocks: these profiles
-/// are fed the same events.
+/// If a reference finds its block in front of its set's list in one profile, it also does in each
+/// with more sets of the same block size, and, if the one has a single set, in each with larger
+/// blocks. All these profiles are fed the same events.
 /// Lemma: `Fronts.front_refined`.
 pub fn fronts_are_refined()
     ensures { (g h : GeometryValue) (es : List Event) (addr : ℕ) → IsGeometry g → IsGeometry h
@@ -44,8 +44,8 @@ pub fn fronts_are_refined()
         → is_front_of (fold after_event (empty h) es) (block_of h addr) ≡ true }
 {}
 
-/// The same in the words of the definitions: if a reference's distance is 0, it is so in each
-/// geometry that refines this one.
+/// A reference whose distance is 0 has the distance 0 in each geometry that refines this one, too:
+/// `fronts_are_refined` in the words of the definitions.
 /// Lemma: `Fronts.near_refined`.
 pub fn distance_0_is_refined()
     ensures { (g h : GeometryValue) (es : List Event) (r : Ref) → IsGeometry g → IsGeometry h
@@ -55,7 +55,7 @@ pub fn distance_0_is_refined()
         × (distance h (occurrence_after h es r) ≡ 0) }
 {}
 
-/// A list of events makes at most `g.e` times as many comparisons as it has references.
+/// A list of events counts at most `g.e` times as many comparisons as it has references.
 /// Lemma: `Counting.probes_at_most`.
 pub fn probes_bounded()
     ensures { (g : GeometryValue) (es : List Event)

@@ -1,5 +1,6 @@
-//! A recency list for each set, the most recent block first, for lists that may be long: the first
-//! blocks of each stand in a row, and those behind them in a list that is not walked.
+//! A recency list for each set, the most recent block first, for lists that may be long. The first
+//! blocks of each are in a row of blocks. Those behind them are in a deep list, which is not
+//! walked.
 ghost use Rattle.std.specs.Prelude.{◌≡◌, ◌*◌, ◌^◌, ◌<◌, ◌≤◌, [], false, length, replicate, sum_by};
 ghost use Rattle.std.specs.Prelude.{map, IfOk, slice_index_or};
 ghost use Rattle.deep_list.specs.Deep.{list_after_exchange};
@@ -14,15 +15,16 @@ use deep_list::DeepList;
 use std::alloc::{AllocError, Global};
 use std::marker::Model;
 
-/// The least depth at which lists are kept in this way: with fewer blocks a walk over all costs
-/// less.
+/// The least depth at which lists are kept in this way. With fewer blocks it costs less to walk
+/// over them all.
 pub const DEEP: usize = 256;
 
 /// How many blocks of a list stand in its row.
 const ROW: usize = 64;
 
-/// What a row tells of a block that comes to its front: where it stands in the list, or, if it is
-/// not in the row and that is full, how many blocks the row has, and which was its last.
+/// The result of bringing a block to the front of its row. `Settled`: the row alone tells where the
+/// block was in the list. `Full`: the block was not in the row, and the row was full; how many
+/// blocks the row has, and which block was its last.
 #[derive(Debug, Clone, Copy)]
 enum InRow {
     Settled(Touch),
@@ -119,7 +121,7 @@ fn clear_all(far: &mut [DeepList])
     }
 }
 
-/// How many blocks stand in lists.
+/// How many blocks these lists have.
 fn held_by(far: &[DeepList]) -> u64
     requires { sum_by (λ d. length d.blocks) far.now ≤ 2 ^ 22 }
     ensures { result ≡ sum_by (λ d. length d.blocks) far.now }
@@ -174,8 +176,9 @@ fn far_lists(alloc: Global, sets: usize, beyond: usize) -> Result<Vec<DeepList>,
     Ok(far)
 }
 
-/// Where a block stands in a list of which `held` blocks are in the row, and not this one: takes it
-/// out of the rest, and puts the last block of the row there.
+/// Takes a block out of the deep list behind a row, if it is there, and puts `last`, which was the
+/// last block of the row, in its front. Returns where the block was in the whole list, which has
+/// `held` blocks in the row.
 fn exchange(rest: &mut DeepList, held: usize, block: u64, last: u64) -> Touch
     requires other { is_in last rest.old.blocks ≡ false }
     requires few { held ≤ 2 ^ 22 }

@@ -9,7 +9,7 @@ use crate::rows::RowStore;
 use std::alloc::{AllocError, Global};
 use std::marker::Model;
 
-/// A row for each of so many sets, one behind the other in the order of the sets.
+/// A row of blocks for each set, in the order of the sets.
 #[derive(Drop)]
 pub struct PlainRows {
     stride: usize,

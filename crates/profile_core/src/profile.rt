@@ -25,7 +25,7 @@ use trace_core::MAX_LINES;
 /// overflows.
 pub const MAX_REFERENCES: u64 = 2 * MAX_LINES;
 
-/// The recency lists of all sets (LRU stacks, Mattson 1970), and what is counted of them.
+/// The recency lists of all sets (LRU stacks, Mattson 1970), and the numbers counted.
 #[derive(Drop)]
 pub struct Profile {
     geometry: Geometry,
@@ -57,11 +57,12 @@ impl Profile {
         Profile::with_lists(alloc, b, s, depth, lists)
     }
 
-    /// A profile as `new` makes it, to be fed batches: what a set needs for its third block and
-    /// those behind is cleared when it has three blocks. With a depth of 12 to 16 and up to 4,096
-    /// sets it takes 184 and a quarter bytes for each set in all; with a depth of 32 to 255 and
-    /// more sets 4 bytes more for each set than `new`, and a row. A sweep makes such profiles. Fed
-    /// one reference after the other, by itself, such a profile can take twice the time.
+    /// A profile as `new` makes it, to be fed in batches, as a sweep does. Memory for the third and
+    /// later blocks of a set is cleared only when the set gets its third block. With a depth of 12
+    /// to 16 and up to 4,096 sets it takes 184 and a quarter bytes in all for each set. With a
+    /// depth of 32 to 255 and more than 4,096 sets it takes 4 bytes more for each set than `new`,
+    /// and one row of blocks more. Fed one reference at a time, such a profile can take twice the
+    /// time.
     pub fn new_sparse(alloc: Global, b: u64, s: u64, depth: u64) -> Result<Profile, AllocError>
         requires { IsGeometry (geometry_value s depth b) }
         ensures { IfOk result (λ profile. profile ≡ empty (geometry_value s depth b)) }
@@ -118,9 +119,9 @@ impl Profile {
         }
     }
 
-    /// Feeds one reference by its address, unless it finds its block in front: such a reference
-    /// changes nothing but two numbers, and is left to be counted by `count_fronts`. Returns
-    /// whether it does.
+    /// Feeds one reference by its address, unless it finds its block in front. Returns whether it
+    /// does so. A reference that does would only change two numbers; `count_fronts` counts it
+    /// later.
     #[inline(always)]
     pub fn feed_unless_front(&mut self, addr: u64) -> bool
         requires few { fed_of self.old < MAX_REFERENCES }
@@ -131,11 +132,11 @@ impl Profile {
         self.feed_block_unless_front(block)
     }
 
-    /// Feeds references by their addresses, one after the other, but for those that find their
-    /// block in front, which are left to be counted by `count_fronts`. Those that were fed come to
-    /// the front of `addrs`, in their order. Returns how many they are. Where several profiles are
-    /// fed, a batch of some hundred references usually costs less than the same references by
-    /// themselves: the processor finds one profile's lists in its caches.
+    /// Feeds references by their addresses, one after the other, except those that find their block
+    /// in front, which `count_fronts` counts later. The addresses that were fed are moved to the
+    /// front of `addrs`, in order; returns how many they are. If several profiles are fed, a batch
+    /// of some hundred references usually costs less than the same references one at a time: the
+    /// lists of one profile then stay in the processor's caches.
     pub fn feed_batch(&mut self, addrs: &mut [u64]) -> usize
         requires { fed_of self.old + length addrs.old ≤ MAX_REFERENCES }
         ensures step { self.new ≡ after_batch self.old addrs.old }
@@ -152,10 +153,11 @@ impl Profile {
         }
     }
 
-    /// Feeds references to this profile, and to `next` those that it does not find in front. Those
-    /// that neither does come to the front of `addrs`, in their order; returns how many they are.
-    /// Where both keep their lists in the same way, it costs less than one after the other: what a
-    /// reference finds in a profile predicts what it finds in the next.
+    /// Feeds references to this profile as `feed_batch` does, and to `next` only those that do not
+    /// find their block in front in this one. The addresses of those that find it in front in
+    /// neither are moved to the front of `addrs`, in order; returns how many they are. If both keep
+    /// their lists in the same way, this costs less than feeding one after the other: where a
+    /// reference finds its block in one predicts where it does in the next.
     pub fn feed_batch_with(&mut self, next: &mut Profile, addrs: &mut [u64]) -> usize
         requires few { fed_of self.old + length addrs.old ≤ MAX_REFERENCES }
         requires next_few { fed_of next.old + length addrs.old ≤ MAX_REFERENCES }
@@ -211,7 +213,7 @@ impl Profile {
         }
     }
 
-    /// Feeds one reference by its block, unless it finds it in front.
+    /// Feeds one reference by its block, unless the block is in front. Returns whether it is.
     #[inline(always)]
     fn feed_block_unless_front(&mut self, block: u64) -> bool
         requires few { fed_of self.old < MAX_REFERENCES }
@@ -222,8 +224,7 @@ impl Profile {
         feed_one(self.geometry, lists, histograms, block)
     }
 
-    /// Counts so many references that find their block in front, each with the comparison that
-    /// finds it.
+    /// Counts this many references that find their block in front, and one comparison for each.
     #[inline(always)]
     pub fn count_fronts(&mut self, count: u64)
         requires { fed_of self.old + count ≤ MAX_REFERENCES }
@@ -232,9 +233,9 @@ impl Profile {
         self.histograms.probes += count;
     }
 
-    /// Whether a block that is in front here is in front there too, wherever both were fed the
-    /// same: `finer` has the same block size and no fewer sets, or here is but one set and
-    /// `finer`'s blocks are no smaller.
+    /// Whether a block that is in front in this profile is always in front in `finer` too, if both
+    /// are fed the same. It is so if `finer` has the same block size and at least as many sets, or
+    /// if this profile has one set and `finer`'s blocks are at least as large.
     pub fn is_refined_by(&self, finer: &Profile) -> bool
         ensures { result ≡ is_refined self.now.geometry finer.now.geometry }
     {
@@ -250,8 +251,8 @@ impl Profile {
         self.lists.clear();
     }
 
-    /// How many references were fed. It goes over the histograms, `3 * depth` numbers: not for each
-    /// reference.
+    /// How many references were fed. It goes over the histograms, `3 * depth` numbers, so it should
+    /// not be called for each reference.
     pub fn fed(&self) -> u64
         ensures value { result ≡ fed_of self.now }
         ensures trace { (es : List Event) → ProfileStandsFor es self.now
@@ -260,8 +261,8 @@ impl Profile {
         self.hits() + total(&self.histograms.misses_by_occupancy)
     }
 
-    /// How many references found their block: the comparisons less `d` for each found at distance
-    /// `d`, less `n` for each missed among `n` blocks.
+    /// How many references found their block: the comparisons, less `d` for each reference found at
+    /// distance `d`, less `n` for each that missed in a list of `n` blocks.
     fn hits(&self) -> u64
         ensures { result ≡ sum self.now.distances }
     {
@@ -283,11 +284,12 @@ impl Profile {
         }
     }
 
-    /// How many comparisons of a block with an entry of its set's list are counted: those of a walk
-    /// over the list up to the block, or over all of it if the block isn't there. That is the cost
-    /// of the stack algorithm, by which spaces are compared. Fewer may be made, never more: for a
-    /// reference that `count_fronts` counts one is counted and none made, and with 12 to 16 ways
-    /// and up to 4,096 sets, or 256 ways and more, most blocks are found without a walk.
+    /// The number of comparisons counted. Each reference counts the comparisons of its block with
+    /// the entries of its set's list in a walk up to the block, or over the whole list if the block
+    /// isn't there. This is the cost of the stack algorithm, by which spaces can be compared. The
+    /// profile makes as many comparisons or fewer: for a reference that `count_fronts` counts, one
+    /// is counted and none is made; and with 12 to 16 ways and up to 4,096 sets, or with 256 ways
+    /// or more, most blocks are found without a walk.
     pub fn probes(&self) -> u64
         ensures value { result ≡ self.now.probes }
         ensures trace { (es : List Event) → ProfileStandsFor es self.now
@@ -308,8 +310,8 @@ impl Profile {
     }
 
     /// The counts of an LRU cache of `e` lines per set, over all references fed. It goes over both
-    /// histograms up to four times: a caller that wants many associativities of one profile asks
-    /// for rising ones by `counts_next`.
+    /// histograms up to four times. For many associativities of one profile, `counts_next` takes
+    /// less time.
     pub fn counts(&self, e: u64) -> Counts
         requires some { 1 ≤ e }
         requires within { e ≤ self.now.geometry.e }
@@ -333,10 +335,11 @@ impl Profile {
         }
     }
 
-    /// What `counts` returns, by sums that `begin_sums` of this profile began. They are brought up
-    /// to `e` lines per set, so `e` may only rise from call to call, and nothing may be fed in
-    /// between. A call adds up what the histograms have between the two associativities: all calls
-    /// for the same sums, with `begin_sums`, cost about `5 * depth` additions.
+    /// Returns the same as `counts`, from sums that `begin_sums` of this profile began. The sums
+    /// are raised to `e` lines per set, so `e` may only rise from call to call, and nothing may be
+    /// fed in between. A call adds only the numbers of the histograms between the two
+    /// associativities. All calls for the same sums, with `begin_sums`, cost about `5 * depth`
+    /// additions.
     pub fn counts_next(&self, sums: &mut HitSums, e: u64) -> Counts
         requires some { 1 ≤ e }
         requires within { e ≤ self.now.geometry.e }

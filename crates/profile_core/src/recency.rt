@@ -1,5 +1,5 @@
-//! A recency list for each set, the most recent block first: all fronts in one array, the other
-//! blocks in rows.
+//! A recency list for each set, the most recent block first: the fronts of all lists in one array,
+//! the other blocks in rows of blocks, one for each set.
 
 ghost use Rattle.std.specs.Prelude.{◌≡◌, ◌*◌, ◌^◌, ◌<◌, ◌≤◌, [], length, slice_index, MatchOption};
 ghost use Rattle.std.specs.Prelude.{◌-◌, replicate, IfOk, slice_index_or, ◌+◌};
@@ -15,19 +15,19 @@ use std::alloc::{AllocError, Global};
 use std::marker::Model;
 use std::mem;
 
-/// Where a reference finds its block, if that is not the front of its set's list: behind the front,
-/// at a stack distance (its index in the list, so 1 is the second); or nowhere in a list of so many
-/// blocks.
+/// Where a reference finds a block that is not the front of its set's list. `Behind`: at this stack
+/// distance, the block's index in the list, so 1 is the second block. `New`: nowhere in the list,
+/// which has this many blocks.
 #[derive(Debug, Clone, Copy)]
 pub enum Touch {
     Behind(usize),
     New(usize),
 }
 
-/// The lists of all sets. A list of `len` blocks is its front and the first `len - 1` of its set's
-/// row, which is written from the second block on: until then a set costs no row. The front of an
-/// empty list is 0. `touched` lists the sets that have a block, while they are few, so that a flush
-/// goes to these alone.
+/// The lists of all sets. A list of `len` blocks is its front and the first `len - 1` blocks of its
+/// set's row. The row is first written when the list gets a second block. The front of an empty
+/// list is 0. `touched` lists the sets that have a block, as long as they are few, so that a flush
+/// visits only these.
 #[derive(Drop)]
 pub struct RecencyLists<R: RowStore> {
     fronts: Vec<u64>,
@@ -81,7 +81,7 @@ impl<R: RowStore> RecencyLists<R> {
         self.touched.add_grown(set, 0, 1);
     }
 
-    /// The last block of a set's list, if that is as long as it may be.
+    /// The last block of a set's list, if the list is full.
     #[inline(always)]
     pub fn last_of_full(&self, set: usize) -> Option<u64>
         requires within { set < length self.now.lists }
@@ -147,8 +147,8 @@ impl<R: RowStore> SetLists for RecencyLists<R> {
     }
 }
 
-/// Sets all fronts and lengths to 0. Where the sets that have a block are listed, it goes to them
-/// alone.
+/// Sets all fronts and lengths to 0. If the sets that have a block are listed, it visits only
+/// these.
 fn blank(fronts: &mut [u64], lens: &mut [u32], touched: &TouchedSets)
     requires fronts { Covers touched.now fronts.old }
     requires lens { Covers touched.now lens.old }
@@ -164,7 +164,7 @@ fn blank(fronts: &mut [u64], lens: &mut [u32], touched: &TouchedSets)
     }
 }
 
-/// Sets the fronts and lengths of the listed sets to 0, which are all that are not 0.
+/// Sets the fronts and lengths of the listed sets to 0; those of all other sets are 0 already.
 fn blank_listed(fronts: &mut [u64], lens: &mut [u32], sets: &[u32])
     requires fronts { ListsFilled sets.now fronts.old }
     requires lens { ListsFilled sets.now lens.old }

@@ -1,4 +1,5 @@
-//! What a set's row has behind its first number, in whatever way it is stored.
+//! The rest of each set's row of blocks, which is all but its first number, in whatever way it is
+//! stored.
 ghost use Rattle.std.specs.Prelude.{◌≡◌, ◌+◌, ◌-◌, ◌<◌, ◌≤◌, ◌∷◌, false, nat_eq, length, take};
 ghost use Rattle.std.specs.Prelude.{slice_index};
 ghost use Rattle.std.specs.List.{remove};
@@ -7,10 +8,10 @@ ghost use Rattle.profile_core.specs.internal.Rows.{RowsValue, row_for, with_row}
 
 use crate::recency::Touch;
 
-/// The rests of rows, `stride` numbers each, one for each set. A set's list begins with two blocks
-/// that stand elsewhere; what is behind them its rest begins with.
+/// A rest for each set, of `stride` numbers. The first two blocks of a set's list are stored
+/// elsewhere; the others are the first numbers of the set's rest.
 pub trait RestStore: Drop {
-    /// What contracts see of it: the rests, as rows.
+    /// The rests that it stands for, as rows.
     ghost view: { Self → RowsValue };
 
     /// How many numbers a rest has.
@@ -24,8 +25,8 @@ pub trait RestStore: Drop {
         ensures { result ≡ slice_index (row_for (view self.now) set) ((view self.now).stride - 1) };
 
     /// Takes a block out of a set's list of `len` blocks, if it is there, and puts `second` in
-    /// front of the rest. The block is neither the first nor the second of the list. The list may
-    /// grow by one, if the rest is longer. No other rest changes.
+    /// front of the rest. The block is neither the first nor the second of the list. The list grows
+    /// by one if the block is new and the rest has room. No other rest changes.
     fn bring(&mut self, set: usize, second: u64, len: &mut u32, block: u64) -> Touch
         requires within { set < length (view self.old).rows }
         requires some { 0 < (view self.old).stride }

@@ -1,4 +1,4 @@
-//! A list in its row, or in the rest of it: how its blocks are shifted.
+//! How the blocks of a list are shifted, in its row of blocks or in the rest of that.
 
 ghost use Rattle.std.specs.Prelude.{◌≡◌, ◌+◌, ◌-◌, ◌^◌, ◌<◌, ◌≤◌, ◌∷◌, false, nat_eq, length, take};
 ghost use Rattle.std.specs.List.{remove};
@@ -9,16 +9,17 @@ ghost use Rattle.profile_core.specs.internal.Lists.{IsRow, IsBroughtInRow};
 use crate::recency::Touch;
 use std::mem;
 
-/// How far a list is shifted: up to a block that stood at a stack distance, or to the end, if
-/// the last block falls out (its caller keeps it if the list may still grow).
+/// How far a list was shifted. `Found`: up to the block that was looked for, at this stack
+/// distance. `Out`: to the end, and this block fell out, which was the last. The caller keeps it if
+/// the list has room.
 #[derive(Debug, Clone, Copy)]
 enum Shifted {
     Found(usize),
     Out(u64),
 }
 
-/// Brings a block that is neither the front nor the second of a row's list to the front of it. The
-/// list may grow by it, if its row is longer.
+/// Brings a block that is neither the front nor the second of a list to the front. The list grows
+/// by one if the block is new and the row has room.
 #[inline(always)]
 pub fn bring_in_row(front: &mut u64, rest: &mut [u64], len: &mut u32, block: u64) -> Touch
     requires some { 0 < len.old }
@@ -43,9 +44,9 @@ pub fn bring_in_row(front: &mut u64, rest: &mut [u64], len: &mut u32, block: u64
     }
 }
 
-/// Brings a block to the front of a list whose first two blocks stand elsewhere, and which it is
-/// neither of: `rest` begins with the others. `second` goes in front of these. The list may grow by
-/// one, if the rest is longer.
+/// Takes a block out of a list whose first two blocks are stored elsewhere, of which it is neither,
+/// and puts `second` in front of the others, with which `rest` begins. The list grows by one if the
+/// block is new and the rest has room.
 #[inline(always)]
 pub fn bring_behind(rest: &mut [u64], second: u64, len: &mut u32, block: u64) -> Touch
     requires some { 0 < length rest.old }
@@ -78,8 +79,8 @@ pub fn bring_behind(rest: &mut [u64], second: u64, len: &mut u32, block: u64) ->
     }
 }
 
-/// `first` and then `list` were the list of a set. Shifts it by one index into `list`, up to the
-/// index of `block`, or to the end. `block` is neither its first nor its second.
+/// `first`, followed by `list`, is the list of a set, of which `block` is neither the first nor the
+/// second. Shifts it by one index into `list`, up to the index of `block`, or to the end.
 #[inline(always)]
 fn shift_past(list: &mut [u64], first: u64, block: u64) -> Shifted
     requires behind { is_front block (first ∷ list.old) ≡ false }
@@ -118,8 +119,8 @@ fn shift_past(list: &mut [u64], first: u64, block: u64) -> Shifted
     }
 }
 
-/// Puts the carried block in an entry and carries on the one that stood there. Whether that one is
-/// `block`.
+/// Puts the carried block into an entry, and carries the one that was there from now on. Returns
+/// whether that is `block`.
 #[inline(always)]
 fn pass(entry: &mut u64, carried: &mut u64, block: u64) -> bool
     ensures put { entry.new ≡ carried.old }

@@ -1,4 +1,4 @@
-//! A row of numbers for each set, in whatever way the rows are stored.
+//! A row of blocks for each set, in whatever way the rows are stored.
 ghost use Rattle.std.specs.Prelude.{◌≡◌, ◌-◌, ◌<◌, false, length, slice_index, slice_set};
 ghost use Rattle.profile_core.specs.internal.Moves.{is_front, is_second, touch_of};
 ghost use Rattle.profile_core.specs.internal.Lists.{IsRow, IsBroughtInRow};
@@ -8,7 +8,7 @@ use crate::recency::Touch;
 
 /// Rows of `stride` numbers, one for each set.
 pub trait RowStore: Drop {
-    /// What contracts see of it: the rows.
+    /// The rows that it stands for.
     ghost view: { Self → RowsValue };
 
     /// How many numbers a row has.
@@ -34,9 +34,9 @@ pub trait RowStore: Drop {
         ensures { view self.new ≡ with_row (view self.old) set
             (slice_set (row_for (view self.old) set) 0 number) };
 
-    /// Brings a block that is neither the front nor the second of a set's list to the front of it.
-    /// The list is `front` and what its set's row begins with, `len` blocks in all. It may grow by
-    /// one, if the row is longer. No other row changes.
+    /// Brings a block that is neither the front nor the second of a set's list to the front. The
+    /// list has `len` blocks: `front`, and the first `len - 1` of its set's row. It grows by one if
+    /// the block is new and the row has room. No other row changes.
     fn bring(&mut self, set: usize, front: &mut u64, len: &mut u32, block: u64) -> Touch
         requires within { set < length (view self.old).rows }
         requires some { 0 < len.old }

@@ -1,4 +1,4 @@
-//! What a profile needs of its lists, in whatever way they are kept.
+//! The calls that a profile makes on its lists, in whatever way they are kept.
 ghost use Rattle.std.specs.Prelude.{◌≡◌, ◌*◌, ◌<◌, ◌≤◌, [], true, false, length, replicate, sum_by};
 ghost use Rattle.std.specs.Prelude.{slice_index, slice_index_or, IsTrue, ◌↔◌};
 ghost use Rattle.profile_core.specs.internal.Moves.{is_front, is_second, touch_of};
@@ -12,18 +12,18 @@ pub trait SetLists: Drop {
     ghost view: { Self → Lists };
 
     /// The front of a set's list, or 0 if the list is empty. So it tells whether a block is the
-    /// front, but for block 0.
+    /// front, except for block 0.
     fn front(&self, set: usize) -> u64
         requires { set < length (view self.now).lists }
         ensures { result ≡ slice_index (slice_index_or (view self.now).lists set []) 0 };
 
-    /// Whether a set's list has a block: what has to be known of block 0.
+    /// Whether a set's list has a block. Only block 0 needs this.
     fn has_block(&self, set: usize) -> bool
         requires { set < length (view self.now).lists }
         ensures { IsTrue result ↔ (0 < length (slice_index_or (view self.now).lists set [])) };
 
-    /// Whether a block is the front of a set's list. Only for block 0 does it ask whether there is
-    /// one.
+    /// Whether a block is the front of a set's list. Only for block 0 it also looks whether the
+    /// list has a block.
     #[inline(always)]
     fn is_front(&self, set: usize, block: u64) -> bool
         requires { set < length (view self.now).lists }
@@ -58,7 +58,7 @@ pub trait SetLists: Drop {
         ensures { view self.new
             ≡ record (view self.old) { lists = replicate (length (view self.old).lists) [] } };
 
-    /// How many blocks stand in the lists. It goes over all sets.
+    /// How many blocks the lists have. It visits all sets.
     fn held(&self) -> u64
         ensures value { result ≡ sum_by length (view self.now).lists }
         ensures at_most { result ≤ length (view self.now).lists * (view self.now).depth };

@@ -1,4 +1,4 @@
-//! Rests in slots: no number is moved, what changes is the order of the slots.
+//! Rests in slots. No number is moved: only the order of the slots changes.
 
 ghost use Rattle.std.specs.Prelude.{◌≡◌, ◌+◌, ◌-◌, ◌^◌, ◌<◌, ◌≤◌, [], ◌∷◌, ◌++◌, length, take, map};
 ghost use Rattle.std.specs.Prelude.{slice_index, slice_index_or, ◌==◌, IfOk, vec_len, vec_capacity};
@@ -23,8 +23,9 @@ pub const SLOTS: usize = 16;
 /// hashing, by the golden ratio).
 const FACTOR: u64 = 0x9e37_79b9_7f4a_7c15;
 
-/// The numbers of a rest: an order of the slots that they stand in, and at each place of it a mark,
-/// a byte that tells most numbers apart. Each slot has a number.
+/// The numbers of a rest. Each slot has one of `numbers`. `order` has the slots in the order of the
+/// rest. `marks` has, at each place of that order, the mark of the number there: a byte by which
+/// most numbers differ.
 #[derive(Clone, Copy, Debug)]
 struct Slots {
     marks: [u8; SLOTS],
@@ -39,10 +40,10 @@ const BLANK: Slots = Slots {
     numbers: [0; SLOTS],
 };
 
-/// A rest for each set, of 1 to 16 numbers. `rests` begins with slots that stay blank, and stand
-/// for all that were never written; those of a set are added behind them when they are first
-/// written. `places` has for each set which of them it has, 0 if none of its own. All memory is
-/// taken by `new`, but what a set never writes is not cleared.
+/// A rest for each set, of 1 to 16 numbers. The first of `rests` stays blank, and stands for all
+/// that were never written. Slots of a set's own are appended when they are first written. `places`
+/// has the index of each set's slots in `rests`, 0 if it has none of its own. `new` takes all
+/// memory, but only memory of slots that are appended is written.
 #[derive(Drop)]
 pub struct SlottedRests {
     stride: usize,
@@ -104,7 +105,7 @@ impl RestStore for SlottedRests {
     }
 }
 
-/// Which slots a set has, once it has some of its own, which may be written.
+/// The index of a set's own slots, which may be written. A set without any gets some.
 #[inline(always)]
 fn own_rest(places: &mut [u32], rests: &mut Vec<Slots>, set: usize) -> usize
     requires within { set < length places.old }
@@ -121,7 +122,7 @@ fn own_rest(places: &mut [u32], rests: &mut Vec<Slots>, set: usize) -> usize
     places[set] as usize
 }
 
-/// Adds slots, which are blank as the first are. Returns which they are.
+/// Appends blank slots. Returns their index.
 #[cold]
 #[inline(never)]
 fn take_slots(rests: &mut Vec<Slots>) -> u32
@@ -150,9 +151,8 @@ fn number_at(slots: &Slots, place: usize) -> u64
     slots.numbers[slots.order[place] as usize]
 }
 
-/// Brings a block to the front of a list, of which `len - 2` blocks are in slots, and this one is
-/// not among the two in front of these. `second` becomes the first in slots. At most `most` stand
-/// there.
+/// Takes a block out of a list of `len` blocks, of which it is neither of the first two. Those
+/// behind the two are in slots, where `second` becomes the first of at most `most`.
 #[inline(always)]
 fn bring_in_slots(slots: &mut Slots, most: usize, second: u64, len: &mut u32, block: u64) -> Touch
     requires sound { IsOrder slots.old.marks slots.old.order slots.old.numbers }
@@ -183,8 +183,8 @@ fn bring_in_slots(slots: &mut Slots, most: usize, second: u64, len: &mut u32, bl
     }
 }
 
-/// Where a block stands among the first numbers, or that it is not there. Of these numbers those
-/// are compared that have its mark, of which there is seldom more than one.
+/// Where a block is among the first `held` numbers, or that it is not there. It is compared only
+/// with the numbers that have its mark; usually there is at most one.
 #[inline(always)]
 fn find(slots: &Slots, held: usize, block: u64) -> Touch
     requires sound { IsOrder slots.now.marks slots.now.order slots.now.numbers }
@@ -208,7 +208,7 @@ fn find(slots: &Slots, held: usize, block: u64) -> Touch
     Touch::New(held)
 }
 
-/// Puts a number in front, in the slot of a place, whose number is gone.
+/// Replaces the number at a place, and brings its slot to the front.
 #[inline(always)]
 fn put(slots: &mut Slots, place: usize, number: u64)
     requires sound { IsOrder slots.old.marks slots.old.order slots.old.numbers }
@@ -223,10 +223,11 @@ fn put(slots: &mut Slots, place: usize, number: u64)
     turn_with(&mut slots.order, place, slot);
 }
 
-/// A byte that tells most numbers apart. Two bytes of the product are mixed: by one alone, sixteen
-/// numbers at a stride of 4,181 have few marks. Sixteen numbers at a stride below 2^20 were tried,
-/// from four beginnings each. At 4,181 all their marks differ, at powers of two 14 or more do, and
-/// at one stride in 200 fewer than 10. At a few all are alike, of which the least is 42,181.
+/// A byte by which most numbers differ. Two bytes of the product are mixed: with one alone, sixteen
+/// numbers at a stride of 4,181 have few different marks. For each stride below 2^20, sixteen
+/// numbers were tried, from four first numbers each. At 4,181 all sixteen marks differ, at powers
+/// of two 14 or more, and at one stride in 200 fewer than 10. At a few strides all marks are the
+/// same; the least of these is 42,181.
 #[inline(always)]
 fn mark_of(number: u64) -> u8
     ensures { result ≡ mark_of number }
@@ -235,7 +236,7 @@ fn mark_of(number: u64) -> u8
     (product >> 56) as u8 ^ (product >> 32 & 0xff) as u8
 }
 
-/// For each place the lanes of a vector once the lane of that place has come to the front.
+/// For each place: the order of a vector's lanes after the lane of that place came to the front.
 static TURNS: [[u8; SLOTS]; SLOTS] = [
     [0, 1, 2, 3, 4, 5, 6, 7, 8, 9, 10, 11, 12, 13, 14, 15],
     [1, 0, 2, 3, 4, 5, 6, 7, 8, 9, 10, 11, 12, 13, 14, 15],
@@ -258,7 +259,7 @@ static TURNS: [[u8; SLOTS]; SLOTS] = [
 /// A lane of 255, and fifteen of 0.
 static FIRST_LANE: [u8; SLOTS] = [255, 0, 0, 0, 0, 0, 0, 0, 0, 0, 0, 0, 0, 0, 0, 0];
 
-/// Puts a new lane in front of sixteen, and those before a place one place further, so that the one
+/// Puts a new lane in front of sixteen. The lanes before a place move one place back, and the lane
 /// of that place is gone.
 #[inline(always)]
 fn turn_with(lanes: &mut [u8; SLOTS], place: usize, first: u8)
@@ -267,14 +268,14 @@ fn turn_with(lanes: &mut [u8; SLOTS], place: usize, first: u8)
     ensures { lanes.new ≡ first ∷ remove lanes.old place }
 {
     let turned = u8x16::from_array(*lanes).swizzle_dyn(u8x16::from_array(TURNS[place]));
-    // All are stored at once: whoever loads a vector waits for stores of its parts.
+    // All lanes are stored at once, since a load of a vector waits for stores of its parts.
     u8x16::from_array(FIRST_LANE)
         .simd_eq(u8x16::splat(255))
         .select(u8x16::splat(first), turned)
         .copy_to_slice(&mut lanes[..]);
 }
 
-/// A bit for each lane that is a mark, the lowest for the first.
+/// A bit for each lane, the lowest for the first: 1 if the lane is this mark.
 #[inline(always)]
 fn lanes_with(marks: &[u8; SLOTS], mark: u8) -> u64
     requires { length marks.now ≡ 16 }

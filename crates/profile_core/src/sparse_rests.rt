@@ -1,5 +1,5 @@
-//! Rests that sets take as they need them: most sets of a large cache never do, and to clear theirs
-//! would take longer than many a trace.
+//! Rests that sets take when they need them. Most sets of a large cache never do, and clearing
+//! their rests would take longer than many traces.
 
 ghost use Rattle.std.specs.Prelude.{◌≡◌, ◌+◌, ◌*◌, ◌/◌, ◌^◌, ◌<◌, ◌≤◌, ◌++◌, length, take, ℕ, IfOk};
 ghost use Rattle.std.specs.Prelude.{slice_index, vec_len, vec_capacity};
@@ -12,10 +12,10 @@ use crate::row::bring_behind;
 use std::alloc::{AllocError, Global};
 use std::marker::Model;
 
-/// A rest for each set. `numbers` begins with a rest that stays blank, and stands for all that were
-/// never written; that of a set is added behind when it is first written. `places` has for each set
-/// which of them it has, 0 if none of its own. All memory is taken by `new`, but what a set never
-/// writes is not cleared.
+/// A rest for each set. `numbers` has one rest after the other. The first stays blank, and stands
+/// for all that were never written. A rest of a set's own is appended when it is first written.
+/// `places` has the index of each set's rest, 0 if it has none of its own. `new` takes all memory,
+/// but only memory of rests that are appended is written.
 #[derive(Drop)]
 pub struct SparseRests {
     stride: usize,
@@ -78,7 +78,7 @@ impl RestStore for SparseRests {
     }
 }
 
-/// Which rest a set has, once it has one of its own, which may be written.
+/// The index of a set's own rest, which may be written. A set without one gets one.
 #[inline(always)]
 fn own_rest(stride: usize, places: &mut [u32], numbers: &mut Vec<u64>, set: usize) -> usize
     requires within { set < length places.old }
@@ -95,7 +95,7 @@ fn own_rest(stride: usize, places: &mut [u32], numbers: &mut Vec<u64>, set: usiz
     places[set] as usize
 }
 
-/// Adds a rest of `stride` numbers, blank as the first is. Returns which it is.
+/// Appends a blank rest of `stride` numbers. Returns its index.
 #[cold]
 #[inline(never)]
 fn take_rest(numbers: &mut Vec<u64>, stride: usize) -> u32

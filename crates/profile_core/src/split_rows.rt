@@ -1,5 +1,5 @@
-//! Rows whose first numbers stand in an array of their own, so that the second block of a list is
-//! found without a look at the rest of its row.
+//! Rows of blocks whose first numbers are in an array of their own, so that the second block of a
+//! list is found without a look at the rest of its row.
 
 ghost use Rattle.std.specs.Prelude.{◌≡◌, ◌+◌, ◌^◌, ◌≤◌, IfOk};
 ghost use Rattle.profile_core.specs.internal.Rows.{blank_rows};

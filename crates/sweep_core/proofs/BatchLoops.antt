@@ -176,7 +176,7 @@ module _ {at count led_count end : ℕ} {batch addrs led : List ℕ} {old now : 
       same_length = length_is;
     }
 
--- What a profile at the index is given serves for those up to `until`.
+-- The references given to the profile at the index are also enough for the profiles up to `until`.
 pub given_serves : {at count led_count end implied given until : ℕ} {batch addrs led led' : List ℕ}
     {old now : List PairProfile} → IsFedUpTo at count led_count end batch addrs led old now →
     IsGiven at implied led_count end (take count addrs) led led' given until →

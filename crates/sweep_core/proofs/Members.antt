@@ -56,8 +56,8 @@ same-head c d cs ds p q (inr m) (inl e) = sym e
 same-head c d cs ds p q (inr m) (inr n) =
     absurd (no-loop c d (Each-member _ d cs p.0 n) (Each-member _ c ds q.0 m))
 
--- what stands behind the first member of a rising list stands behind it in another that has the
--- same first member
+-- a configuration behind the first one of a rising list is also behind it in another list with the
+-- same first one
 behind : (c d x : Config) (cs ds : List Config) → d ≡ c → IsRising (c ∷ cs) → Member x cs →
     Member x (d ∷ ds) → Member x ds
 behind c d x cs ds same p m (inr n) = n

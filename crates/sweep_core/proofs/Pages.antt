@@ -36,7 +36,7 @@ filter-again p q r both (g ∷ gs) =
           filter-again p q r both gs ∙ ap (filter r) (sym (cond-false _ _ _ fails))
     ]
 
--- what is greater than a member of a rising list is what follows it
+-- in a rising list the configurations greater than one are those that follow it
 rest-of : (c : Config) (xs ys : List Config) → IsRising (xs ++ c ∷ ys) →
     filter (is_less c) (xs ++ c ∷ ys) ≡ ys
 rest-of c [] ys r = cond-false _ _ _ (is_less-same c) ∙ filter-all (is_less c) ys r.0

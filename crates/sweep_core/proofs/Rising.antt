@@ -91,7 +91,7 @@ all_configs-rise range =
     Rising-flat_map (λ b c. c.bsize ≡ b) (of_bsize range) (bsize_rises range) (bsize_known range)
     (λ x y c d lt kc kd. is_less-from c d (inl (omega arith))) powers_of_two (Grows-powers 0 21)
 
--- what stands in the list of all
+-- the list of all configurations has each of these
 pub all_configs-member : (range : ℕ × ℕ) (i j e : ℕ) → i < 21 → j < 21 → range.0 ≤ e → e ≤ range.1 →
     Member (config (2 ^ i) (2 ^ j) e) (all_configs range)
 unfolding all_configs

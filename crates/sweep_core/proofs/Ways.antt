@@ -72,7 +72,7 @@ module _ {space : Ranges} {b s : ℕ} (p : IsOfSpace space b s) where
   pub few_ways : space.assoc.1 ≤ 65536
   few_ways = p.limits.assoc.1
 
-  -- what the range, the size and the lines leave
+  -- the associativities that the range, the size and the limit on lines allow
   pub ways-valid : {low high m n : ℕ} (e : ℕ) → n ≡ div_ceil space.size.0 (b * s) →
       low ≡ max space.assoc.0 n
       → m ≡ min space.assoc.1 (4194304 / s) → high ≡ min m (space.size.1 / (b * s))
@@ -233,7 +233,7 @@ pair-none space after b s none =
     (λ e. false_from_ne_true _ (λ h. let w = and_parts _ _ h in none e w.0 w.1))
     (numbers space.assoc)
 
--- what a pair has, by the associativities that are left of it
+-- the rows of a pair, by the associativities that are left for it
 module _ (space : Ranges) (b s : ℕ) {low high lowest : ℕ} (least : ℕ) (after : Option Config)
     (is : lowest ≡ max low least)
     (valid : (e : ℕ) → is_valid space (config b s e) ≡ (is_in_range (low, high) e &&

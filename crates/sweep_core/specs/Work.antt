@@ -1,6 +1,5 @@
 -- How many comparisons a sweep counts: those of profiles that each look for the block of each
--- reference. One look that decides for
--- several profiles counts as one comparison in each of them.
+-- reference. One look that decides for several profiles counts as one comparison in each of them.
 use Rattle.std.specs.Prelude.{ℕ, ◌==◌, ◌&&◌, not, max, Bool, List, [], ◌∷◌, map, filter, fold}
 use Rattle.std.specs.Prelude.{sum_by}
 use Rattle.trace_core.specs.declared.events.Event.{Event}

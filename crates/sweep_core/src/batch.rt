@@ -15,7 +15,7 @@ use std::marker::Model;
 pub(crate) const BATCH: usize = 4096;
 
 /// The addresses of references that wait to be fed: the first `len` of `addrs`. `led` has room for
-/// those of them that some profiles are fed and others are not.
+/// those of them that are fed to some profiles only.
 #[derive(Drop)]
 pub(crate) struct Batch {
     addrs: Vec<u64>,
@@ -36,7 +36,7 @@ impl Model for Batch {
 }
 
 impl Batch {
-    /// A batch of none. It takes all its memory here, 64 KiB.
+    /// An empty batch. It takes all its memory here, 64 KiB.
     pub(crate) fn new(alloc: Global) -> Result<Batch, AllocError>
         ensures { IfOk result (λ batch. batch ≡ []) }
     {
@@ -47,7 +47,7 @@ impl Batch {
         })
     }
 
-    /// Whether no more may wait.
+    /// Whether it is full, so that no more references may wait.
     #[inline(always)]
     pub(crate) fn is_full(&self) -> bool
         ensures { IsTrue result ↔ (BATCH ≤ length self.now) }
@@ -55,9 +55,9 @@ impl Batch {
         self.len == BATCH
     }
 
-    /// Adds one, unless it lies in the block of the last that waits, of `2^bits` bytes: it would
-    /// find that in front in each profile whose blocks are no smaller. About a third of a program's
-    /// references do, fetches most of all.
+    /// Adds an address, unless it lies in the same block of `2^bits` bytes as the last one that
+    /// waits. Such a reference finds its block in front in each profile with blocks of this size or
+    /// larger. About a third of a program's references do so, fetches most often.
     #[inline(always)]
     pub(crate) fn push(&mut self, addr: u64, bits: u64)
         requires room { length self.old < BATCH }
@@ -70,8 +70,8 @@ impl Batch {
         }
     }
 
-    /// Feeds those that wait to each profile that does not find their block in front. It stands
-    /// apart from the loop that reads.
+    /// Feeds the references that wait to each profile, except those that find their block in front
+    /// there. It is not inlined into the loop that reads.
     #[inline(never)]
     pub(crate) fn feed(&mut self, profiles: &mut [PairProfile])
         requires few { AllByRecursion
@@ -88,8 +88,9 @@ impl Batch {
     }
 }
 
-/// Feeds the first `count` of some references. One alone is fed as it is: to give each profile a
-/// copy of it takes longer, as where a flush follows each reference. With two or more it does not.
+/// Feeds the first `count` of some references. A single one is fed directly, since giving each
+/// profile a copy of it takes longer. It matters for traces with a flush after each reference. With
+/// two or more references copies take no longer.
 fn feed_first(profiles: &mut [PairProfile], addrs: &mut [u64], led: &mut [u64], count: usize)
     requires few { AllByRecursion
         (λ x. fed_of x.profile + count ≤ MAX_REFERENCES) profiles.old }
@@ -105,8 +106,8 @@ fn feed_first(profiles: &mut [PairProfile], addrs: &mut [u64], led: &mut [u64], 
     }
 }
 
-/// Feeds a reference to each profile that does not find its block in front. Where one finds it
-/// there, those that its front implies are not looked at.
+/// Feeds a reference to each profile, except where it finds its block in front. If it does so in
+/// one profile, the next ones, whose front this implies, are skipped.
 fn feed_at_once(profiles: &mut [PairProfile], addr: u64)
     requires few { AllByRecursion (λ x. fed_of x.profile < MAX_REFERENCES) profiles.old }
     requires led { AreAlwaysLed profiles.old }
@@ -122,11 +123,12 @@ fn feed_at_once(profiles: &mut [PairProfile], addr: u64)
     }
 }
 
-/// Feeds references to each profile that does not find their block in front. Where a profile finds
-/// it there, those that its front implies are not asked. So `addrs` becomes those that are left for
-/// all profiles to come, and `led` has, up to the profile `end`, those that are left for the next.
-/// Where the next profile is one of these, both are fed together. If a profile and the next both
-/// lead all later ones, `led` takes the place of `addrs`.
+/// Feeds references to each profile, except those that find their block in front there. A reference
+/// that does so in one profile is not given to the next ones, whose front this implies. So `addrs`
+/// has the references that are left for all later profiles, and `led` those that are left for the
+/// profiles before `end`. If the next profile is before `end`, both are fed together. If a
+/// profile's front implies that of all later ones, references are removed from `addrs` itself; but
+/// if the next one's front does so too, `led` is used, so that the two are fed together.
 fn feed_each(profiles: &mut [PairProfile], addrs: &mut [u64], led: &mut [u64])
     requires few { AllByRecursion
         (λ x. fed_of x.profile + length addrs.old ≤ MAX_REFERENCES) profiles.old }
@@ -159,9 +161,10 @@ fn feed_each(profiles: &mut [PairProfile], addrs: &mut [u64], led: &mut [u64])
     }
 }
 
-/// Brings to the front of `led` what the profile at an index is fed: before the profile `end`,
-/// `led_count` addresses are there; from `end` on, `addrs` is copied there. Returns how many they
-/// are, and up to which profile those that this one leaves are passed on.
+/// Puts the addresses for the profile at an index at the front of `led`. Before the profile `end`
+/// they are there already, `led_count` of them; from `end` on, `addrs` is copied there. Returns how
+/// many they are, and the profile up to which the next ones are given only those that this one
+/// leaves.
 fn give(
     addrs: &[u64],
     led: &mut [u64],
@@ -191,8 +194,9 @@ fn is_followed(profiles: &[PairProfile], at: usize) -> bool
     next < profiles.len() && profiles[next].implied == profiles.len() - next - 1
 }
 
-/// Feeds references to the profile at an index, and to the next those that it does not find in
-/// front. Returns how many neither does, which come to the front of `addrs`.
+/// Feeds references to the profile at an index, and to the next one only those that do not find
+/// their block in front in the first. The addresses of those that find it in front in neither are
+/// moved to the front of `addrs`; returns how many they are.
 fn feed_two(profiles: &mut [PairProfile], at: usize, addrs: &mut [u64]) -> usize
     requires within { at + 1 < length profiles.old }
     requires few { AllByRecursion

@@ -1,4 +1,4 @@
-//! One pass over a trace: what is read waits in a batch, which is fed to each profile.
+//! One pass over a trace: the references wait in a batch, which is fed to each profile.
 ghost use Rattle.std.specs.Prelude.{◌≡◌, ◌+◌, ◌<◌, ◌≤◌, ◌∷◌, [], map};
 ghost use Rattle.std.specs.List.{AllByRecursion};
 ghost use Rattle.trace_core.specs.Reader.{new_progress};
@@ -15,9 +15,9 @@ use cache_core::MAX_BITS;
 use profile_core::MAX_REFERENCES;
 use trace_core::{Entry, Kind, Lines, Ref, Source, TraceFault, refs_of};
 
-/// Reads a trace up to its end or its first fault, and feeds what each entry gives: its references
-/// of a kind, or a flush. No more references are kept than a batch has. Those that a profile need
-/// not be fed, since they find their block in front there, are counted at the end.
+/// Reads a trace up to its end or its first fault, and feeds each entry to the profiles: its
+/// references of a kind, or a flush. At most one batch of references is kept in memory. A profile
+/// need not be fed references that find their block in front there; these are counted at the end.
 pub(crate) fn read_trace<S: Source>(
     lines: &mut Lines,
     kind: Kind,
@@ -40,8 +40,8 @@ pub(crate) fn read_trace<S: Source>(
     read
 }
 
-/// Reads a trace as `read_trace` does, but counts none that a profile need not be fed, and leaves
-/// the last of the others in the batch. `fed` becomes the number of all references.
+/// Reads a trace as `read_trace` does, but leaves the last references in the batch, and does not
+/// count those that a profile need not be fed. `fed` becomes the number of all references.
 fn read_entries<S: Source>(
     lines: &mut Lines,
     kind: Kind,
@@ -81,7 +81,8 @@ fn read_entries<S: Source>(
     Ok(())
 }
 
-/// Counts in each profile those of `fed` references that it was not fed: they hit in front.
+/// Counts in each profile those of `fed` references that it was not fed: they found their block in
+/// front.
 fn catch_up(profiles: &mut [PairProfile], fed: u64)
     requires behind { FedAtMost fed profiles.old }
     requires few { fed ≤ MAX_REFERENCES }
@@ -93,7 +94,7 @@ fn catch_up(profiles: &mut [PairProfile], fed: u64)
     }
 }
 
-/// The bits of the smallest block of some profiles.
+/// The block bits of the smallest blocks that some profiles have.
 fn finest_bits(profiles: &[PairProfile]) -> u64
     ensures { result ≡ finest_bits profiles.now }
 {
@@ -104,8 +105,8 @@ fn finest_bits(profiles: &[PairProfile]) -> u64
     bits
 }
 
-/// Adds a reference of a kind to the batch, and to the count `fed`. If the batch is full, its
-/// references are fed first. `bits` are those of the smallest block.
+/// If a reference is of a kind, adds it to the batch, and to the count `fed`. If the batch is full,
+/// its references are fed first. `bits` are the block bits of the smallest blocks.
 #[inline(always)]
 fn feed_kept(
     profiles: &mut [PairProfile],

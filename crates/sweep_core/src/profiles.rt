@@ -25,7 +25,7 @@ pub(crate) struct PairProfile {
 }
 
 /// Makes the profiles of a request, each as deep as the greatest associativity of its pair in the
-/// space, also if `rows` cuts that one off.
+/// space, even if `rows` cuts that row off.
 pub(crate) fn make_profiles(
     alloc: Global,
     request: &Request,
@@ -53,7 +53,8 @@ pub(crate) fn make_profiles(
     Ok(made)
 }
 
-/// Has each profile say how many of the next its own front implies.
+/// Sets `implied` in each profile: how many of the next ones find a block in front wherever it
+/// does.
 fn link(profiles: &mut [PairProfile])
     ensures { profiles.new ≡ linked_profiles profiles.old }
 {
@@ -64,7 +65,7 @@ fn link(profiles: &mut [PairProfile])
     }
 }
 
-/// How many of `others`, from the first on, refine a profile.
+/// How many of `others` refine a profile, counted from the first up to one that doesn't.
 fn implied_by(profile: &Profile, others: &[PairProfile]) -> usize
     ensures { result ≡ implied_count profile.now.geometry others.now }
 {
@@ -78,8 +79,8 @@ fn implied_by(profile: &Profile, others: &[PairProfile]) -> usize
     count
 }
 
-/// Takes the next pair that has a row, from the pair with the index `pair` on: returns its rows.
-/// Then `most` is how many rows may still follow.
+/// Takes the next pair that has a row, from the pair with the index `pair` on, and returns its
+/// rows. Afterwards `pair` is the index to go on from, and `most` how many rows may still follow.
 fn take_pair(request: &Request, pair: &mut u32, most: &mut Option<u64>) -> Option<PairRows>
     ensures rows { MatchOption result (rows_left request.now pair.old most.old ≡ [])
         (λ rows. BeginsWith request.now.space.powers (rows_left request.now pair.old most.old)

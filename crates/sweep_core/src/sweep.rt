@@ -15,22 +15,23 @@ use trace_core::{MAX_LINES, RunFault, Sink, Source};
 pub type SweepFault = RunFault;
 
 /// Reads a whole trace, of at most `max_lines` lines, 1 to `MAX_LINES`. Then it writes the header,
-/// unless `after` is given, and then a row for each configuration greater than `after`, rising, but
-/// at most `rows`, and flushes once. A failed sink is not called again.
+/// unless `after` is given, and then a row for each configuration greater than `after`, in rising
+/// order, at most `rows` of them, and flushes once. A failed sink is not called again.
 ///
-/// Each row is written by itself, and none is held back. So a caller whose sink is slow to call,
-/// such as a file or a socket, brings a buffer of its own: `ToWrite` over a `BufWriter`.
+/// Each row is written at once, without a buffer. So a caller whose sink is slow to call, such as a
+/// file or a socket, adds a buffer: `ToWrite` over a `BufWriter`.
 ///
 /// Each pair of block size and set count that has a row costs one profile, as deep as the pair's
 /// greatest associativity in the space. A reference is fed to each of them as it is read, except
 /// to those that must have its block in front because another one has.
 ///
-/// It returns the number of comparisons of a block with an entry of a recency list, as it is
-/// defined by the trace and the space: each profile looks for each reference's block from the most
-/// recent entry on, which takes at most as many comparisons as the profile is deep. It is the cost
-/// of the stack algorithm, by which spaces are compared. Fewer comparisons may be made, and never
-/// more: one look that decides for several profiles counts as one comparison in each of them, and
-/// a profile of 256 ways or more finds most distances without a walk over the list.
+/// It returns the number of comparisons of a block with an entry of a recency list. The number
+/// depends only on the trace and the space: it counts as if each profile looked for each
+/// reference's block from the most recent entry on, which takes at most as many comparisons as the
+/// profile is deep. This is the cost of the stack algorithm, by which spaces can be compared. The
+/// sweep makes as many comparisons or fewer: one look that decides for several profiles counts as
+/// one comparison in each of them, and a profile of 256 ways or more finds most distances without a
+/// walk over the list.
 ///
 /// Errors: `Memory`, with nothing read or written; `Trace` if the trace has a fault or the
 /// source failed, with nothing written; `Write` if the sink failed, after the whole trace was

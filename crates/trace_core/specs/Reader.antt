@@ -14,8 +14,7 @@ use Rattle.trace_core.specs.declared.state.ReaderState.{ReaderState}
 use Rattle.trace_core.specs.declared.state.ReaderState.TheVariants as state
 
 -- The progress of a reader: how many lines it has read, which bytes were delivered and not yet read
--- (none once it has stopped),
--- and whether it goes on.
+-- (none once it has stopped), and whether it goes on.
 pub record Progress : Type 0 where
   pub format : Format
   pub limit : ℕ
@@ -51,8 +50,7 @@ abbrev pub reading_with_entries : List (ℕ × Entry) → Reading → Reading
 reading_with_entries xs r = record { entries = xs ++ r.entries; fault = r.fault }
 
 -- A reader went from old to new over these bytes and gave these entries: whatever may follow, what
--- old gives is these entries
--- and then what new gives.
+-- old gives is these entries and then what new gives.
 pub record Advances (reported : Option (List ℕ)) (old new : Progress) (bytes : List ℕ)
     (xs : List (ℕ × Entry)) : Type 0 where
   pub gives : (e : Ending) (later : List ℕ) → MayFollow reported new.state e later

@@ -1,6 +1,5 @@
 -- The reading of a text: its entries with their line numbers, and the fault at which they end. What
--- is at fault, and which fault comes
--- first, is this project's own rule.
+-- is at fault, and which fault comes first, is this project's own rule.
 use Rattle.std.specs.Prelude.{ℕ, ◌+◌, nat_lt, List, [], ◌∷◌, length, take, drop, map, filter_map}
 use Rattle.std.specs.Prelude.{Option, None, Some, Result, Ok, Err, if◌then◌else◌, flat_map}
 use Rattle.std.specs.List.{enumerate_from}
@@ -76,8 +75,7 @@ cut_fault limit n (piece ∷ none) =
     else fault.Read n
 
 -- The reading of a text, n lines before which were read: of all its lines; or, if the device then
--- failed, of the lines
--- whose LF came, and of the piece that was cut off.
+-- failed, of the lines whose LF came, and of the piece that was cut off.
 abbrev pub reading_after : Ending → Format → ℕ → ℕ → List ℕ → Reading
 reading_after at_end format limit n text = read_lines format limit n (lines text) (reading_end None)
 reading_after at_failure format limit n text =

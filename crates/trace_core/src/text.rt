@@ -84,8 +84,8 @@ impl<const CAPACITY: usize> Text<CAPACITY> {
         }
     }
 
-    /// Adds a number of any length. It stands apart, so that the path of the many numbers of one
-    /// digit stays short.
+    /// Adds a number of any length. It is a function of its own, so that the path of the many
+    /// numbers of one digit stays short.
     #[inline(never)]
     fn push_long_decimal(&mut self, number: u64)
         requires { length self.old + DECIMAL ≤ CAPACITY }

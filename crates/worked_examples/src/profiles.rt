@@ -88,7 +88,7 @@ fn expect_counts(rt: &impl Abort, profile: &Profile, wanted: &[Counts])
     }
 }
 
-/// How many references were fed, how many blocks are held, and how many comparisons were made.
+/// How many references were fed, how many blocks are held, and how many comparisons are counted.
 fn numbers(profile: &Profile) -> (u64, u64, u64) {
     (profile.fed(), profile.held(), profile.probes())
 }

@@ -41,7 +41,7 @@ sets_after_touch d set block given =
           (slice_index_or d.lists set []));
     }
 
--- how the look-up of a block goes that is not among the blocks before these
+-- how the look-up of a block goes in this list, if the block is not among those before the list
 abbrev pub deep_lookup : ℕ → ℕ → List ℕ → Lookup
 deep_lookup capacity block blocks =
     if has_block block blocks then Hit else if length blocks == capacity then MissEviction else Miss

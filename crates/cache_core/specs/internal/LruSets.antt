@@ -14,7 +14,7 @@ use Rattle.cache_core.specs.Slab.{CacheValue}
 use Rattle.cache_core.specs.internal.Stands.{CacheStandsFor}
 use Rattle.cache_core.specs.Windows.{window, distinct_of_set}
 
--- how many of so many ways are in front: all, or those that the deep lists leave
+-- how many of the ways are in front: all, or those that are not in the deep lists
 abbrev pub near_ways : ℕ → Option DeepSetsValue → ℕ
 near_ways e None = e
 near_ways e (Some far) = e - far.capacity
@@ -52,6 +52,7 @@ abbrev pub far_lookup : Option DeepSetsValue → ℕ → ℕ → Lookup
 far_lookup None set block = MissEviction
 far_lookup (Some far) set block = deep_lookup far.capacity block (slice_index_or far.lists set [])
 
--- the deep lists after a block that left the part in front of a set
+-- the deep lists, if there are any, after `victim` left the part in front of a set, and `block`
+-- came to it
 abbrev pub far_after_push : Option DeepSetsValue → ℕ → ℕ → ℕ → Option DeepSetsValue
 far_after_push far set block victim = option_map (λ d. sets_after_touch d set block victim) far

@@ -31,7 +31,7 @@ DirtiesByWrites old ref outcome new =
     dirty_slots new + one_if (is_dirty outcome.evicted) ≤ dirty_slots old + one_if
     (is_write ref.access)
 
--- an index is told exactly if a slot was placed, and the slot there holds its block
+-- an index is returned exactly if a block was placed, and the slot there holds it
 abbrev pub HoldsPlaced : ℕ → Outcome → Option ℕ → List Slot → Type 0
 HoldsPlaced block outcome placed slots = (is_some placed ≡ outcome.placed)
     × IfSome placed (λ at. option_map (λ slot. slot.block) (slice_get slots at) ≡ Some block)

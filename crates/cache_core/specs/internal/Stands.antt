@@ -14,8 +14,7 @@ use Rattle.cache_core.specs.Rules.{Place, rules}
 use Rattle.cache_core.specs.Stands.{InOrder, Distinct}
 
 -- Each set holds the slots of the machine's lines of it, in their order, and the random numbers
--- still to come
--- are those that the machine hasn't drawn.
+-- still to come are those that the machine hasn't drawn.
 pub record IsState (m : Machine) (st : MachineState) (c : Contents) : Type 0 where
   pub design : c.design ≡ m.design
   pub policy : c.policy ≡ Some m.policy

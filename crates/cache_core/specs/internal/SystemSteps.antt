@@ -1,5 +1,4 @@
--- One step of a system, over its contents.
--- Only the proofs need these definitions.
+-- One step of a system, over its contents. Only the proofs need these definitions.
 use Rattle.std.specs.Prelude.{◌≡◌, ◌≤◌, ℕ, ◌+◌, ◌*◌, ◌^◌, Bool, false, List, [], ◌∷◌, Option, Some}
 use Rattle.std.specs.Prelude.{None, if◌then◌else◌, MatchOption, MatchBool, is_some, is_none}
 use Rattle.trace_core.specs.declared.events.Ref.{Ref}

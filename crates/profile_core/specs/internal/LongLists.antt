@@ -7,7 +7,7 @@ use Rattle.profile_core.specs.declared.long_lists.InRow.TheVariants.{Settled, Fu
 use Rattle.profile_core.specs.internal.Moves.{is_in, touch_of}
 use Rattle.profile_core.specs.internal.Lists.{Lists}
 
--- each list and what stands behind it
+-- each list with the blocks behind it
 abbrev pub whole_lists : List (List ℕ) → List Deep → List (List ℕ)
 whole_lists [] far = []
 whole_lists (xs ∷ near) [] = xs ∷ near
@@ -17,23 +17,22 @@ whole_lists (xs ∷ near) (d ∷ far) = (xs ++ d.blocks) ∷ whole_lists near fa
 abbrev pub nothing : Deep
 nothing = record { cap = 0; blocks = [] }
 
--- what stands behind the list of set k
+-- the blocks behind the list of set k
 abbrev pub rest_of : List Deep → ℕ → List ℕ
 rest_of far k = (slice_index_or far k nothing).blocks
 
--- without its blocks
+-- the same list without its blocks
 abbrev pub empty_deep : Deep → Deep
 empty_deep d = record d { blocks = [] }
 
--- what a row of at most w blocks tells of block x
+-- the result of bringing block x to the front of a row of at most w blocks
 abbrev pub in_row_of : ℕ → ℕ → List ℕ → InRow
 in_row_of w x xs =
     if is_in x xs then Settled (touch_of x xs)
     else (if nat_lt (length xs) w then Settled (touch_of x xs) else Full (length xs)
     (slice_index xs (w - 1)))
 
--- what is true of the fields of every value: behind each row stands a list, which has blocks only
--- if the row is full
+-- the invariant: behind each row is a list, which has blocks only if the row is full
 pub record AreSplit (near : Lists) (beyond : ℕ) (far : List Deep) : Type 0 where
   pub far_len : length far ≡ length near.lists
   pub two : 2 ≤ near.depth

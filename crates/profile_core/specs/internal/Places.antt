@@ -1,4 +1,4 @@
--- Places that sets take one after the other, as they need them.
+-- Places that sets take one after the other, when they need them.
 use Rattle.std.specs.Prelude.{ℕ, ◌≡◌, ◌≤◌, ◌<◌, ◌==◌, not, List, count_by, slice_index}
 
 -- how many sets have a place of their own: the others have place 0

@@ -17,8 +17,7 @@ not_found_at g es n = count_by (λ p. not (is_hit g p) && (min (blocks_seen g p)
     (occurrences g es)
 
 -- each list is the first geometry.e of its set's different blocks since the last flush, the most
--- recent first
--- (an LRU stack of Mattson 1970), and the numbers count the references of the events
+-- recent first (an LRU stack of Mattson 1970), and the numbers count the references of the events
 pub record ProfileStandsFor (es : List Event) (v : ProfileState) : Type 0 where
   pub geometry : IsGeometry v.geometry
   pub set_count : length v.lists ≡ 2 ^ v.geometry.s

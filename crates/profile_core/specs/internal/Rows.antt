@@ -1,4 +1,4 @@
--- The rows of all sets, however they are stored.
+-- The rows of blocks of all sets, in whatever way they are stored.
 use Rattle.std.specs.Prelude.{ℕ, ◌≡◌, ◌<◌, List, [], ◌∷◌, length, take, replicate, slice_index_or}
 use Rattle.std.specs.Prelude.{slice_set, map}
 use Rattle.std.specs.List.{range_with_len}
@@ -12,7 +12,7 @@ pub record RowsValue : Type 0 where
 unfoldable pub rows_by_set : ℕ → (ℕ → List ℕ) → List (List ℕ)
 rows_by_set m row = map row (range_with_len 0 m)
 
--- rows of zeros for so many sets
+-- rows of zeros for a number of sets
 abbrev pub blank_rows : ℕ → ℕ → RowsValue
 blank_rows sets stride = record {
   stride = stride;
@@ -23,14 +23,14 @@ blank_rows sets stride = record {
 abbrev pub row_for : RowsValue → ℕ → List ℕ
 row_for rows k = slice_index_or rows.rows k []
 
--- each row has as many numbers as is said
+-- each row has `stride` numbers
 abbrev pub AreLong : RowsValue → Type 0
 AreLong rows = (k : ℕ) → k < length rows.rows → length (row_for rows k) ≡ rows.stride
 
--- the rows with another in the place of set k's
+-- the rows with another one for set k
 abbrev pub with_row : RowsValue → ℕ → List ℕ → RowsValue
 with_row rows k row = record rows { rows = slice_set rows.rows k row }
 
--- the list of set k: a front, and what its row begins with, so many numbers in all
+-- the list of set k: its front and then its row, cut to a number of blocks
 abbrev pub list_in_row : RowsValue → ℕ → ℕ → ℕ → List ℕ
 list_in_row rows k front len = take len (front ∷ row_for rows k)

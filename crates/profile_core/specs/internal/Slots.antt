@@ -1,17 +1,17 @@
--- Numbers that stand in slots and are not moved: what changes is the order of the slots.
+-- Numbers in slots, which are not moved: only the order of the slots changes.
 use Rattle.std.specs.Prelude.{ℕ, ◌≡◌, ◌<◌, ◌*◌, ◌/◌, ◌%◌, ◌^◌, List, take, map, length, slice_index}
 use Rattle.std.specs.Prelude.{bit_xor, bit_and}
 
--- a byte of a number: two of its product with an odd number, mixed
+-- a byte for a number: two bytes of its product with an odd number, mixed
 unfoldable pub mark_of : ℕ → ℕ
 mark_of x = bit_xor (x * 11400714819323198485 % 2 ^ 64 / 2 ^ 56)
     (bit_and (x * 11400714819323198485 % 2 ^ 64 / 2 ^ 32) 255)
 
--- the numbers in the first slots of an order
+-- the numbers of the first n slots, in their order
 abbrev pub ordered_numbers : List ℕ → List ℕ → ℕ → List ℕ
 ordered_numbers order numbers n = map (λ s. slice_index numbers s) (take n order)
 
--- sixteen different slots, and the marks of the numbers in them
+-- an order of sixteen slots, and the marks of their numbers in that order
 pub record IsOrder (marks order numbers : List ℕ) : Type 0 where
   pub marks_len : length marks ≡ 16
   pub order_len : length order ≡ 16

@@ -1,4 +1,4 @@
--- Rests that stand in slots, each from when its set first writes it.
+-- Rests in slots: a set has its own from its first write on.
 use Rattle.std.specs.Prelude.{ℕ, ◌≡◌, ◌≤◌, ◌<◌, ◌+◌, ◌^◌, List, [], length}
 use Rattle.std.specs.Prelude.{slice_index, slice_index_or}
 use Rattle.profile_core.specs.declared.slotted_rests.Slots.{Slots}
@@ -9,7 +9,7 @@ use Rattle.profile_core.specs.internal.Slots.{ordered_numbers, IsOrder}
 abbrev pub no_slots : Slots
 no_slots = record { marks = []; order = []; numbers = [] }
 
--- the slots of set k: `places` says which it has
+-- the slots of set k, whose index `places` has
 abbrev pub slots_at : List ℕ → List Slots → ℕ → Slots
 slots_at places rests k = slice_index_or rests (slice_index places k) no_slots
 
@@ -18,8 +18,8 @@ abbrev pub slotted_rest : ℕ → List ℕ → List Slots → ℕ → List ℕ
 slotted_rest stride places rests k =
     ordered_numbers (slots_at places rests k).order (slots_at places rests k).numbers stride
 
--- the first slots are those of all sets that took none of their own; behind them stand those of
--- each of the others, and there is room for all
+-- the first slots are those of all sets that have none of their own; those of the others follow,
+-- and there is room for slots of all sets
 pub record ArePlaced (places : List ℕ) (rests : List Slots) (room : ℕ) : Type 0 where
   pub few : length places ≤ 2 ^ 22
   pub rests_len : length rests ≡ taken_count places + 1
@@ -28,7 +28,7 @@ pub record ArePlaced (places : List ℕ) (rests : List Slots) (room : ℕ) : Typ
   pub each : (r : ℕ) → r < length rests → IsOrder (slice_index_or rests r no_slots).marks
       (slice_index_or rests r no_slots).order (slice_index_or rests r no_slots).numbers
 
--- what is true of the fields of every value
+-- the invariant
 pub record IsSlotted (stride : ℕ) (places : List ℕ) (rests : List Slots) (room : ℕ) : Type 0 where
   pub some : 1 ≤ stride
   pub most : stride ≤ 16

@@ -1,13 +1,13 @@
--- Rests that stand in one array, each from when its set first writes it.
+-- Rests in one array: a set has its own from its first write on.
 use Rattle.std.specs.Prelude.{ℕ, ◌≡◌, ◌≤◌, ◌+◌, ◌*◌, ◌^◌, List, length, take, drop, slice_index}
 use Rattle.profile_core.specs.internal.Places.{taken_count, ArePlaces}
 
--- the rest of `stride` numbers of set k: `places` says which of the array's rests it has
+-- the rest of `stride` numbers of set k, whose index in the array `places` has
 abbrev pub sparse_rest : ℕ → List ℕ → List ℕ → ℕ → List ℕ
 sparse_rest stride places numbers k = take stride (drop (slice_index places k * stride) numbers)
 
--- the first rest of the array is that of all sets that took none of their own; behind it stands
--- that of each of the others, and there is room for all
+-- the first rest of the array is that of all sets that have none of their own; those of the others
+-- follow, and there is room for rests of all sets
 pub record IsSparse (stride : ℕ) (places numbers : List ℕ) (room : ℕ) : Type 0 where
   pub some : 1 ≤ stride
   pub small : (length places + 1) * stride ≤ 2 ^ 26

@@ -1,4 +1,4 @@
--- Rows of which the first number stands in an array, and the others in a rest.
+-- Rows of blocks, with their first numbers in one array, and the others in a rest for each set.
 use Rattle.std.specs.Prelude.{ℕ, ◌≡◌, ◌≤◌, ◌^◌, List, [], ◌∷◌, length, slice_index, slice_index_or}
 use Rattle.profile_core.specs.internal.Rows.{RowsValue, AreLong, rows_by_set}
 
@@ -10,7 +10,7 @@ split_row firsts rests k = slice_index firsts k ∷ slice_index_or rests k []
 abbrev pub split_rows : List ℕ → List (List ℕ) → List (List ℕ)
 split_rows firsts rests = rows_by_set (length rests) (split_row firsts rests)
 
--- what is true of the fields of every value
+-- the invariant
 pub record AreSplitRows (firsts : List ℕ) (rests : RowsValue) : Type 0 where
   pub all : length firsts ≡ length rests.rows
   pub long : AreLong rests

@@ -1,4 +1,4 @@
--- What a profile holds, and how a reference and a flush change it.
+-- The state of a profile, and how a reference and a flush change it.
 use Rattle.std.specs.Prelude.{ℕ, ◌≡◌, ◌≤◌, ◌<◌, ◌+◌, ◌-◌, ◌*◌, ◌^◌, false, min, if◌then◌else◌, List}
 use Rattle.std.specs.Prelude.{[], ◌∷◌, length, take, drop, sum, sum_by, replicate, slice_set}
 use Rattle.std.specs.Prelude.{slice_index, slice_index_or}
@@ -10,10 +10,9 @@ use Rattle.profile_core.specs.declared.histograms.Histograms.{Histograms}
 use Rattle.profile_core.specs.internal.Lists.{Lists}
 use Rattle.profile_core.specs.internal.Moves.{index_of, is_in, is_front, move_to_front}
 
--- for each set a list of at most geometry.e blocks, the most recent first; how many references
--- found their block at
--- each stack distance, its index in that list; how many did not find it in a list of each length;
--- and the comparisons made
+-- For each set a list of at most geometry.e blocks, the most recent first; how many references
+-- found their block at each stack distance, which is its index in the list; how many did not find
+-- it, by the length of the list; and how many comparisons are counted.
 pub record ProfileState : Type 0 where
   pub geometry : GeometryValue
   pub lists : List (List ℕ)
@@ -35,7 +34,7 @@ empty g = record {
 abbrev pub list_of : ProfileState → ℕ → List ℕ
 list_of v k = slice_index_or v.lists k []
 
--- one more at an index
+-- with one more counted at an index
 abbrev pub one_more_at : List ℕ → ℕ → List ℕ
 one_more_at ns i = slice_set ns i (slice_index ns i + 1)
 
@@ -70,9 +69,8 @@ fed_of v = sum v.distances + sum v.misses_by_occupancy
 abbrev pub held_of : ProfileState → ℕ
 held_of v = sum_by length v.lists
 
--- the counts of an LRU cache of e lines per set: a reference found at a distance below e hits a
--- cache of e lines, and
--- any other misses (Mattson 1970); a miss evicts if e blocks or more had been seen
+-- The counts of an LRU cache of e lines per set (Mattson 1970). A reference found at a distance
+-- below e hits, and any other misses. A miss evicts if e blocks or more had been seen.
 abbrev pub counts_at : ProfileState → ℕ → Counts
 counts_at v e = record {
   hits = sum (take e v.distances);
@@ -103,13 +101,12 @@ weighed n [] = 0
 weighed n (x ∷ xs) = x * n + weighed (n + 1) xs
 
 -- the comparisons of the references that were not found in front: d + 1 if a block was found at
--- distance d, and n
--- if it was not found in a list of n blocks
+-- distance d, and n if it was not found in a list of n blocks
 abbrev pub compared_behind : List ℕ → List ℕ → ℕ
 compared_behind behind missed = weighed 1 behind + weighed 0 missed
 
--- the numbers for all distances: a reference found in front made one comparison, so there were as
--- many as are left
+-- The numbers for all distances. A reference that found its block in front counts one comparison,
+-- so there were as many of these as comparisons are left.
 abbrev pub distances_of : ℕ → List ℕ → List ℕ → List ℕ
 distances_of probes behind missed = slice_set behind 0 (probes - compared_behind behind missed)
 
@@ -118,7 +115,7 @@ distances_of probes behind missed = slice_set behind 0 (probes - compared_behind
 abbrev pub most_references : ℕ
 most_references = 2 ^ 41
 
--- what is true of the fields of every profile: none found in front is counted by `behind`
+-- the invariant of a profile; `behind` counts no reference that found its block in front
 pub record IsSound (g : GeometryValue) (lists : Lists) (behind missed : List ℕ)
     (probes : ℕ) : Type 0 where
   pub depth : lists.depth ≡ g.e
@@ -131,8 +128,8 @@ pub record IsSound (g : GeometryValue) (lists : Lists) (behind missed : List ℕ
   pub fed : sum (distances_of probes behind missed) + sum missed ≤ most_references
   pub compared : probes ≤ (sum (distances_of probes behind missed) + sum missed) * g.e
 
--- a profile that may be fed one reference more: to block x of set k, in whose list it is not the
--- front
+-- A profile that may be fed one more reference, to block x, which is not the front of its set k's
+-- list.
 pub record IsNext (v : ProfileState) (k x : ℕ) : Type 0 where
   pub few : fed_of v < most_references
   pub of_set : k ≡ set_of_block v.geometry x
@@ -152,13 +149,13 @@ profile_of g lists h = record {
 abbrev pub AreSound : GeometryValue → Lists → Histograms → Type 0
 AreSound g lists h = IsSound g lists h.behind.items h.misses_by_occupancy.items h.probes
 
--- lists and histograms that may be fed one reference more: to block x of set k, in whose list it is
--- not the front
+-- Lists and histograms that may be fed one more reference, to block x, which is not the front of
+-- its set k's list.
 pub record MayBeFed (g : GeometryValue) (lists : Lists) (h : Histograms) (k x : ℕ) : Type 0 where
   pub sound : AreSound g lists h
   pub next : IsNext (profile_of g lists h) k x
 
--- what lists and histograms are once they were fed a reference to block x
+-- lists and histograms after they were fed a reference to block x
 pub record FeedsBlock (g : GeometryValue) (lists : Lists) (h : Histograms) (x : ℕ) (lists' : Lists)
     (h' : Histograms) : Type 0 where
   pub sound : AreSound g lists' h'

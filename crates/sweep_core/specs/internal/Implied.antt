@@ -1,5 +1,5 @@
--- Where a profile finds a block in front, the next that refine it do so too. So a reference is not
--- fed to them, and is counted later.
+-- If a reference finds its block in front in a profile, it does so too in the next ones that refine
+-- it. So it is not fed to them, and is counted later.
 use Rattle.std.specs.Prelude.{◌≡◌, ⊤, ℕ, ◌≤◌, true, not, List, [], ◌∷◌, length, take, map}
 use Rattle.std.specs.List.{AllByRecursion, position_or_len}
 use Rattle.cache_core.specs.Geometry.{GeometryValue, IsGeometry, block_of}
@@ -8,24 +8,24 @@ use Rattle.profile_core.specs.internal.Fronts.{after_unless_front, profile_with_
 use Rattle.profile_core.specs.internal.Fronts.{IsFit, Leads}
 use Rattle.sweep_core.specs.declared.profiles.PairProfile.{PairProfile}
 
--- how many of some profiles, from the first on, refine a geometry
+-- how many of some profiles refine a geometry, counted from the first up to one that doesn't
 abbrev pub implied_count : GeometryValue → List PairProfile → ℕ
 implied_count g xs = position_or_len (λ y. not (is_refined g y.profile.geometry)) xs
 
--- some profiles, of which each says how many of the next its front implies
+-- profiles with `implied` set in each: how many of the next ones refine it
 unfoldable pub linked_profiles : List PairProfile → List PairProfile
 linked_profiles [] = []
 linked_profiles (x ∷ xs) = record x { implied = implied_count x.profile.geometry xs } ∷
     linked_profiles xs
 
--- as many of the next as each says refine it
+-- each profile is refined by the next `implied` ones
 abbrev pub IsLinked : List PairProfile → Type 0
 IsLinked [] = ⊤
 IsLinked (x ∷ xs) = (x.implied ≤ length xs) ×
     AllByRecursion (λ y. is_refined x.profile.geometry y.profile.geometry ≡ true)
     (take x.implied xs) × IsLinked xs
 
--- a block in front in a profile is so in as many of the next as it says
+-- a block in front in a profile is also in front in the next `implied` ones
 abbrev pub AreLed : List PairProfile → Type 0
 AreLed [] = ⊤
 AreLed (x ∷ xs) = (x.implied ≤ length xs) × AllByRecursion (λ y. Leads x.profile y.profile)
@@ -43,8 +43,8 @@ pair_unless_front addr x = record x {
       after_unless_front x.profile (block_of x.profile.geometry addr);
 }
 
--- profiles that were fed all of n references but some that found their block in front, once these
--- are counted
+-- The profile of a pair was fed n references, except some that found their block in front: the pair
+-- after these are counted, too.
 abbrev pub pair_with_fronts : ℕ → PairProfile → PairProfile
 pair_with_fronts n x = record x { profile = profile_with_fronts n x.profile }
 
@@ -55,7 +55,7 @@ profiles_with_fronts n xs = map (pair_with_fronts n) xs
 abbrev pub FedAtMost : ℕ → List PairProfile → Type 0
 FedAtMost n xs = AllByRecursion (λ x. fed_of x.profile ≤ n) xs
 
--- Profiles that may be fed all of n references but some that found their block in front.
+-- Profiles that may have been fed n references, except some that found their block in front.
 pub record AreBehind (n : ℕ) (xs : List PairProfile) : Type 0 where
   pub fed : FedAtMost n xs
   pub fit : AllByRecursion (λ x. IsFit x.profile) xs

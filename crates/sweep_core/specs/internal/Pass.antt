@@ -38,7 +38,7 @@ pair_after_flush x = record x { profile = after_flush x.profile }
 abbrev pub pair_after_events : List Event → PairProfile → PairProfile
 pair_after_events es x = record x { profile = fold after_event x.profile es }
 
--- of some references those that a kind keeps, as events
+-- those of some references that a kind keeps, as events
 abbrev pub kept_events : Kind → List Ref → List Event
 kept_events kind refs = map event.Reference (filter (λ r. is_kept kind r.access) refs)
 
@@ -47,8 +47,7 @@ abbrev pub profiles_after : List Event → List PairProfile → List PairProfile
 profiles_after es xs = map (pair_after_events es) xs
 
 -- a profile was made for the rows of its pair, within the limits and as deep as the greatest
--- associativity of the pair in all,
--- and was fed some events
+-- associativity of the pair in all, and was fed some events
 pub record WasFed (all : List Config) (es : List Event) (x : PairProfile) : Type 0 where
   pub some : 1 ≤ x.rows
   pub sound : IsGeometry (geometry_of_pair all (pair_of x.first))
@@ -63,12 +62,12 @@ pub record SweepStandsFor (r : Request) (es : List Event)
   pub rows : flat_map (rows_of_profile r.space.powers) profiles ≡ rows_of r
   pub fed : AllByRecursion (WasFed (configs_of r) es) profiles
 
--- the state in which a reader is that returned this
+-- the state of a reader that returned this
 abbrev pub state_after : Result (Unit {0}) TraceFault → ReaderState
 state_after (Ok done) = state.Ended
 state_after (Err fault) = state.Failed fault
 
--- entries were read of a source, and their events were fed to each profile
+-- entries were read from a source, and their events were fed to each profile
 abbrev pub Feeds : Kind → Format → ℕ → SourceView → SourceView → Progress → List PairProfile →
     List PairProfile → Type 0
 Feeds kind format limit start now p old new =

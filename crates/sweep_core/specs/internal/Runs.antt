@@ -11,7 +11,7 @@ use Rattle.sweep_core.specs.declared.rows.PairWalk.{PairWalk}
 use Rattle.sweep_core.specs.Space.{HasSize, most_ways}
 use Rattle.sweep_core.specs.Work.{pair_of, has_pair}
 
--- the associativity after another: the next number, or if powers of two alone count, the next of
+-- the associativity after another: the next number, or, if only powers of two count, the next of
 -- these
 abbrev pub next_ways : Bool → ℕ → ℕ
 next_ways powers ways = if powers then ways * 2 else ways + 1
@@ -29,7 +29,8 @@ run_of powers c (suc n) = c ∷ run_of powers (record c { assoc = next_ways powe
 abbrev pub rows_of_profile : Bool → PairProfile → List Config
 rows_of_profile powers x = run_of powers x.first x.rows
 
--- Some rows are a run of one pair, at least one, and then others, none of that pair.
+-- Some rows begin with a run of a pair, of at least one row, and none of the others is of that
+-- pair.
 pub record BeginsWith (powers : Bool) (rows : List Config) (run : Config × ℕ)
     (left : List Config) : Type 0 where
   pub some : 1 ≤ run.1

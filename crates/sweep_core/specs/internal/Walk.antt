@@ -26,7 +26,7 @@ unfoldable pub rows_from : Ranges → Option Config → ℕ → List Config
 rows_from space after k = flat_map (λ i. rows_of_pair space after (pair_at i))
     (range_with_len k (441 - k))
 
--- the rows that a request may still write: so many at most, of the pairs from an index on
+-- the rows that a request may still write: at most this many, of the pairs from an index on
 abbrev pub rows_left : Request → ℕ → Option ℕ → List Config
 rows_left r k most = first_rows most (rows_from r.space r.after k)
 
@@ -53,8 +53,8 @@ IsAllowed powers e = powers ≡ true → is_power e ≡ true
 abbrev pub NoWays : ℕ → ℕ → Bool → Type 0
 NoWays lowest most powers = (e : ℕ) → lowest ≤ e → e ≤ most → IsAllowed powers e → ⊥
 
--- the associativities between two numbers: from the first that is allowed on, as many as follow one
--- another up to the greatest number
+-- the allowed associativities between two numbers: the first, and how many there are up to the
+-- greatest number
 pub record AreWays (lowest most : ℕ) (powers : Bool) (ways : Ways) : Type 0 where
   pub some : 1 ≤ ways.count
   pub from : lowest ≤ ways.first

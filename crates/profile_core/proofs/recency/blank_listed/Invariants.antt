@@ -1,4 +1,4 @@
--- What is left of the listed sets has all fronts and lengths that are not 0.
+-- All fronts and lengths that are not 0 are those of listed sets still to come.
 use Rattle.std.proofs.Common.{drop}
 use Rattle.cache_core.specs.internal.Touched.{ListsFilled}
 use Rattle.profile_core.proofs.recency.blank_listed.Given as goal

@@ -1,4 +1,5 @@
--- What is left are the marks from a place on; no number before it is the block that is looked for.
+-- The marks from a place on are still to be looked at; no number before that place is the block
+-- that is looked for.
 use Rattle.std.proofs.Common.{◌≤◌, ◌-◌}
 use Rattle.profile_core.proofs.Marks.{CameTo}
 use Rattle.profile_core.proofs.slotted_rests.find.Given as goal

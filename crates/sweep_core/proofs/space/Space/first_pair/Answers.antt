@@ -1,4 +1,5 @@
--- What comes before the first pair is outside the ranges, or not greater than the triple.
+-- The configurations of all pairs before the first one are outside the ranges, or not greater than
+-- the triple.
 use Rattle.std.proofs.Common.{◌≡◌, ◌≤◌, ◌∙◌, true, sym, ap, arith, subst}
 use Rattle.sweep_core.specs.declared.space.Config.{Config}
 use Rattle.sweep_core.specs.Space.{Ranges}
