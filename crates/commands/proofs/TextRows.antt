@@ -24,9 +24,9 @@ abbrev yi : List ℕ
 yi = codes " L 10,1\n M 20,1\n L 22,1\n S 18,1\n L 110,1\n L 210,1\n M 12,1\n"
 
 handout_example : csim_text (geometry_value 4 1 4) true yi
-    ≡ codes
-    "L 10,1 miss\nM 20,1 miss hit\nL 22,1 hit\nS 18,1 hit\nL 110,1 miss eviction\nL 210,1 miss eviction\n"
-    ++ codes "M 12,1 miss eviction hit\nhits:4 misses:5 evictions:3\n"
+    ≡ codes "L 10,1 miss\nM 20,1 miss hit\nL 22,1 hit\nS 18,1 hit\n"
+    ++ codes "L 110,1 miss eviction\nL 210,1 miss eviction\nM 12,1 miss eviction hit\n"
+    ++ codes "hits:4 misses:5 evictions:3\n"
 unfolding digits counts window occurrences_after distinct distinct_of_set lines_after
 handout_example = refl
 
@@ -64,8 +64,8 @@ zero_is_one_digit = refl
 -- a log of Valgrind's tool lackey, with its messages
 abbrev valgrind : List ℕ
 valgrind =
-    codes
-    "==1234== Lackey, an example Valgrind tool\nI  0023C790,2\n S BE80199C,4\n\n--1234-- note\n M 0025747C,1\n*end\n"
+    codes "==1234== Lackey, an example Valgrind tool\nI  0023C790,2\n S BE80199C,4\n\n"
+    ++ codes "--1234-- note\n M 0025747C,1\n*end\n"
 
 lackey_log : csim_text (geometry_value 0 1 4) true valgrind ≡ codes
     "S be80199c,4 miss\nM 25747c,1 miss eviction hit\nhits:1 misses:2 evictions:1\n"
@@ -94,28 +94,27 @@ abbrev two : PlannedCache
 two = level 2 Lru
 
 written_block_is_copied_back : din_text (unified one None) 42 Din (codes "1 0\n0 10\n")
-    ≡ codes
-    "l1-u fetches=0 fetch-misses=0 reads=1 read-misses=1 writes=1 write-misses=1 evictions=1 copybacks=1\nmemory reads=2 writes=1\nbypassed=0\n"
+    ≡ codes "l1-u fetches=0 fetch-misses=0 reads=1 read-misses=1 "
+    ++ codes "writes=1 write-misses=1 evictions=1 copybacks=1\n"
+    ++ codes "memory reads=2 writes=1\nbypassed=0\n"
 unfolding digits
 written_block_is_copied_back = refl
 
 second_level_hits : din_text (unified one (Some two)) 42 Din (codes "0 0\n0 10\n0 0\n")
-    ≡ codes
-    "l1-u fetches=0 fetch-misses=0 reads=3 read-misses=3 writes=0 write-misses=0 evictions=2 copybacks=0\n"
-    ++
-    codes
-    "l2-u fetches=0 fetch-misses=0 reads=3 read-misses=2 writes=0 write-misses=0 evictions=0 copybacks=0\n"
+    ≡ codes "l1-u fetches=0 fetch-misses=0 reads=3 read-misses=3 "
+    ++ codes "writes=0 write-misses=0 evictions=2 copybacks=0\n"
+    ++ codes "l2-u fetches=0 fetch-misses=0 reads=3 read-misses=2 "
+    ++ codes "writes=0 write-misses=0 evictions=0 copybacks=0\n"
     ++ codes "memory reads=2 writes=0\nbypassed=0\n"
 unfolding digits
 second_level_hits = refl
 
 split_first_level : din_text (record { i = Some one; d = Some one; u = None; second = None }) 42 Din
     (codes "2 0\n1 0\n2 4\n")
-    ≡ codes
-    "l1-i fetches=2 fetch-misses=1 reads=0 read-misses=0 writes=0 write-misses=0 evictions=0 copybacks=0\n"
-    ++
-    codes
-    "l1-d fetches=0 fetch-misses=0 reads=0 read-misses=0 writes=1 write-misses=1 evictions=0 copybacks=0\n"
+    ≡ codes "l1-i fetches=2 fetch-misses=1 reads=0 read-misses=0 "
+    ++ codes "writes=0 write-misses=0 evictions=0 copybacks=0\n"
+    ++ codes "l1-d fetches=0 fetch-misses=0 reads=0 read-misses=0 "
+    ++ codes "writes=1 write-misses=1 evictions=0 copybacks=0\n"
     ++ codes "memory reads=2 writes=0\nbypassed=0\n"
 unfolding digits
 split_first_level = refl
@@ -125,8 +124,9 @@ abbrev six : List ℕ
 six = codes "0 10\n0 20\n0 30\n0 10\n0 20\n0 10\n"
 
 oldest_block_leaves : din_text (unified (level 2 Fifo) None) 42 Din six
-    ≡ codes
-    "l1-u fetches=0 fetch-misses=0 reads=6 read-misses=5 writes=0 write-misses=0 evictions=3 copybacks=0\nmemory reads=5 writes=0\nbypassed=0\n"
+    ≡ codes "l1-u fetches=0 fetch-misses=0 reads=6 read-misses=5 "
+    ++ codes "writes=0 write-misses=0 evictions=3 copybacks=0\n"
+    ++ codes "memory reads=5 writes=0\nbypassed=0\n"
 unfolding digits
 oldest_block_leaves = refl
 

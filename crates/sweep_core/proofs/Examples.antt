@@ -84,8 +84,8 @@ one b s e z = sweep (ranges (b, b) (s, s) (e, e) (z, z) false)
 -- a lackey log
 abbrev log : List ℕ
 log =
-    codes
-    "==1234== Lackey, an example Valgrind tool\nI  0023C790,2\n S BE80199C,4\n\n--1234-- note\n M 0025747C,1\n*end\n"
+    codes "==1234== Lackey, an example Valgrind tool\nI  0023C790,2\n S BE80199C,4\n\n"
+    ++ codes "--1234-- note\n M 0025747C,1\n*end\n"
 
 abbrev of_log : Kind → Request
 of_log kind = record (one 16 1 1 16) { kind = kind; format = Lackey }
