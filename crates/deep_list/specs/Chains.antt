@@ -43,7 +43,7 @@ with_slot v s k = record {
       slice_set v.next s (slice_index v.heads k);
 }
 
--- with empty chains
+-- as many chains and slots, with all chains empty
 abbrev pub empty_chains : ChainsValue → ChainsValue
 empty_chains v = record v { heads = replicate (length v.heads) (length v.next) }
 

@@ -10,11 +10,11 @@ use Rattle.deep_list.specs.Chains.{ChainsValue, AreChains, AreFiled}
 abbrev pub index_of_block : ℕ → List ℕ → ℕ
 index_of_block x xs = position_or_len (λ y. y == x) xs
 
--- whether x stands in a list
+-- whether x is in a list
 abbrev pub has_block : ℕ → List ℕ → Bool
 has_block x xs = list_any (λ y. y == x) xs
 
--- where x stands in a list
+-- the place of x in a list, if it is there
 abbrev pub place_of : ℕ → List ℕ → Option ℕ
 place_of x xs = if has_block x xs then Some (index_of_block x xs) else None
 

@@ -1,5 +1,5 @@
-//! Chains of slots, by which the slot of a block is found. A chain may lead over slots that are no
-//! longer live; that a live slot isn't on the chain of its block is never so.
+//! Chains of slots, by which the slot of a block is found. Each live slot is on the chain of its
+//! block. A chain may also have slots that are no longer live.
 ghost use Rattle.std.specs.Prelude.{◌≡◌, ◌<◌, ◌≤◌, ◌^◌, length, replicate};
 ghost use Rattle.std.specs.Prelude.{IfOk, MatchOption};
 ghost use Rattle.deep_list.specs.Slots.{IsAt, NoneHas};

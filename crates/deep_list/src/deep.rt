@@ -1,6 +1,5 @@
-//! A list of different blocks, the most recent first. A block is looked up by a table, and where it
-//! stands is counted by flags and counts (Bennett and Kruskal 1975): both without a walk over the
-//! list.
+//! A list of different blocks, the most recent first. A table finds a block, and flags and counts
+//! tell its place in the list (Bennett and Kruskal 1975), both without a walk over the list.
 ghost use Rattle.std.specs.Prelude.{◌≡◌, ◌+◌, ◌-◌, ◌<◌, ◌≤◌, ◌^◌, ◌≢◌, ℕ, false, [], ◌∷◌, length};
 ghost use Rattle.std.specs.Prelude.{sum, take, IfOk, MatchOption, slice_index};
 ghost use Rattle.deep_list.specs.Slots.{SlotsValue, AreFlags, slots_with_block, slots_without};
@@ -58,15 +57,15 @@ impl DeepList {
         })
     }
 
-    /// How many blocks stand in the list.
+    /// How many blocks the list has.
     pub fn len(&self) -> usize
         ensures { result ≡ length self.now.blocks }
     {
         self.held
     }
 
-    /// Takes a block out of the list, wherever it is, and puts another in front. If the list is
-    /// full, its last block falls out. Returns where the first block stood.
+    /// Takes a block out of the list, if it is there, and puts another in front. If the list is
+    /// full, its last block falls out. Returns the place where the first block was.
     pub fn exchange(&mut self, wanted: u64, given: u64) -> Option<usize>
         requires { has_block given self.old.blocks ≡ false }
         ensures found { result ≡ place_of wanted self.old.blocks }
@@ -78,7 +77,7 @@ impl DeepList {
         place
     }
 
-    /// Takes a block out of the list. Returns where it stood.
+    /// Takes a block out of the list, if it is there. Returns the place where it was.
     fn take_out(&mut self, block: u64) -> Option<usize>
         ensures found { result ≡ place_of block self.old.blocks }
         ensures moved { self.new ≡ without_block self.old block }
@@ -137,7 +136,7 @@ impl DeepList {
         self.held += 1;
     }
 
-    /// Empties the list. It goes over the slots that were taken since it was empty.
+    /// Empties the list. It visits the slots that were used since the list was last empty.
     pub fn clear(&mut self)
         ensures { self.new ≡ record self.old { blocks = [] } }
     {
@@ -164,7 +163,7 @@ fn last_live(slots: &Slots, end: usize) -> Option<usize>
     None
 }
 
-/// Sees to it that a slot before the live ones is free, by moving them if there is none.
+/// Makes sure that a slot before the live ones is free: if there is none, moves these to the end.
 fn make_room(slots: &mut Slots, chains: &mut Chains, span: Span) -> Span
     requires ranked { IsRanked span.top span.end slots.old chains.old }
     requires room { sum slots.old.live < length slots.old.live }
@@ -203,7 +202,7 @@ fn gather(slots: &mut Slots) -> usize
     to
 }
 
-/// Moves a live slot to a later one, with no live one in between.
+/// Moves the block of a live slot to a later slot. No slot in between is live.
 fn shift(slots: &mut Slots, from: usize, to: usize)
     requires order { from ≤ to }
     requires within { to < length slots.old.live }
@@ -218,7 +217,8 @@ fn shift(slots: &mut Slots, from: usize, to: usize)
     slots.fill(to, block);
 }
 
-/// Puts all live slots anew on the chains of their blocks: these are all from `top` on.
+/// Makes the chains anew, with each live slot on the chain of its block. The live slots are all
+/// those from `top` on.
 fn file_all(chains: &mut Chains, slots: &Slots, top: usize)
     requires chains { AreChains 0 (length slots.now.live) chains.old }
     requires small { length slots.now.live ≤ 2 ^ 24 }

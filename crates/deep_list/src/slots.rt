@@ -120,8 +120,8 @@ impl Slots {
         self.counts[slot / CHUNK] -= 1;
     }
 
-    /// The live slot that has a block, by a walk over the slots from one on and before an end,
-    /// where it is, if it is anywhere.
+    /// The live slot that has a block, if there is one. It walks over the slots from `from` on and
+    /// before `end`, outside which there must be none.
     #[inline(never)]
     pub fn search(&self, from: usize, end: usize, block: u64) -> Option<usize>
         requires end { end ≤ length self.now.live }
