@@ -91,8 +91,8 @@ impl<P: Replacement> CacheSets<P> {
         })
     }
 
-    /// Makes one access, whose block has this index in its set, if it is there. Also returns the
-    /// index at which the block was placed, if it was.
+    /// Makes one access. `at` is the index of its block in its set, if the set has it. Also returns
+    /// the index at which the block was placed, if it was.
     #[inline(always)]
     pub(crate) fn access_at(
         &mut self,
@@ -172,9 +172,9 @@ fn segment<'a>(design: Design, slots: &'a [Slot], filled: &[u32], reference: Ref
     &slots[start..start + held]
 }
 
-/// Makes one access in the slab of all sets. Its block has this index in its set, if it is there. A
-/// set that gets its first block is listed. Also returns the index at which the block was placed,
-/// if it was.
+/// Makes one access in the slab of all sets. `at` is the index of its block in its set, if the set
+/// has it. A set that gets its first block is listed. Also returns the index at which the block was
+/// placed, if it was.
 #[inline(always)]
 fn visit_slab<P: Replacement>(
     design: Design,

@@ -12,8 +12,9 @@ use crate::outcome::{Outcome, Slot};
 use crate::replacement::Replacement;
 use trace_core::Ref;
 
-/// One access, in the slots of its set, where the index of its block is known. Also returns how
-/// many of them are filled then, and the index of the slot that is placed, if one is.
+/// Makes one access in the slots of its set. `at` is the index of its block there, if the set has
+/// it. Also returns how many slots are filled afterwards, and the index at which the block was
+/// placed, if it was.
 #[inline(always)]
 pub(crate) fn visit<P: Replacement>(
     design: Design,
@@ -67,7 +68,7 @@ fn use_slot<P: Replacement>(policy: &mut P, slots: &mut [Slot], at: usize, dirty
     policy.touch(slots, at);
 }
 
-/// Whether a block is that of the first slot.
+/// Whether the first slot holds this block.
 #[inline(always)]
 pub(crate) fn is_in_front(slots: &[Slot], block: u64) -> bool
     ensures { IsTrue result ↔ (position_of block slots.now ≡ Some 0) }

@@ -61,7 +61,7 @@ sum_by-map f g (x ∷ xs) = omega (
 looks_back : (g : GeometryValue) (p : Occurrence) → Finds g 0 p []
 looks_back g p = finds g 0 p [] refl
 
--- whether e lines a set are a hit there, and an eviction
+-- whether a cache of e lines per set hits there, and whether it evicts
 abbrev pub hit_at : GeometryValue → ℕ → Occurrence → Bool
 hit_at g e p = has_last p && ltb (distance g p) e
 
@@ -213,7 +213,7 @@ at_most : (g : GeometryValue) (p : Occurrence) → cond (is_hit g p) (distance g
     (min (blocks_seen g p) g.e) ≤ g.e
 at_most g p = few (has_last p) (ltb (distance g p) g.e) (distance g p) (blocks_seen g p) g.e refl
 
--- at most g.e comparisons a reference
+-- at most g.e comparisons per reference
 pub probes_at_most : (g : GeometryValue) (es : List Event) →
     probes g es ≤ length (occurrences g es) * g.e
 unfolding probes

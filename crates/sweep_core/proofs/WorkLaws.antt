@@ -101,7 +101,7 @@ occurrences-length g before (event.Reference r ∷ es) =
 occurrences-length g before (event.Flush ∷ es) =
     occurrences-length g (before ++ event.Flush ∷ []) es
 
--- at most so many comparisons a reference as its profile is deep
+-- at most as many comparisons per reference as its profile is deep
 pub work-most : (es : List Event) (all rows : List Config) →
     ((g : GeometryValue) → probes g es ≤ length (occurrences g es) * g.e)
     → work es all rows ≤ length (references_in es) * total_depth all rows
