@@ -1,11 +1,12 @@
 """What the tests of the tools for the cache lab share."""
 
 import contextlib
+import importlib
 import os
 import pathlib
 import shutil
-import signal
 import subprocess
+import sys
 import tempfile
 
 import base
@@ -14,6 +15,8 @@ from base import TOOLS, TOP, ToolTest
 comes = base.comes
 LAB = TOOLS / "lab"
 STUDENTS = TOP / "tests/tools/lab"
+sys.path.append(str(LAB))
+traces = importlib.import_module("parts.traces")
 
 
 def is_running(program):
@@ -34,34 +37,6 @@ class LabTest(ToolTest):
         self.private = self.folder / "private"
         self.private.mkdir()
 
-    def leaves_nothing(self, *arguments, stdin=b""):
-        """Interrupts a tool, as the keyboard does, once it has begun to write: no files stay."""
-        env = {**os.environ, "TMPDIR": str(self.private)}
-        given = {"env": env, "cwd": self.folder, "start_new_session": True}
-        pipes = {"stdin": subprocess.PIPE, "stdout": subprocess.PIPE, "stderr": subprocess.DEVNULL}
-        for number in (signal.SIGINT, signal.SIGTERM):
-            tool = subprocess.Popen(arguments, **given, **pipes)
-            try:
-                tool.stdin.write(stdin)
-                tool.stdin.flush()
-                self.assertTrue(tool.stdout.read(1))
-                os.killpg(tool.pid, number)
-                self.assertEqual(tool.wait(20), -number)
-            finally:
-                with contextlib.suppress(ProcessLookupError):
-                    os.killpg(tool.pid, signal.SIGKILL)
-                tool.communicate()
-            self.assertEqual(list(self.private.iterdir()), [])
-
-    def without_a_reader(self, *arguments):
-        """The message and the status of a tool whose output goes to a pipe that nobody reads."""
-        reader, writer = os.pipe()
-        os.close(reader)
-        given = {"stderr": subprocess.PIPE, "cwd": self.folder, "text": True, "timeout": 60}
-        ran = subprocess.run(arguments, stdout=writer, **given)
-        os.close(writer)
-        return ran.stderr, ran.returncode
-
 
 class StudentTest(LabTest):
     """A test with students' programs."""
@@ -71,10 +46,10 @@ class StudentTest(LabTest):
         cls.programs = pathlib.Path(tempfile.mkdtemp(prefix="cachesim-students-"))
         cls.addClassCleanup(shutil.rmtree, cls.programs)
 
-    def student(self, *mistakes, source="student.c"):
+    def student(self, *mistakes):
         """A student's program with these mistakes, compiled once."""
         program = self.programs / ("-".join(mistakes) or "right")
         if not program.exists():
             flags = ["-O1", "-Wall", "-Wextra", "-Werror", *(f"-D{name}" for name in mistakes)]
-            subprocess.run(["cc", *flags, "-o", program, STUDENTS / source], check=True)
+            subprocess.run(["cc", *flags, "-o", program, STUDENTS / "student.c"], check=True)
         return program

@@ -242,7 +242,7 @@ class OfTheTools(Offered):
         }.items():
             name, *words = words.split(" ")
             self.assertEqual(self.offered(*words, command=f"cachesim-{name}"), wanted)
-        for name in ("grade", "lab-csim", "lab-trace"):
+        for name in ("grade", "lab-trace"):
             self.assertIn("--help", self.offered("-", command=f"cachesim-{name}"))
 
     def by_fish(self, line, before=""):

@@ -29,7 +29,6 @@ RUNS = {
     "by-line names": ["lines.din", *CACHE, "--program", "traced", "--callgrind", "counts"],
     "by-page": ["INPUT", *CACHE],
     "din-table": ["2", "INPUT", *CACHE[:2], "-l1-dbsize", "16,32"],
-    "lab/lab-csim": "-s 1 -E 2 -b 4 -t handout.lackey".split(),
     "lab/lab-trace": ["./program"],
     "lab/replay": "-s 1 -E 2 -b 4 -t handout.lackey --text".split(),
     "over-time": ["INPUT", *CACHE, "--each", "50"],

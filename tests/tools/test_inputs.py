@@ -29,7 +29,6 @@ LAB = "-s 1 -E 2 -b 4 -t FILE".split()
 OF_A_FILE = {
     "lab/grade": ("l", ["/bin/true", "FILE"]),
     "lab/grade-class": ("l", ["--trace", "FILE", "."]),
-    "lab/lab-csim": ("l", LAB),
     "lab/lab-transpose": ("int x;\n", ["FILE"]),
     "lab/replay": ("l", [*LAB, "--text"]),
 }
@@ -68,7 +67,7 @@ class StandardOutput(InputTest):
 
     def test_by_another_name(self):
         """A link, and the name of a descriptor."""
-        for tool in ("lab/lab-csim", "sweep-parallel"):
+        for tool in ("lab/replay", "sweep-parallel"):
             form, words = {**READERS, **OF_A_FILE}[tool]
             for name in ("link", "/dev/stdin"):
                 with self.subTest(tool=tool, name=name):

@@ -211,7 +211,6 @@ class Installed(ToolTest):
 
     def test_tools_find_the_program_beside_them(self):
         """Below a folder that is not on the path, before another program of its name that is."""
-        lab = installed() / "lib/cachesim/lab"
         space = ("--bsize", "16", "--sets", "1-4", "--assoc", "1-2", "--size", "0-1k")
         din, lackey = TOP / "examples/sort.din", TOP / "examples/blocks.lackey"
         self.executable("cachesim", "exit 9")
@@ -220,21 +219,21 @@ class Installed(ToolTest):
         one = "--pow2 --bsize 16 --sets 1 --assoc 1-4 --size 0-1k".split()
         swept = self.run_command(PROGRAM, "sweep", *space, "-t", din).stdout.decode()
         shown = self.run_tool("lab/replay", *replayed).stdout.decode()
-        grade, right = "lib/cachesim/lab/grade", "15 of 15 right\n"
+        csim, judged = TOP / "tests/tools/lab/csim.py", "15 of 15 right\n"
+        note = "note: no .csim_results was written; the lab's printSummary would have done so\n"
         for arguments, text in (
             (("bin/cachesim-sweep-parallel", 2, din, *space), swept),
             (("bin/cachesim-pages", 1, *one), " ".join([*one, "--rows", "3\n"])),
             (("bin/cachesim-replay", *replayed), shown),
-            (("bin/cachesim-grade", lab / "lab-csim", lackey), right),
-            ((grade, installed() / "bin/cachesim-lab-csim", lackey), right),
+            (("bin/cachesim-grade", csim, lackey), note + judged),
+            (("lib/cachesim/lab/grade", csim, lackey), note + judged),
         ):
             ran = self.run_command(installed() / arguments[0], *arguments[1:], env=env)
             self.ends(ran, 0, "", text)
 
     def test_tools_are_named_as_they_are_called(self):
-        """In what grade says of a wrong program, on the traces of hard-traces."""
+        """In what grade says of a wrong program."""
         wrong = self.executable("wrong", "echo L 0,1 hit", "echo hits:0 misses:0 evictions:0")
         ran = self.run_command(installed() / "lib/cachesim/lab/grade", wrong)
         self.assertEqual((ran.returncode, ran.stderr), (1, b""))
         self.assertIn(b"\n    see cachesim-replay -s ", ran.stdout)
-        self.assertIn(b"\nnote: 'cachesim-hard-traces .' writes the traces", ran.stdout)

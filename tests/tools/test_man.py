@@ -46,7 +46,7 @@ class Page(ToolTest):
         for command in ("sweep", "csim", "din", "log"):
             self.assertIn(f"       cachesim {command} [OPTIONS]", synopsis)
         self.assertIn("       cachesim csim [OPTIONS] -s N -E N -b N -t FILE", lines)
-        for tool in ("best", "grade", "lab-csim", "lab-trace"):
+        for tool in ("best", "grade", "lab-trace"):
             self.assertIn(f"cachesim-{tool}(1)", "\n".join(lines[lines.index("SEE ALSO"):]))
         self.assertRegex((self.folder / "cachesim.1").read_text(), r"\ncachesim \\- simulates ")
 

@@ -14,7 +14,6 @@ RUNS = {
     "best": (["table.csv", "--rows", "99"], 0, 1),
     "lab/grade": (["students/ann/csim", "yi.trace", "--geometry", "1,1,4", "--all"], 1, 2),
     "lab/grade-class": (["--geometry", "1,1,4", "--trace", "yi.trace", "students/ann"], 0, 2),
-    "lab/hard-traces": (["hard"], 0, 1),
     "lab/replay": ("-s 1 -E 2 -b 4 -t yi.trace".split(), 0, 1),
     "pages": (["2", *SPACE], 0, 1),
     "plot": (["--script", "table.csv", "a.svg"], 0, 1),

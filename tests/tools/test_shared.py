@@ -178,7 +178,7 @@ class Program(Shared):
         lackey = EXAMPLES / "blocks.lackey"
         calls = [self.reading(tool, "trace") for tool in (*JOINING, "sweep-parallel")]
         calls += [[TOOLS / "pages", "2", *SPACE], [TOOLS / "lab/grade", "/bin/true", lackey],
-                  [TOOLS / "lab/lab-csim", *"-s 1 -E 1 -b 4 -t".split(), lackey]]
+                  [TOOLS / "lab/replay", *"-s 1 -E 1 -b 4 -t".split(), lackey]]
         for program, (tool, *words) in itertools.product(("/bin/true", str(other)), calls):
             ran = self.run_command(tool, *words, env={"CACHESIM": program})
             self.assertEqual(ran.returncode, 2 if tool.name == "grade" else 1, tool)

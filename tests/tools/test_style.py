@@ -11,8 +11,6 @@ import base
 
 # they pass on the status of the program that they trace
 WRONG_ARGUMENTS = {"trace": 125, "lab/lab-trace": 125}
-# the program judges all of its arguments
-FAULTS_OF_THE_PROGRAM = {"lab/lab-csim": r"cachesim: (.*\n)+"}
 
 
 def scripts():
@@ -60,7 +58,6 @@ class Tools(base.ToolTest):
                 name, path = os.path.basename(tool), os.path.relpath(tool, base.TOOLS)
                 self.assertEqual(ran.returncode, WRONG_ARGUMENTS.get(path, 2))
                 fault = rf"{name}: .*; '{name} --help' explains the arguments\n"
-                fault = FAULTS_OF_THE_PROGRAM.get(path, fault)
                 self.assertRegex(ran.stderr.decode(), rf"\A{fault}\Z")
                 # what writes a trace ends it in a line that no simulator takes
                 self.assertRegex(ran.stdout.decode(), rf"\A({name}( failed)?: .*\n)?\Z")

@@ -5,9 +5,6 @@ from dataclasses import dataclass
 from typing import Callable, NamedTuple, Optional
 
 MOST = 200000  # accesses: longer traces are not looked at
-# what may have too few bits, and the numbers of bits that are usual: of types of C, and of the
-# addresses of x86-64
-WIDTHS = {"address_bits": ("addresses", (32, 48)), "tag_bits": ("tags", (8, 16, 32))}
 
 
 class Access(NamedTuple):
@@ -24,11 +21,9 @@ class Habits:
     """How a simulator works. As it stands it is right."""
 
     evicts: str = "used"  # the block used first, or that which came first, was used last, ..
-    fresh: int = 1  # the reference bit of a new block
     address_bits: int = 64
     tag_bits: int = 64
     clock_bits: int = 64
-    has_signed_clock: bool = False
     ticks: str = ""  # the clock stands at a hit, and at a miss goes on "before" or "after" its use
     is_signed: bool = False
     kinds: str = "LSM"
@@ -40,7 +35,6 @@ class Habits:
     crosses: bool = False  # an access touches the block of its last byte too
     is_valid: bool = True  # whether a line's valid bit is looked at
     ways: Optional[int] = None  # a set has at most so many lines
-    apart: Optional[int] = None  # the array has so many lines for a set; more run into the next
     is_early: bool = False  # a set's last free line counts as an eviction when it is filled
     by_size: bool = False  # evictions are the misses less the lines of all sets
     taken: Callable = lambda accesses: accesses
@@ -74,10 +68,7 @@ def of_blocks(bits):
             "tag_of": lambda address, s, b: address >> s + bits}
 
 
-# the usual ones of widths: what is said of them, and how a program differs from a right one
-OF_WIDTH = {f"{what} have only {bits} bits": {habit: bits}
-            for habit, (what, usual) in WIDTHS.items() for bits in usual}
-# the same of all mistakes
+# what is said of each, and how such a program differs from a right one
 MISTAKES = {
     "a hit does not count as a use of its block (FIFO)": {"evicts": "came"},
     "the block used last is evicted (MRU)": {"evicts": "latest"},
@@ -95,22 +86,14 @@ MISTAKES = {
     "M is ignored": {"kinds": "LS"},
     "S is ignored": {"kinds": "LM"},
     "I lines count as accesses": {"kinds": "LSMI"},
-    **OF_WIDTH,
+    "addresses have only about 32 bits": {"address_bits": 32},
+    "addresses have only about 48 bits": {"address_bits": 48},
+    "tags have only about 8 bits": {"tag_bits": 8},
+    "tags have only about 16 bits": {"tag_bits": 16},
+    "tags have only about 32 bits": {"tag_bits": 32},
     "addresses are signed, and cut at 7fffffffffffffff": {"is_signed": True},
     "the clock of LRU has only 8 bits": {"clock_bits": 8},
     "the clock of LRU has only 16 bits": {"clock_bits": 16},
-    "the clock of LRU is signed and has only 8 bits": {
-        "clock_bits": 8, "has_signed_clock": True},
-    "the clock of LRU is signed and has only 16 bits": {
-        "clock_bits": 16, "has_signed_clock": True},
-    "the first block with a clear reference bit is evicted, and where there is none all bits are "
-    "cleared (NRU)": {"evicts": "clear"},
-    "the first block with a clear reference bit is evicted, and the others are cleared once all "
-    "are set (NRU)": {"evicts": "clear", "fresh": 2},
-    "a block that was used gets a second chance (the clock algorithm)": {"evicts": "chance"},
-    "a block that was used since it came gets a second chance (the clock algorithm)": {
-        "evicts": "chance", "fresh": 0},
-    "one pointer goes round the lines of all sets": {"evicts": "turn"},
     "a hit does not advance the clock of LRU": {"ticks": "before"},
     "a hit does not advance the clock of LRU, and a miss does once its block is in": {
         "ticks": "after"},
@@ -121,10 +104,6 @@ MISTAKES = {
     "a set has at most 16 lines": {"ways": 16},
     "a set has at most 32 lines": {"ways": 32},
     "a set has at most 64 lines": {"ways": 64},
-    "the array has 8 lines for a set, and more run into the next set": {"apart": 8},
-    "the array has 16 lines for a set, and more run into the next set": {"apart": 16},
-    "the array has 32 lines for a set, and more run into the next set": {"apart": 32},
-    "the array has 64 lines for a set, and more run into the next set": {"apart": 64},
     "a line of the trace is read into 12 bytes, and long addresses are cut": {"taken": cut(11)},
     "a line of the trace is read into 16 bytes, and long addresses are cut": {"taken": cut(15)},
     "a line of the trace is read into 16 bytes, and longer ones are lost": {"taken": lost(15)},
@@ -188,10 +167,10 @@ MISTAKES = {
 class Line:
     """A block in a line of a set."""
 
-    __slots__ = ("used", "came", "uses", "place", "bit")
+    __slots__ = ("used", "came", "uses", "place")
 
-    def __init__(self, used, came, place, bit):
-        self.used, self.came, self.uses, self.place, self.bit = used, came, 1, place, bit
+    def __init__(self, used, came, place):
+        self.used, self.came, self.uses, self.place = used, came, 1, place
 
 
 # the block with the least of these is evicted
@@ -213,7 +192,7 @@ class Cache:
         if habits.swaps:
             self.set_bits, self.block_bits = block_bits, set_bits
         self.ways, self.habits = min(ways, habits.ways or ways), habits
-        self.sets, self.now, self.hands = {}, 0, {}
+        self.sets, self.now = {}, 0
         self.hits = self.misses = self.evictions = 0
 
     def touch(self, kind, address):
@@ -233,100 +212,37 @@ class Cache:
             if line:
                 line.uses += 1
                 line.used = line.used if kind in habits.no_use else self.now
-                self.mark(lines, line)
             return "hit"
         self.misses += 1
         if habits.ticks == "before":
             self.tick()
         before = self.evictions
         if not (habits.passes and kind == "S"):
-            self.bring(index, lines, tag)
+            self.bring(lines, tag)
         if habits.ticks == "after":
             self.tick()
         return "miss" if self.evictions == before else "eviction"
 
     def tick(self):
-        bits = self.habits.clock_bits
-        now = self.now + 1 & (1 << bits) - 1
-        self.now = now - (1 << bits) if self.habits.has_signed_clock and now >> bits - 1 else now
+        self.now = self.now + 1 & (1 << self.habits.clock_bits) - 1
 
-    def bring(self, index, lines, tag):
+    def bring(self, lines, tag):
         """Brings a block in, and evicts one where the set is full."""
         place = len(lines)
         if place >= self.ways:
             self.evictions += 1
-            place = lines.pop(self.victim(index, lines)).place
+            key = KEYS[self.habits.evicts]
+            place = lines.pop(min(lines, key=lambda tag: key(lines[tag]))).place
         elif place == self.ways - 1:
             self.evictions += self.habits.is_early
         used = 0 if self.habits.is_old else self.now
-        lines[tag] = Line(used, self.misses, place, self.habits.fresh > 0)
-        self.mark(lines, lines[tag], self.habits.fresh)
-
-    def mark(self, lines, line, bit=1):
-        """Sets the reference bit of a block."""
-        line.bit = bit > 0
-        all_are = len(lines) == self.ways and all(one.bit for one in lines.values())
-        if self.habits.fresh == 2 and all_are:
-            for one in lines.values():
-                one.bit = one is line
-
-    def victim(self, index, lines):
-        """The tag of the block that is evicted."""
-        if self.habits.evicts in KEYS:
-            key = KEYS[self.habits.evicts]
-            return min(lines, key=lambda tag: key(lines[tag]))
-        tags = sorted(lines, key=lambda tag: lines[tag].place)
-        if self.habits.evicts == "turn":
-            self.hands[0] = self.hands.get(0, -1) + 1
-            return tags[self.hands[0] % self.ways]
-        held = [lines[tag] for tag in tags]
-        return tags[self.first_clear(held) if self.habits.evicts == "clear"
-                    else self.second_chance(index, held)]
-
-    def first_clear(self, held):
-        """The place of the first block with a clear bit. Where all are set, they are cleared."""
-        if all(line.bit for line in held):
-            for line in held:
-                line.bit = False
-        return next(line.place for line in held if not line.bit)
-
-    def second_chance(self, index, held):
-        """The place of the first block from the hand on with a clear bit; those before lose it."""
-        hand = self.hands.get(index, 0)
-        while held[hand].bit:
-            held[hand].bit = False
-            hand = (hand + 1) % self.ways
-        self.hands[index] = (hand + 1) % self.ways
-        return hand
-
-
-class Overlapping(Cache):
-    """A cache whose array has fewer lines for a set than there are, so that sets share some."""
-
-    def touch(self, kind, address):
-        """The same, without the other habits."""
-        self.now += 1
-        index = self.habits.set_of(address, self.set_bits, self.block_bits)
-        tag = self.habits.tag_of(address, self.set_bits, self.block_bits)
-        places = range(index * self.habits.apart, index * self.habits.apart + self.ways)
-        place = next((at for at in places if self.sets.get(at, (None,))[0] == tag), None)
-        if place is None:
-            self.misses += 1
-            place = next((at for at in places if at not in self.sets), None)
-        else:
-            self.hits += 1
-        if place is None:
-            self.evictions += 1
-            place = min(places, key=lambda at: self.sets[at][1])
-        self.sets[place] = (tag, self.now)
-        return "hit"
+        lines[tag] = Line(used, self.misses, place)
 
 
 def counts(accesses, cache, habits):
     """The numbers of hits, misses and evictions, as a simulator with these habits tells them."""
     set_bits, ways, block_bits = cache
-    is_overlapping = habits.apart is not None and ways > habits.apart
-    made = (Overlapping if is_overlapping else Cache)(set_bits, ways, block_bits, habits)
+    made = Cache(set_bits, ways, block_bits, habits)
     for kind, address, size, _ in habits.taken(accesses):
         if kind not in habits.kinds:
             continue

@@ -3,12 +3,10 @@ around it. At the end what else the tools that run programs share: a private fol
 arguments."""
 
 import contextlib
-import ctypes
 import os
 import pathlib
 import re
 import resource
-import select
 import shutil
 import signal
 import subprocess
@@ -16,12 +14,12 @@ import sys
 import tempfile
 from typing import NamedTuple, Optional
 
+from lib import processes
 from lib.signals import heed_stops, put_off_stops, stop_at_signals
 from parts import tool
 
 LEAST_LIMIT = 64 << 20
 TAIL = 1 << 20
-PR_SET_CHILD_SUBREAPER = 36
 # What a confined program sees beside its own folder: enough for any language that Debian packages.
 SYSTEM = "/usr /bin /sbin /lib /lib32 /lib64 /libx32 /etc/alternatives /etc/ld.so.cache".split()
 PATH = "/usr/local/bin:/usr/bin:/bin"
@@ -66,8 +64,6 @@ class Student:
         self.program, self.folder = without_links(program), pathlib.Path(folder)
         self.around, self.seconds = around or (lambda room: []), seconds
         self.few_seconds, self.slow_runs = min(seconds, max(1, seconds / 10)), 0
-        # what it leaves behind becomes a child of this process
-        ctypes.CDLL(None).prctl(PR_SET_CHILD_SUBREAPER, 1, 0, 0, 0)
 
     def run(self, case, *flags, by_line=False, is_filled=True):
         """Runs the program on a case; by line, so that a crash loses none; with memory of malloc
@@ -83,8 +79,10 @@ class Student:
             before = ["stdbuf", "-oL"] if by_line else [] if is_filled else UNFILLED
             command = [*self.around(room), *before, self.program, *flags, *case.arguments(trace)]
             limit = max(LEAST_LIMIT, 16 * os.path.getsize(case.trace))
+            given = {"cwd": room, "env": environment()}
             with open(output, "wb") as out, open(messages, "wb") as err:
-                status = status_of(command, limit, seconds, cwd=room, stdout=out, stderr=err)
+                with Limited(command, limit, seconds, stdout=out, stderr=err, **given) as running:
+                    status = running.status()
             is_slow = status is None
             ran = Run(fault_of(status, messages, seconds), is_slow, is_slow or is_signal(status),
                       output, results_in(room))
@@ -94,24 +92,56 @@ class Student:
         return ran
 
 
-def status_of(command, limit, seconds, **given):
-    """The status of a run, or None where its time ran out. What it left behind is ended too."""
-    given.update(stdin=subprocess.DEVNULL, start_new_session=True, env=environment(),
-                 preexec_fn=lambda: bound(limit))
-    put_off_stops()  # else a signal could come before the process is known
-    process = subprocess.Popen(command, **given)
-    # process.wait(seconds) looks from time to time, and can keep its lock at a signal
-    watch = os.pidfd_open(process.pid)
-    try:
+class Limited:
+    """A run of a program, in a session of its own and with files up to a size. It is ended after
+    some seconds, and with this, at a fault and at a signal too, with what it left behind."""
+
+    def __init__(self, command, limit, seconds, **given):
+        self.command, self.given = command, {"stdin": subprocess.DEVNULL, **given}
+        self.limit, self.seconds, self.is_late = limit, seconds, False
+
+    def bound(self):
+        """Bounds the size of files, before the program begins; no core files."""
         heed_stops()
-        has_ended = select.select([watch], [], [], seconds)[0]
-    finally:
-        os.close(watch)
+        most = resource.getrlimit(resource.RLIMIT_FSIZE)[1]
+        resource.setrlimit(resource.RLIMIT_FSIZE, (self.limit, most))
+        resource.setrlimit(resource.RLIMIT_CORE, (0, 0))
+
+    def kill(self, *_):
         with contextlib.suppress(ProcessLookupError):
-            os.killpg(process.pid, signal.SIGKILL)
-        process.wait()
-        end_orphans()
-    return process.returncode if has_ended else None
+            os.killpg(self.process.pid, signal.SIGKILL)
+
+    def late(self, *_):
+        self.is_late = True
+        self.kill()
+
+    def __enter__(self):
+        processes.adopt_orphans()
+        signal.signal(signal.SIGALRM, self.late)
+        put_off_stops()  # else a signal could come before the process is known
+        self.process = subprocess.Popen(self.command, **self.given, start_new_session=True,
+                                        preexec_fn=self.bound)
+        signal.setitimer(signal.ITIMER_REAL, self.seconds)
+        try:
+            heed_stops()
+        except BaseException:
+            self.__exit__()
+            raise
+        return self
+
+    def __exit__(self, *_):
+        signal.setitimer(signal.ITIMER_REAL, 0)
+        self.kill()
+        self.process.wait()
+        if self.process.stdout:
+            self.process.stdout.close()
+        processes.end_orphans()
+
+    def status(self):
+        """The status at its end, or None where its time ran out."""
+        # process.wait can keep its lock at a signal
+        os.waitid(os.P_PID, self.process.pid, os.WEXITED | os.WNOWAIT)
+        return None if self.is_late else self.process.wait()
 
 
 def number_of(status):
@@ -135,32 +165,6 @@ def status_in_words(status):
     if not is_signal(status):
         return f"ended with status {status}"
     return f"ended by signal {number_of(status)}: {signal.strsignal(number_of(status))}"
-
-
-def bound(limit):
-    """Bounds the size of a student's files, before the process begins; no core files."""
-    heed_stops()
-    most = resource.getrlimit(resource.RLIMIT_FSIZE)[1]
-    resource.setrlimit(resource.RLIMIT_FSIZE, (limit, most))
-    resource.setrlimit(resource.RLIMIT_CORE, (0, 0))
-
-
-def children():
-    """The processes whose parent is this one."""
-    for process in pathlib.Path("/proc").glob("[0-9]*"):
-        with contextlib.suppress(OSError):
-            if int((process / "stat").read_bytes().rpartition(b")")[2].split()[1]) == os.getpid():
-                yield int(process.name)
-
-
-def end_orphans():
-    """Ends what a program left behind, in other sessions too: orphans are this one's children."""
-    with contextlib.suppress(ChildProcessError):  # none is left
-        while True:
-            if os.waitpid(-1, os.WNOHANG)[0] == 0:
-                for child in children():
-                    os.kill(child, signal.SIGKILL)
-                os.waitpid(-1, 0)
 
 
 def environment():
@@ -276,13 +280,6 @@ def in_private_folder(work):
     except OSError as fault:
         place = f"{fault.filename}: " if fault.filename else ""
         return tool.fail(f"{place}{fault.strerror}")
-
-
-def hard_traces(folder):
-    """Makes the traces by which to judge where none is named. Returns their names in the folder."""
-    maker = pathlib.Path(__file__).resolve().parents[1] / "hard-traces"
-    made = subprocess.run([maker, folder], stdout=subprocess.PIPE, text=True, check=False)
-    return made.stdout.split() if made.returncode == 0 else sys.exit(tool.failure)
 
 
 def geometry(text):

@@ -1,34 +1,7 @@
-#!/usr/bin/python3 -BES
-"""hard-traces FOLDER    writes the traces that grade uses if none is named
+"""The traces by which a student's program is judged where none is named, the same at each run. Each
+finds mistakes that others miss; `grade --help` tells which. The random ones come from Python's
+generator with fixed seeds. No access to data crosses a block of 8 bytes."""
 
-They are in the form of the CS:APP cache lab, and the same at each run. Each finds mistakes that
-others miss:
-
-    order.trace   24 lines by hand: which block is evicted after loads, stores and modifies; valid
-                  bits that are not looked at
-    mixed.trace   600 random accesses to few blocks, with fetches between them: what each letter
-                  does, which set a block has
-    wide.trace    300 random accesses to blocks whose addresses differ only above 32 bits:
-                  addresses, tags or lines that are cut
-    rows.trace    the data of examples/transpose.lackey, a matrix transposed row by row: a program's
-                  own accesses
-    blocks.trace  examples/blocks.lackey, the same in blocks of 8 by 8
-    long.trace    70,000 random accesses to few blocks: counters of 16 bits, and lists that are too
-                  short
-
-The random ones come from Python's generator with fixed seeds. No access to data crosses a block of
-8 bytes. The fetches of the random ones have a size of two digits.
-FOLDER is made if it is missing; files of these names in it are replaced. Standard output gets the
-names.
-
-Exit status: 0 done, 1 a file can't be written, 2 wrong arguments. Example:
-
-    tools/lab/hard-traces hard && wc hard/*.trace
-"""
-
-from parts import tool
-
-import pathlib
 import random
 
 # Each letter is a block. They share one set in every cache of grade; the first has tag 0 in most.
@@ -87,19 +60,11 @@ def traces():
     yield "long", at_random(3, 70000, (0x10000, 0x14000, 0x18000, 0x1C000))
 
 
-def main():
-    parser = tool.Arguments(__doc__, usage="hard-traces FOLDER")
-    parser.add_argument("folder", type=pathlib.Path, metavar="FOLDER")
-    folder, names = parser.parse_args().folder, []
-    try:
-        folder.mkdir(parents=True, exist_ok=True)
-        for name, lines in traces():
-            (folder / f"{name}.trace").write_text("".join(lines), encoding="ascii")
-            names.append(f"{name}.trace")
-    except OSError as fault:
-        tool.fail(f"{fault.filename or folder}: {fault.strerror}")
-    tool.write_lines(names)
-
-
-if __name__ == "__main__":
-    main()
+def write(folder):
+    """Writes them to a folder, and returns their names."""
+    folder.mkdir(parents=True, exist_ok=True)
+    names = []
+    for name, lines in traces():
+        names.append(f"{name}.trace")
+        (folder / names[-1]).write_text("".join(lines), encoding="ascii")
+    return names
