@@ -110,23 +110,17 @@ class Script(PlotTest):
 
     def test_what_is_fixed(self):
         data = self.data("--bsize", "16", "--ways=1", "eight.csv", "-")
-        self.assertEqual(data["size_1"], [[(32, 40), (64, 30)]])
-        self.assertEqual(data["size_2"], [[(64, 25), (128, 10)]])
-        self.assertEqual(data["block_1"], [[(16, 40), (32, 50)]])
-        self.assertEqual(data["block_2"], [[(16, 30), (32, 32)]])
+        del data["pareto_all"], data["pareto_labelled"], data["pareto_front"], data["pareto_steps"]
+        self.assertEqual(data, {
+            "size_1": [[(32, 40), (64, 30)]], "size_2": [[(64, 25), (128, 10)]],
+            "block_1": [[(16, 40), (32, 50)]], "block_2": [[(16, 30), (32, 32)]],
+        })
 
     def test_only(self):
         for name, title in zip(("size", "block", "pareto"), TITLES):
             script = self.script("--only", name, "eight.csv", "-")
             self.assertEqual({given.split("_")[0] for given in data_of(script)}, {name})
             self.assertEqual([given for given in TITLES if given in script], [title])
-
-    def test_64_bytes_and_4_ways_where_they_are(self):
-        space = "--bsize 32-128 --sets 1-4 --assoc 3-5 --size 1-8k".split()
-        self.write("t.csv", self.sweep(*space, "-t", base.EXAMPLES / "sort.din"))
-        script = self.script("t.csv", "-")
-        self.assertIn("blocks of 64 bytes'", script)
-        self.assertIn("Miss ratio by block size: 4 ways'", script)
 
     def test_the_nearest_by_ratio(self):
         """128 is twice 64, and 16 a quarter of it; 6 is once and a half 4, and 2 a half."""
@@ -203,50 +197,39 @@ class Script(PlotTest):
         gap = min(above - below for below, above in zip(places, places[1:]))
         self.assertGreater(height * gap / (measure(high) - measure(low)), closest)
 
-    def test_no_references(self):
-        self.write("t.csv", "64,1,1,64,0,0,0\n64,2,1,128,0,0,0\n")
-        self.assertIn("'empty (no references)'", self.script("--title", "empty", "t.csv", "a.png"))
-
-    def test_title_is_quoted(self):
+    def test_titles_and_names(self):
+        """A title is quoted, and told where there are no references; names have blanks and
+        dashes."""
         script = self.script("--title", "it's `a` \"b\" \\n \nc", "eight.csv", "a.svg")
         self.assertIn(r"""'it''s `a` "b" \n  c'""", script)
-
-    def test_names_with_blanks_and_dashes(self):
+        self.write("t.csv", "64,1,1,64,0,0,0\n64,2,1,128,0,0,0\n")
+        self.assertIn("'empty (no references)'", self.script("--title", "empty", "t.csv", "a.png"))
         self.write("-a table.csv", EIGHT)
         script = self.script("--", "-a table.csv", "-an out.png")
         self.assertEqual(script, self.script("eight.csv", "a.png"))
 
 
 class Refused(PlotTest):
-    def test_bad_tables(self):
-        for text, fault in (
-            (EIGHT + "16,2,1,33,60,40,38\n", "line 9: size is not bsize * sets * assoc"),
-            ("line\n", "line 1: no row of a sweep's table"),
-            (table.HEADER + "\n", "a table without a row"),
-            (EIGHT + "16,2,1,32,60,40,38\n", "two rows for the cache 16,2,1"),
-            (EIGHT + "64,2,1,128,60,41,38\n",
-             "100 references in the first row, 101 in that of 64,2,1"),
-            (EIGHT + "0,2,1,0,60,40,38\n", "0,2,1 is no cache of a sweep"),
-        ):
-            self.write("bad.csv", text)
-            ran = self.plot("bad.csv", "-", env=self.no_gnuplot())
-            self.refused(ran, 1, "plot: bad.csv: ", fault)
-
     def test_faults_of_the_run(self):
         self.write("bin.png", "")
         (self.folder / "folder.png").mkdir()
-        path = self.no_gnuplot()
         self.write("ways.csv", ways_of(range(1, 30)))
-        eight = "eight.csv: no cache has the"
+        self.write("two.csv", EIGHT + "64,2,1,128,60,41,38\n")
+        self.write("none.csv", EIGHT + "0,2,1,0,60,40,38\n")
+        path, eight = self.stand_in("cat > /dev/null; echo picture"), "eight.csv: no cache has the"
         for words, fault in (
+            ("two.csv -", "two.csv: the rows are not of one trace: 100 references in the first row,"
+             " 101 in that of 64,2,1"),
+            ("none.csv -", "none.csv: 0,2,1 is no cache of a sweep"),
             ("--ways 99 ways.csv a.png", "ways.csv: no cache has the associativity 99; there are "
              "1, 2, 4, 8, 16 and others\n"),
             ("--measure percent eight.csv a.png",
              "eight.csv: percent is no count: name the column that it is of\n"),
-            ("none.csv a.png", "none.csv: No such file or directory"),
-            ("eight.csv none/a.png", "none/a.png: there is no folder"),
-            ("eight.csv bin.png/a.png", "bin.png/a.png: there is no folder"),
-            ("eight.csv folder.png", "folder.png: is a folder"),
+            ("absent.csv a.png", "absent.csv: No such file or directory"),
+            ("eight.csv none/a.png", "none/a.png: No such file or directory"),
+            ("eight.csv bin.png/a.png", "bin.png/a.png: Not a directory"),
+            ("eight.csv folder.png", "folder.png: Is a directory"),
+            ("eight.csv /proc/a.png", "/proc/a.png: "),
             ("--bsize 64 eight.csv a.png", f"{eight} block size 64; there are 16, 32"),
             ("--ways 4 eight.csv a.png", f"{eight} associativity 4; there are 1, 2"),
         ):
@@ -281,24 +264,16 @@ class Refused(PlotTest):
         limited = f"ulimit -f 50; exec {base.TOOLS}/plot eight.csv a.png"
         ran = self.run_command("bash", "-c", limited, env=path)
         self.refused(ran, 1, "plot: a.png: File too large\n")
-        self.refused(self.plot("eight.csv", "/proc/a.png", env=path), 1, "plot: /proc/a.png: ")
         self.assertEqual(self.names(), ["a.png", "bin", "eight.csv"])
         self.assertEqual((self.folder / "a.png").read_text(), "as before")
 
-    def test_a_pipe_or_a_device_is_not_replaced(self):
+    def test_a_pipe_is_not_replaced(self):
         path, pipe = self.stand_in("cat > /dev/null; echo picture"), self.folder / "a.png"
         os.mkfifo(pipe)
         with subprocess.Popen(["timeout", "20", "cat", pipe], stdout=subprocess.PIPE) as reader:
             self.assertEqual(self.good(self.plot("eight.csv", "a.png", env=path)), "")
             self.assertEqual(reader.communicate(timeout=20)[0], b"picture\n")
         self.assertTrue(pipe.is_fifo())
-        terminal, device = os.openpty()
-        (self.folder / "b.png").symlink_to(os.ttyname(device))
-        self.assertEqual(self.good(self.plot("eight.csv", "b.png", env=path)), "")
-        self.assertEqual(os.read(terminal, 99), b"picture\r\n")
-        self.assertTrue((self.folder / "b.png").is_char_device())
-        os.close(terminal)
-        os.close(device)
 
     def test_a_warning_is_passed_on(self):
         path = self.stand_in("cat > /dev/null; echo picture; echo 'no such font' >&2")
@@ -306,9 +281,6 @@ class Refused(PlotTest):
         told = b"plot: gnuplot: no such font\n"
         self.assertEqual((ran.returncode, ran.stdout, ran.stderr), (0, b"", told))
         self.assertEqual((self.folder / "a.png").read_text(), "picture\n")
-
-    def test_full_device(self):
-        self.on_full_device("plot", "--script", "eight.csv", "-", told="No space left on device")
 
     def test_interrupt(self):
         began = self.folder / "began"

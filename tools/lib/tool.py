@@ -148,6 +148,21 @@ def apart(outputs, inputs=()):
                 misused(f"{name} and {other} are one file", Spared)
 
 
+def replace(place, data, mode):
+    """Writes a file beside a place and moves it there, so that a failure leaves what was there, and
+    a link is not followed."""
+    from tempfile import mkstemp
+    handle, fresh = mkstemp(prefix=f".{NAME}.", dir=os.path.dirname(place))
+    try:
+        with open(handle, "wb") as file:
+            file.write(data)
+            os.fchmod(handle, mode)
+        os.replace(fresh, place)
+    except BaseException:
+        os.unlink(fresh)
+        raise
+
+
 def bytes_of(text):
     """The number of bytes that a scaled number as 512, 32k or 1m says, or None."""
     digits = text[:-1] if text[-1:].lower() in ("k", "m", "g") else text

@@ -2,7 +2,6 @@
 
 import os
 import shutil
-import tempfile
 
 from lib import costs, table_din
 from lib.plot import canvas as plot_canvas
@@ -12,7 +11,7 @@ from lib.plot import page as plot_page
 from lib.plot import sweep as plot_sweep
 from lib.plot import tables as plot_tables
 from lib.plot import three_c as plot_three_c
-from lib.tool import fail, faults_of, write_lines
+from lib.tool import fail, faults_of, replace, write_lines
 
 
 def canvas_of(asked, count):
@@ -23,36 +22,24 @@ def canvas_of(asked, count):
     return plot_canvas.KINDS[asked.ending](count, asked.size, asked.mono, asked.scale)
 
 
-def is_special(out):
-    """Whether OUT is a pipe or a device, which is written to and not replaced."""
-    return os.path.exists(out) and not os.path.isfile(out)
-
-
 def write_file(out, data):
-    """Writes a file beside OUT and moves it into place, so that a failure leaves what was there.
-    But a pipe or a device stays. The new file may be read by those who may read the old one."""
-    place = os.path.realpath(out)
+    """Writes OUT; a pipe or a device stays what it is, and other files are replaced. The new file
+    may be read by those who may read the old one."""
     mask = os.umask(0)
     os.umask(mask)
     with faults_of(out):
-        if is_special(out):
+        place = os.path.realpath(out)  # there may be no working folder
+        if os.path.exists(out) and not os.path.isfile(out):
             with open(out, "wb") as file:
                 file.write(data)
-            return
-        handle, fresh = tempfile.mkstemp(dir=os.path.dirname(place), prefix=".plot-")
-        try:
-            with open(handle, "wb") as file:
-                file.write(data)
-            mode = os.stat(place).st_mode & 0o777 if os.path.exists(place) else 0o666 & ~mask
-            os.chmod(fresh, mode)
-            os.replace(fresh, place)
-        except BaseException:
-            os.unlink(fresh)
-            raise
+        else:
+            is_there = os.path.exists(place)
+            replace(place, data, os.stat(place).st_mode & 0o777 if is_there else 0o666 & ~mask)
 
 
 def of_several(asked, given):
-    """The picture of several tables, its measure, and a function for the page."""
+    """The picture of several tables, its measure, what a page says of them, and a function of what
+    may be chosen there in place of a picture."""
     if len({table_din.is_din(lines) for lines, _ in given}) > 1:
         fail("tables of sweeps and of din have no picture in common")
     if table_din.is_din(given[0][0]):
@@ -63,8 +50,16 @@ def of_several(asked, given):
         read = [rows_of(asked, file, *each) for file, each in zip(asked.tables, given)]
         tables = map(plot_tables.Rows, asked.tables, plot_tables.names_of(asked.tables), read)
         drawn, measure = plot_tables.of_sweeps(asked, [*tables], plot_sweep.measure_of(column))
-    counts = f"{len(given)} tables"
-    return drawn, measure, lambda: plot_page.page(drawn, measure, asked.title, counts, asked.mono)
+    return drawn, measure, f"{len(given)} tables", alone
+
+
+def alone(picture):
+    return {picture.fixed: picture}
+
+
+def counts_of(rows):
+    """What a page says of a sweep's table."""
+    return f"{len(rows):,} cache{'s' * (len(rows) > 1)}, {rows[0].references:,} references"
 
 
 def column_of(asked):
@@ -81,7 +76,7 @@ def rows_of(asked, file, lines, name):
 
 
 def of_sweep(asked, lines, name):
-    """The pictures of a sweep's table, their measure, and a function for the page."""
+    """The same for a sweep's table."""
     if asked.only == plot_three_c.NAME:
         return of_three_c(asked, lines, name)
     column = column_of(asked)
@@ -89,7 +84,7 @@ def of_sweep(asked, lines, name):
     if not rows[0].references:
         asked.title = f"{asked.title} (no references)".strip()
     drawn = plot_sweep.drawn(asked, rows, measure)
-    return drawn, measure, lambda: plot_page.of_sweep(drawn, rows, measure, asked.title, asked.mono)
+    return drawn, measure, counts_of(rows), lambda one: plot_sweep.choices(one, rows, measure)
 
 
 def of_three_c(asked, lines, name):
@@ -98,9 +93,8 @@ def of_three_c(asked, lines, name):
         fail("--only three-c draws misses by their kinds, and no other measure")
     caches = plot_three_c.caches_of(asked.table, lines, name)
     drawn, choices = plot_three_c.drawn(asked, caches)
-    measure, counts = plot_three_c.MEASURE, plot_page.counts_of([kinds.row for kinds in caches])
-    return [drawn], measure, lambda: plot_page.page([drawn], measure, asked.title, counts,
-                                                    asked.mono, lambda _: choices)
+    counts = counts_of([kinds.row for kinds in caches])
+    return [drawn], plot_three_c.MEASURE, counts, lambda _: choices
 
 
 def of_din(asked, lines, name):
@@ -112,18 +106,22 @@ def of_din(asked, lines, name):
     given = table_din.read_table(lines, name, column)
     measure = plot_din.measure_of(given)
     drawn = plot_din.drawn(asked, given, across, measure)
-    return drawn, measure, lambda: plot_page.of_din(drawn, given, measure, asked.title, asked.mono)
+    runs = sum(len(case.values) for case in given.cases)
+    counts = f"{runs:,} run{'s' * (runs > 1)}, {given.references:,} references"
+    return drawn, measure, counts, alone
 
 
 def draw(asked, given):
     """Draws the tables that some lines are, and writes what is asked for."""
     if len(given) > 1:
-        drawn, measure, page = of_several(asked, given)
+        drawn, measure, counts, choices = of_several(asked, given)
     else:
         one = of_din if table_din.is_din(given[0][0]) else of_sweep
-        drawn, measure, page = one(asked, *given[0])
+        drawn, measure, counts, choices = one(asked, *given[0])
     if asked.ending == ".html":
-        write_file(asked.out, page().encode())
+        offered = list(map(choices, drawn))
+        page = plot_page.page(drawn, offered, measure, asked.title, counts, asked.mono)
+        write_file(asked.out, page.encode())
         return
     canvas = canvas_of(asked, len(drawn))
     script = plot_gnuplot.script(drawn, canvas, asked.title, measure)

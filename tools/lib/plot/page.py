@@ -6,7 +6,6 @@ import math
 import site
 
 from lib.plot import pictures
-from lib.plot import sweep as plot_sweep
 from lib.tool import fail
 
 SYMBOLS = ("circle", "square", "triangle-up", "triangle-down", "diamond", "circle-open",
@@ -211,9 +210,8 @@ def section(picture, offered):
     return f"<section>\n{title}\n{menu}<div id={picture.name}></div>\n</section>\n"
 
 
-def page(drawn, measure, title, counts, mono, choices=lambda picture: {picture.fixed: picture}):
-    """The page with these pictures. `choices` returns what may be chosen in place of one."""
-    offered = [choices(picture) for picture in drawn]
+def page(drawn, offered, measure, title, counts, mono):
+    """The page with these pictures, given for each what may be chosen in its place."""
     shown = [point for several in offered for picture in several.values()
              for point in picture.points]
     up = pictures.value_axis(shown, measure, 0.062)
@@ -241,25 +239,6 @@ const darkColours = {as_script(DARK)};
 </body>
 </html>
 """
-
-
-def counts_of(rows):
-    """What a page says of a sweep's table."""
-    return f"{len(rows):,} cache{'s' * (len(rows) > 1)}, {rows[0].references:,} references"
-
-
-def of_sweep(drawn, rows, measure, title, mono):
-    """The page for a table of a sweep."""
-    counts = counts_of(rows)
-    return page(drawn, measure, title, counts, mono,
-                lambda picture: plot_sweep.choices(picture, rows, measure))
-
-
-def of_din(drawn, table, measure, title, mono):
-    """The page for a table of din."""
-    runs = sum(len(case.values) for case in table.cases)
-    counts = f"{runs:,} run{'s' * (runs > 1)}, {table.references:,} references"
-    return page(drawn, measure, title, counts, mono)
 
 
 def as_script(data):
