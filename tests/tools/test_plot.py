@@ -1,6 +1,7 @@
 """Pictures of a table: what gnuplot is told, and what is refused, without gnuplot and plotly."""
 
 import itertools
+import json
 import math
 import os
 import re
@@ -42,6 +43,10 @@ def data_of(script):
     return found
 
 
+def names_of(script):
+    return re.findall(r" title '([^']*)'", script.split("\nplot ", 1)[1])
+
+
 def ways_of(ways, misses=lambda way: 1):
     """The same of fully associative caches, given their ways and what misses with so many."""
     return "".join(f"64,1,{way},{64 * way},{1000 - misses(way)},{misses(way)},0\n" for way in ways)
@@ -65,6 +70,21 @@ class PlotTest(base.ToolTest):
 
     def data(self, *arguments, **given):
         return data_of(self.script(*arguments, **given))
+
+    def shows(self, words, data=None, names=None, texts=()):
+        """A script that must have these data, names in its legend, and texts."""
+        script = self.script(*words.split(), "a.svg")
+        self.assertEqual(data_of(script), data_of(script) if data is None else data)
+        self.assertEqual(names_of(script), names_of(script) if names is None else names)
+        for text in texts:
+            self.assertIn(text, script)
+        return script
+
+    def figures(self, *arguments):
+        """The pictures of a page as plotly gets them, by name and by what is chosen."""
+        self.assertEqual(self.good(self.plot(*arguments, "a page.html")), "")
+        page = (self.folder / "a page.html").read_text()
+        return json.loads(re.search("(?m)^const figures = (.*);$", page)[1])
 
     def write_din(self, name="din.csv", policies=POLICIES):
         """Writes a table of din, given the misses of 1,000 references."""

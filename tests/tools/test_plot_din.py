@@ -1,4 +1,5 @@
-"""Curves over all ways, pictures of tables of din, and other measures: as gnuplot is told them."""
+"""Curves over all ways, other measures, pictures of tables of din, and of several tables: as
+gnuplot is told them."""
 
 import itertools
 import re
@@ -6,50 +7,41 @@ import re
 import base
 from din_base import COLUMNS, POLICIES, din_rows
 from lib import table
-from test_plot import PlotTest, data_of
+from test_plot import EIGHT, PlotTest, data_of, names_of, ways_of
 
 COUNTS = "l1-u-references,l1-u-misses,l1-u-percent,bypassed"
-
-
-def names_of(script):
-    return re.findall(r" title '([^']*)'", script.split("\nplot ", 1)[1])
+BY_SIZE = "Miss ratio by cache size"
 
 
 class Curve(PlotTest):
-    def curve(self, ways=40, blocks=(64,), sets=(1,)):
-        """A table of caches of which each way more misses ten times less."""
-        return "".join(
+    POINTS = [(64 * way, 10 - way / 10) for way in range(1, 41)]
+
+    def curve(self, name, ways=40, blocks=(64,), sets=(1,)):
+        """Writes a table of caches of which each way more misses ten times less."""
+        self.write(name, "".join(
             f"{bsize},{count},{way},{bsize * count * way},{9000 + 10 * way},{1000 - 10 * way},0\n"
             for bsize in blocks for count in sets for way in range(1, ways + 1)
-        )
+        ))
 
-    def test_one_set(self):
-        """A line without marks over all ways, also in the first of three pictures; no legend."""
-        self.write("t.csv", self.curve())
-        script = self.script("--curve", "t.csv", "a.svg")
-        points = [(64 * way, 10 - way / 10) for way in range(1, 41)]
-        self.assertEqual(data_of(script), {"curve_1": [points]})
-        self.assertIn("'Miss ratio by cache size: fully associative, blocks of 64 bytes'", script)
+    def test_curves(self):
+        """A line without marks over all ways, also in the first of three pictures; few ways have
+        marks. A line for each block size or number of sets."""
+        self.curve("t.csv")
+        script = self.shows("--curve t.csv", {"curve_1": [self.POINTS]}, texts=[
+            f"'{BY_SIZE}: fully associative, blocks of 64 bytes'"])
         self.assertRegex(script, r"\$curve_1 with lines .* notitle")
         whole = self.data("t.csv", "a.svg")
         self.assertEqual({name.split("_")[0] for name in whole}, {"curve", "pareto"})
-
-    def test_few_ways_have_marks(self):
-        self.write("t.csv", self.curve(ways=6))
-        script = self.script("--curve", "t.csv", "a.svg")
+        self.curve("few.csv", ways=6)
+        script = self.shows("--curve few.csv")
         self.assertRegex(script, r"\$curve_1 with linespoints .* pointtype 7")
-
-    def test_a_line_for_each_block_size_or_number_of_sets(self):
-        self.write("t.csv", self.curve(blocks=(16, 64)))
-        script = self.script("--only", "curve", "t.csv", "a.svg")
-        self.assertEqual(names_of(script), ["16 bytes", "64 bytes"])
-        self.assertIn("cache size: fully associative'", script)
-        self.write("t.csv", self.curve(blocks=(16, 64), sets=(1, 2, 4)))
-        script = self.script("--curve", "--bsize", "16", "t.csv", "a.svg")
-        self.assertEqual(names_of(script), ["1 set", "2 sets", "4 sets"])
-        points = [(64 * way, 10 - way / 10) for way in range(1, 41)]
-        self.assertEqual(data_of(script)["curve_3"], [points])
-        self.assertNotIn("$curve", self.script("t.csv", "a.svg"))
+        self.curve("blocks.csv", blocks=(16, 64))
+        self.shows("--only curve blocks.csv", None, ["16 bytes", "64 bytes"],
+                   ["cache size: fully associative'"])
+        self.curve("sets.csv", blocks=(16, 64), sets=(1, 2, 4))
+        script = self.shows("--curve --bsize 16 sets.csv", None, ["1 set", "2 sets", "4 sets"])
+        self.assertEqual(data_of(script)["curve_3"], [self.POINTS])
+        self.assertNotIn("$curve", self.script("sets.csv", "a.svg"))
 
     def test_long_curves_are_thinned(self):
         """No more points than can be seen; the ends stay, and each point is one of the table."""
@@ -67,36 +59,28 @@ class Curve(PlotTest):
 
 class Measure(PlotTest):
     def test_of_a_sweep(self):
-        measure = ("--measure", "evictions", "eight.csv", "a.svg")
-        # 25, 10 misses of 100 references in 4 and 8 lines evict 21 and 2 times
-        self.assertEqual(self.data("--bsize", "16", *measure)["size_2"], [[(64, 21), (128, 2)]])
-        script = self.script("--only", "size", *measure)
-        self.assertIn("'Evictions by cache size: blocks of 32 bytes'", script)
-        self.assertIn("set ylabel 'evictions in per cent of references'", script)
-
-    def test_a_further_column(self):
-        """One that counts references is in per cent of them, any other in its own unit."""
+        """25 and 10 misses of 100 references in 4 and 8 lines evict 21 and 2 times. A column that
+        counts references is in per cent of them, any other in its own unit."""
+        script = self.shows("--measure evictions --only size --bsize 16 eight.csv", texts=[
+            "'Evictions by cache size: blocks of 16 bytes'",
+            "set ylabel 'evictions in per cent of references'"])
+        self.assertEqual(data_of(script)["size_2"], [[(64, 21), (128, 2)]])
         rows = "64,1,1,64,100,100,49,14,580\n64,2,1,128,120,80,38,0,302.5\n"
         self.write("t.csv", f"{table.HEADER},conflict,cost\n{rows}")
-        conflict = self.data("--measure", "conflict", "--only", "size", "t.csv", "-")
-        self.assertEqual(conflict["size_1"][0][0], (64, 7))
-        cost = ("--measure", "cost", "--only", "size", "t.csv", "a.svg")
-        script = self.script(*cost)
-        self.assertEqual(data_of(script)["size_1"], [[(64, 580), (128, 302.5)]])
-        self.assertIn("set ylabel 'cost'\n", script)
+        self.shows("--measure conflict --only size t.csv", {"size_1": [[(64, 7), (128, 0)]]})
         ticks = ", ".join(f"'{hundred}00' {hundred}00" for hundred in range(1, 7))
-        self.assertIn(f"set ytics ('0' 0, {ticks})\n", script)
+        self.shows("--measure cost --only size t.csv", {"size_1": [[(64, 580), (128, 302.5)]]},
+                   texts=["set ylabel 'cost'\n", f"set ytics ('0' 0, {ticks})\n"])
         self.write("t.csv", f"{table.HEADER},cost\n64,1,1,64,50,50,49,{'9' * 64}\n")
-        self.assertIn("'2e63' 2e+63, '4e63' 4e+63, ", self.script(*cost))
-        self.write("t.csv", f"{table.HEADER},cost\n64,1,1,64,50,50,49,{'9' * 65}\n")
-        fault = "t.csv: line 2: cost is too long a number\n"
-        self.refused(self.plot("--measure", "cost", "t.csv", "-"), 1, fault)
+        self.shows("--measure cost --only size t.csv", texts=["'2e63' 2e+63, '4e63' 4e+63, "])
 
     def test_refused(self):
         self.write("t.csv", f"{table.HEADER},conflict\n64,1,1,64,50,50,49,-7-\n")
+        self.write("long.csv", f"{table.HEADER},cost\n64,1,1,64,50,50,49,{'9' * 65}\n")
         for option, name, fault in (
             ("--measure=x", "eight.csv", "no column x; there are bsize, sets, assoc, size, hits"),
             ("--measure=conflict", "t.csv", "line 2: conflict is no number\n"),
+            ("--measure=cost", "long.csv", "line 2: cost is too long a number\n"),
             ("--across=l1-usize", "eight.csv", "--across is for a table of din\n"),
         ):
             self.refused(self.plot(option, name, "-"), 1, f"{name}: {fault}")
@@ -108,15 +92,20 @@ class Din(PlotTest):
         self.write_din()
 
     def test_a_line_for_each_policy(self):
-        script = self.script("din.csv", "a.svg")
-        self.assertEqual(data_of(script), {
+        self.shows("din.csv", {
             "size_1": [[(64, 10), (128, 2)]], "size_2": [[(64, 20), (128, 2.5)]],
             "size_3": [[(64, 15), (128, 3.5)]],
             "size_3_ends": [[(64, 15, 12, 18), (128, 3.5, 3, 4.2)]],
-        })
-        self.assertEqual(names_of(script), ["LRU", "FIFO", "random"])
-        for text in ("Miss ratio by cache size", "cache size in bytes", "miss ratio in per cent"):
-            self.assertIn(f"'{text}'", script)
+        }, ["LRU", "FIFO", "random"], [f"'{BY_SIZE}'", "'cache size in bytes'",
+                                       "'miss ratio in per cent'"])
+        data = self.data("--measure", "l1-u-misses", "din.csv", "a.svg")
+        self.assertEqual(data["size_3_ends"], [[(64, 150, 120, 180), (128, 35, 30, 42)]])
+        script = self.shows("--measure memory-writes din.csv",
+                            texts=["'Memory writes by cache size'"])
+        self.assertEqual(data_of(script)["size_1"], [[(64, 10), (128, 2)]])
+        self.shows("--across l1-uassoc din.csv", None, [
+            f"{size} bytes, {policy}" for size in (64, 128) for policy in ("LRU", "FIFO", "random")
+        ], ["set xlabel 'ways'"])
 
     def test_bars_are_within_the_axes(self):
         """Also where the means are far from the least and the greatest of the seeds."""
@@ -125,13 +114,6 @@ class Din(PlotTest):
             ends = re.search(r"(?m)^set yrange \[(.*):(.*)\]$", self.script("t.csv", "a.svg"))
             least, greatest = map(float, ends.groups())
             self.assertTrue(least <= low and high <= greatest, (least, greatest))
-
-    def test_measures(self):
-        data = self.data("--measure", "l1-u-misses", "din.csv", "a.svg")
-        self.assertEqual(data["size_3_ends"], [[(64, 150, 120, 180), (128, 35, 30, 42)]])
-        script = self.script("--measure", "memory-writes", "din.csv", "a.svg")
-        self.assertEqual(data_of(script)["size_1"], [[(64, 10), (128, 2)]])
-        self.assertIn("'Memory writes by cache size'", script)
 
     def test_ticks_of_counts(self):
         """A tick's text is its value, in thousands or millions where it says so."""
@@ -147,97 +129,72 @@ class Din(PlotTest):
                 self.assertEqual(float(number) * units[unit], float(value))
             self.assertEqual({unit for _, unit, _ in ticks}, used)
 
-    def test_across(self):
-        script = self.script("--across", "l1-uassoc", "din.csv", "a.svg")
-        self.assertEqual(names_of(script), [f"{size} bytes, {policy}" for size in (64, 128)
-                                            for policy in ("LRU", "FIFO", "random")])
-        self.assertIn("set xlabel 'ways'", script)
-        fault = "no option l1-urepl with numbers; there are l1-usize, l1-ubs"
-        self.refused(self.plot("--across", "l1-urepl", "din.csv", "-"), 1, fault)
-
     def test_many_lines(self):
         """Of more than seven lines those of 4 ways are drawn, or of the ways that are asked for."""
         fewer = {key: misses[:1] for key, misses in POLICIES.items()}
         self.write("t.csv", COLUMNS + "\n" + "".join(din_rows(fewer, ways) for ways in (1, 2, 8)))
-        self.assertEqual(names_of(self.script("t.csv", "a.svg")), ["LRU", "FIFO", "random"])
-        for words, ways in ((), 2), (("--ways", "8"), 8), (("--ways", "2"), 2):
-            title = f"'Miss ratio by cache size: {ways} ways'"
-            self.assertIn(title, self.script(*words, "t.csv", "a.svg"))
+        for words, ways in ("", 2), ("--ways 8", 8), ("--ways 2", 2):
+            self.shows(f"{words} t.csv", None, ["LRU", "FIFO", "random"],
+                       [f"'{BY_SIZE}: {ways} ways'"])
         for option, absent in (("--ways=4", "assoc 4; there are 1, 2, 8"),
                                ("--bsize=32", "bsize 32; there are 16")):
             self.refused(self.plot(option, "t.csv", "-"), 1, f"t.csv: no run has l1-u{absent}\n")
 
     def test_some_of_many_policies(self):
-        """Of twelve combinations at most seven are drawn, each under its own name."""
+        """Of twelve combinations each second and the last are drawn, each under its own name, and
+        the title says so; of six all."""
         words = ({"l": "LRU", "f": "FIFO", "r": "random"},
                  {"a": "write-allocate", "n": "no write-allocate"},
                  {"a": "write-back", "n": "write-through"})
         combinations = list(itertools.product("lfr", "an", "an"))
-        rows = "".join(f"{size},{','.join(given)},1000,{missed},{missed / 10},0\n"
-                       for size, less in ((64, 0), (128, 50))
-                       for given, missed in zip(combinations, range(100 - less, 120)))
-        self.write("t.csv", f"l1-usize,l1-urepl,l1-uwalloc,l1-uwback,{COUNTS}\n{rows}")
-        script = self.script("t.csv", "a.svg")
+        rows = [f"{size},{','.join(given)},1000,{missed},{missed / 10},0\n"
+                for size, less in ((64, 0), (128, 50))
+                for given, missed in zip(combinations, range(100 - less, 120))]
+        header = f"l1-usize,l1-urepl,l1-uwalloc,l1-uwback,{COUNTS}\n"
         names = [", ".join(text[value] for text, value in zip(words, given))
                  for given in combinations]
         wanted = {name: [(64, 10 + at / 10), (128, 5 + at / 10)] for at, name in enumerate(names)}
-        drawn, lines = names_of(script), data_of(script)
-        self.assertTrue(4 <= len(drawn) <= 7, drawn)
-        for number, name in enumerate(drawn, 1):
-            self.assertEqual(lines[f"size_{number}"], [wanted[name]], name)
-
-    def test_lines_that_are_left_out(self):
-        """Of twelve lines each second and the last are drawn, and the title says so; of six all."""
-        rows = [f"{','.join(given)},1000,100,10.000,0\n"
-                for given in itertools.product(("64", "128"), "lfr", "an", "an")]
-        some = [row for row in rows if ",n,1000" not in row]
-        for drawn, lines, title in ((rows, 7, ": 7 of 12 lines"), (some, 6, "")):
-            header = f"l1-usize,l1-urepl,l1-uwback,l1-uwalloc,{COUNTS}\n"
-            self.write("t.csv", header + "".join(drawn))
-            script = self.script("t.csv", "a.svg")
-            self.assertIn(f"'Miss ratio by cache size{title}'", script)
-            self.assertEqual(len(names_of(script)), lines)
+        drawn = [*names[::2], names[-1]]
+        self.write("t.csv", header + "".join(rows))
+        self.shows("t.csv", {f"size_{number}": [wanted[name]]
+                             for number, name in enumerate(drawn, 1)}, drawn,
+                   [f"'{BY_SIZE}: 7 of 12 lines'"])
+        self.write("t.csv", header + "".join(row for row in rows if ",n,1000" not in row))
+        script = self.shows("t.csv", texts=[f"'{BY_SIZE}'"])
+        self.assertEqual(len(names_of(script)), 6)
 
     def test_second_levels(self):
-        """The miss ratio is that of the cache on the axis, and a line's name says whose it is."""
+        """The miss ratio is that of the cache on the axis, and a line's name says whose it is. A
+        column that is called global is no local one."""
         header = "l1-dsize,l2-usize,l2-urepl,l1-d-references,l1-d-misses,l1-d-percent,"
         header += "l2-u-references,l2-u-misses,l2-u-percent,bypassed"
         second = (256, "l", 10), (256, "f", 20), (512, "l", 5), (512, "f", 6)
         rows = "".join(f"64,{size},{policy},100,50,50.000,50,{miss},{2 * miss}.000,9\n"
                        for size, policy, miss in second)
         self.write("t.csv", f"{header}\n{rows}")
-        script = self.script("t.csv", "a.svg")
-        self.assertEqual(data_of(script),
-                         {"size_1": [[(256, 20), (512, 10)]], "size_2": [[(256, 40), (512, 12)]]})
-        self.assertIn("'Local miss ratio of l2-u by cache size'", script)
-        self.assertIn("set ylabel 'local miss ratio of l2-u in per cent'", script)
+        self.shows("t.csv", {"size_1": [[(256, 20), (512, 10)]], "size_2": [[(256, 40), (512, 12)]]
+                             }, None, ["'Local miss ratio of l2-u by cache size'",
+                                       "set ylabel 'local miss ratio of l2-u in per cent'"])
         more = rows + rows.replace("64,", "32,").replace(",50,50.000,50,", ",60,60.000,60,")
         self.write("t.csv", f"{header}\n{more}")
-        self.assertEqual(names_of(self.script("--across", "l2-usize", "t.csv", "a.svg")),
-                         [f"l1-d {size} bytes, l2-u {policy}" for size in (64, 32)
-                          for policy in ("LRU", "FIFO")])
+        self.shows("--across l2-usize t.csv", None, [
+            f"l1-d {size} bytes, l2-u {policy}" for size in (64, 32) for policy in ("LRU", "FIFO")])
         # what the first level counts does not depend on the second
-        script = self.script("--across", "l1-dsize", "t.csv", "a.svg")
-        self.assertEqual(data_of(script), {"size_1": [[(32, 60), (64, 50)]]})
-        self.assertEqual(names_of(script), [])
-        self.assertIn("'Miss ratio of l1-d by cache size'", script)
+        self.shows("--across l1-dsize t.csv", {"size_1": [[(32, 60), (64, 50)]]}, [],
+                   ["'Miss ratio of l1-d by cache size'"])
         # all caches together: 32 + 256 bytes are the least
         data = self.data("--only", "pareto", "--measure", "l2-u-misses", "t.csv", "a.svg")
         self.assertEqual(data["pareto_front"], [[(288, 10), (544, 5)]])
         every = [(first + size, missed) for first in (32, 64) for size, _, missed in second]
         self.assertEqual(sorted(data["pareto_all"][0]), sorted(every))
-
-    def test_a_global_miss_ratio(self):
-        """A column that is called so is no local one, and is drawn as it stands."""
         header = "l1-dsize,l2-usize,l1-d-references,l2-u-misses,l2-u-global-percent,bypassed"
         self.write("t.csv", f"{header}\n64,256,100,10,10.000,0\n64,512,100,5,5.000,0\n")
-        script = self.script("--measure", "l2-u-global-percent", "t.csv", "a.svg")
-        self.assertEqual(data_of(script), {"size_1": [[(256, 10), (512, 5)]]})
-        self.assertIn("'Global miss ratio of l2-u by cache size'", script)
-        self.assertIn("set ylabel 'global miss ratio of l2-u in per cent'", script)
+        self.shows("--measure l2-u-global-percent t.csv", {"size_1": [[(256, 10), (512, 5)]]},
+                   texts=["'Global miss ratio of l2-u by cache size'",
+                          "set ylabel 'global miss ratio of l2-u in per cent'"])
         self.write("t.csv", "l2-usize,l2-u-references,l2-u-misses,l2-u-percent,bypassed\n"
                    "64,100,10,10.000,0\n")
-        self.assertIn("'Miss ratio by cache size'", self.script("t.csv", "a.svg"))
+        self.shows("t.csv", texts=[f"'{BY_SIZE}'"])
 
     def test_refused(self):
         rows = din_rows({(64, "l"): (100,)})
@@ -255,17 +212,78 @@ class Din(PlotTest):
         ):
             self.write("t.csv", text)
             self.refused(self.plot("t.csv", "-", env=self.no_gnuplot()), 1, "plot: t.csv: ", fault)
-        for word, fault in (("--only=block", "a table of din has the pictures size and pareto\n"),
-                            ("--measure=x", "no column x; there are l1-usize, ")):
-            self.refused(self.plot(word, "din.csv", "-"), 1, f"plot: din.csv: {fault}")
+        for words, fault in (
+            ("--only=block", "a table of din has the pictures size and pareto\n"),
+            ("--measure=x", "no column x; there are l1-usize, "),
+            ("--across=l1-urepl", "no option l1-urepl with numbers; there are l1-usize, l1-ubs"),
+        ):
+            self.refused(self.plot(words, "din.csv", "-"), 1, f"plot: din.csv: {fault}")
 
-    def test_a_real_table(self):
-        """What din-table writes is taken by plot and best."""
-        words = "-l1-usize 64-1k -l1-ubsize 16 -l1-uassoc 1,4 -l1-urepl l,f,r --seed 1-4".split()
-        made = self.run_tool("din-table", 2, base.EXAMPLES / "sort.din", *words)
-        self.write("t.csv", made.stdout)
-        data = self.data("t.csv", "a.svg")
-        ends = {name: len(runs[0]) for name, runs in data.items() if name.endswith("_ends")}
-        self.assertEqual(ends, {"size_6_ends": 5})
-        best = self.good(self.run_tool("best", "t.csv", "--rows", "99"))
-        self.assertEqual(len(best.splitlines()), 31)
+
+class Several(PlotTest):
+    def setUp(self):
+        """Beside the table of 100 references one of 1,000 with two ways alone."""
+        super().setUp()
+        other = {(16, 2, 2): 200, (16, 4, 2): 90, (32, 1, 2): 300, (32, 2, 2): 70}
+        self.write("other.csv", base.rows_of(1000, other))
+        self.write_din()
+
+    def test_a_line_for_each(self):
+        """At the block size nearest to 64 and the ways nearest to 4, or those asked for, of those
+        that they have in common. Options may stand anywhere."""
+        near = {"size_1": [[(64, 28), (128, 8)]], "size_2": [[(64, 30), (128, 7)]]}
+        texts = [f"'{BY_SIZE}: blocks of 32 bytes, 2 ways'"]
+        for words in ("eight.csv other.csv", "-- eight.csv other.csv"):
+            self.shows(words, near, ["eight", "other"], texts)
+        self.shows("eight.csv --bsize=16 other.csv --ways 2",
+                   {"size_1": [[(64, 25), (128, 10)]], "size_2": [[(64, 20), (128, 9)]]})
+        self.write("third.csv", base.rows_of(100, {(16, 8, 2): 19, (64, 8, 2): 17}))
+        self.shows("eight.csv third.csv",
+                   {"size_1": [[(64, 25), (128, 10)]], "size_2": [[(256, 19)]]})
+
+    def test_names(self):
+        """The whole path where two files have one name; a long one is cut."""
+        (self.folder / "more").mkdir()
+        self.write("more/eight.csv", EIGHT)
+        self.shows("eight.csv more/eight.csv", None, ["eight.csv", "more/eight.csv"])
+        self.write("a" * 30 + "\n.csv", EIGHT)
+        names = names_of(self.script("a" * 30 + "\n.csv", "-", "a.svg", stdin=EIGHT.encode()))
+        self.assertEqual(names, ["a" * 23 + "…", "standard input"])
+
+    def test_curve_and_front(self):
+        for name, most in ("one", 500), ("two", 400):
+            self.write(f"{name}.csv", ways_of((1, 2, 4), lambda way, most=most: most // way))
+        self.shows("one.csv two.csv", {"curve_1": [[(64, 50), (128, 25), (256, 12.5)]],
+                                       "curve_2": [[(64, 40), (128, 20), (256, 10)]]},
+                   texts=["cache size: fully associative, blocks of 64 bytes'"])
+        script = self.shows("--only pareto eight.csv other.csv", {
+            "pareto_1": [[(32, 40), (64, 25), (128, 8)]], "pareto_2": [[(64, 20), (128, 7)]]})
+        self.assertRegex(script, r"\$pareto_2 with steps .*\n.*\$pareto_2 with points .*\n"
+                         r".*keyentry .* title 'other'")
+
+    def test_tables_of_din(self):
+        self.write_din("lru.csv", {(64, "l"): (300,), (128, "l"): (250,)})
+        names = ["din, LRU", "din, FIFO", "din, random", "lru"]
+        script = self.shows("din.csv lru.csv", None, names, [f"'{BY_SIZE}'"])
+        self.assertEqual(data_of(script)["size_4"], [[(64, 30), (128, 25)]])
+        self.write_din("last.csv", {(64, "f"): (300,)})
+        self.shows("din.csv din.csv lru.csv last.csv", texts=[f"'{BY_SIZE}: 5 of 8 lines'"])
+
+    def test_refused(self):
+        self.write("wide.csv", "128,1,1,128,9,1,0\n")
+        for words, fault in (
+            ("eight.csv wide.csv", "the tables have no block size in common\n"),
+            ("--ways 1 eight.csv other.csv",
+             "other.csv: no cache has the associativity 1; there are 2\n"),
+            ("--only block eight.csv other.csv",
+             "several tables have the pictures size, curve, pareto, and not block\n"),
+            ("--only pareto din.csv din.csv",
+             "several tables of din have the picture size alone\n"),
+            ("eight.csv din.csv", "tables of sweeps and of din have no picture in common\n"),
+            ("eight.csv none.csv", "none.csv: No such file or directory\n"),
+            ("--measure x other.csv eight.csv", "other.csv: no column x; there are "),
+        ):
+            ran = self.plot(*words.split(), "a.png", env=self.no_gnuplot())
+            self.refused(ran, 1, f"plot: {fault}")
+        ran = self.plot(*["eight.csv"] * 8, "a.png")
+        self.refused(ran, 2, "plot: 8 tables are too many for one picture; ")

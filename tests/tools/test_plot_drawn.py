@@ -1,16 +1,10 @@
 """Pictures as they come out of gnuplot, and the page as a browser shows it."""
 
-import fcntl
-import html.parser
-import json
 import math
 import os
-import pty
 import re
 import shutil
 import struct
-import subprocess
-import termios
 import xml.etree.ElementTree
 import zlib
 
@@ -115,18 +109,6 @@ class Drawn(PlotTest):
             self.assertEqual(len(alone), lines - 1)
             self.assertEqual([line for line in alone if line != line.rstrip()], [])
 
-    def test_text_has_the_size_of_the_terminal(self):
-        ours, theirs = pty.openpty()
-        fcntl.ioctl(theirs, termios.TIOCSWINSZ, struct.pack("HHHH", 30, 100, 0, 0))
-        plot = f"unset COLUMNS LINES; exec {base.TOOLS}/plot --only size eight.csv -"
-        ran = subprocess.run(["bash", "-c", plot], cwd=self.folder, stdout=theirs)
-        self.assertEqual(ran.returncode, 0)
-        os.close(theirs)
-        lines = os.read(ours, 1 << 16).decode().splitlines()
-        os.close(ours)
-        self.assertEqual(len(lines), 29)
-        self.assertGreater(max(map(len, lines)), 90)
-
     def test_odd_tables(self):
         """Whatever the table, all is drawn, and gnuplot has nothing to say."""
         (self.folder / "tables").mkdir()
@@ -158,30 +140,6 @@ class Drawn(PlotTest):
         self.assertEqual(len(table.read_table(*table.lines_of(stored / "sort.csv"))), 633)
 
 
-class Sources(html.parser.HTMLParser):
-    """All that a page names to be fetched, its policy, its scripts and its heading."""
-
-    def __init__(self, page):
-        super().__init__()
-        self.fetched, self.policy, self.scripts, self.within, self.heading = [], "", [], "", ""
-        self.feed(page)
-
-    def handle_starttag(self, tag, attrs):
-        self.within = tag
-        fetching = ("src", "href", "srcset", "data", "action", "poster")
-        self.fetched += [value for name, value in attrs if name in fetching]
-        if ("http-equiv", "Content-Security-Policy") in attrs:
-            self.policy = dict(attrs)["content"]
-
-    def handle_data(self, data):
-        if self.within == "script" and data.strip():
-            self.scripts.append(data)
-        self.heading += data if self.within == "h1" else ""
-
-    def handle_endtag(self, tag):
-        self.within = ""
-
-
 @needs("python3-plotly")
 class Page(PlotTest):
     def page(self, *arguments):
@@ -189,17 +147,25 @@ class Page(PlotTest):
         return (self.folder / "a page.html").read_text()
 
     def test_it_has_all_and_fetches_nothing(self):
-        sources = Sources(self.page("--title", "<Eight> & more", "eight.csv"))
-        self.assertEqual(sources.fetched, [])
-        self.assertTrue(sources.policy.startswith("default-src 'none';"), sources.policy)
-        self.assertNotRegex(sources.policy, r"http|\*|'self'|connect")
-        self.assertGreater(len(sources.scripts[0]), 1_000_000)
-        self.assertEqual((len(sources.scripts), sources.heading), (2, "<Eight> & more"))
+        page = self.page("--title", "<Eight> & more", "eight.csv")
+        others, *scripts = re.split("<script>|</script>", page)[::2], *page.split("<script>")[1:]
+        self.assertNotRegex("".join(others), "(src|href|srcset|data|action|poster)=")
+        policy = re.search('Content-Security-Policy" content="([^"]*)"', page)[1]
+        self.assertTrue(policy.startswith("default-src 'none';"), policy)
+        self.assertNotRegex(policy, r"http|\*|'self'|connect")
+        self.assertTrue(len(scripts) == 2 and len(scripts[0]) > 1_000_000)
+        self.assertIn("<h1>&lt;Eight&gt; &amp; more</h1>", page)
 
-    def figures(self, *arguments):
-        """The pictures as plotly gets them, by name and by what is chosen."""
-        script = Sources(self.page(*arguments)).scripts[1]
-        return json.loads(re.search("(?m)^const figures = (.*);$", script)[1])
+    def test_formats_of_several_tables(self):
+        for only in ("size", "pareto"):
+            given = "--only", only, "eight.csv", "eight.csv"
+            for out in ("a.png", "a.svg", "a.pdf", "-"):
+                self.good(self.plot(*given, out))
+            lines = self.figures(*given)[only].popitem()[1]["data"]
+            shape = None if only == "size" else "hv"
+            self.assertEqual([line["line"].get("shape") for line in lines], [shape] * 2)
+            self.assertTrue(lines[1]["hovertemplate"].startswith("%{fullData.name}<br>"))
+        self.assertIn("<p>2 tables. A point", (self.folder / "a page.html").read_text())
 
     def test_data(self):
         figures = self.figures("eight.csv")

@@ -1,6 +1,5 @@
 """The stacked picture of the three C's."""
 
-import json
 import re
 
 import base
@@ -14,7 +13,6 @@ HEAD = f"{table.HEADER},compulsory,capacity,conflict\n"
 ROWS = ("64,1,2,128,400,600,598,50,550,0\n", "64,2,1,128,450,550,548,50,550,-50\n",
         "64,2,2,256,700,300,296,50,150,100\n", "64,4,1,256,620,380,376,50,150,180\n",
         "64,1,3,192,700,300,297,50,250,0\n")
-FAR = "64,4,2,512,950,50,42,50,,\n"
 
 
 class Script(LooksTest):
@@ -23,7 +21,8 @@ class Script(LooksTest):
         self.write("t.csv", HEAD + "".join(ROWS))
 
     def test_data(self):
-        """From the top 1 way, 2 ways, capacity above compulsory, and compulsory misses."""
+        """From the top 1 way, 2 ways, capacity above compulsory, and compulsory misses; in greys
+        each darker than the one above it."""
         script = self.script("--only", "three-c", "t.csv", "a.svg")
         self.assertEqual(data_of(script), {
             "stack_1": [[(128, 55), (256, 38)]], "stack_2": [[(128, 60), (256, 30)]],
@@ -38,13 +37,10 @@ class Script(LooksTest):
         title = "The three C''s by cache size: conflict misses of 1 to 2 ways, blocks of 64 bytes"
         self.assertIn(f"'{title}'", script)
 
-    def test_mono(self):
-        """Greys, each darker than the one above it."""
         script = self.script("--only", "three-c", "--mono", "t.csv", "a.svg")
         greys = re.findall("filledcurves .* linecolor rgb '#(..)(..)(..)' title", script)
         self.assertTrue(all(len(set(grey)) == 1 for grey in greys), greys)
-        self.assertEqual(len(greys), 4)
-        self.assertEqual(greys, sorted(greys, reverse=True))
+        self.assertEqual((len(greys), greys), (4, sorted(greys, reverse=True)))
 
     def test_many_ways(self):
         """At most five of them, in even steps of their powers of two."""
@@ -64,14 +60,6 @@ class Script(LooksTest):
         script = self.script("--only", "three-c", "--bsize", "16", "t.csv", "a.svg")
         self.assertEqual(data_of(script)["stack_1"], [[(32, 55), (64, 38)]])
 
-    def test_unknown_kinds(self):
-        """A cache of which they are empty is left out, which is told."""
-        self.write("t.csv", HEAD + "".join(ROWS) + FAR)
-        ran = self.plot("--script", "--only", "three-c", "t.csv", "a.svg")
-        told = "plot: t.csv: 1 of 6 caches have no capacity, and are left out\n"
-        self.assertEqual((ran.returncode, ran.stderr.decode()), (0, told))
-        self.assertEqual(data_of(ran.stdout.decode())["stack_4"], [[(128, 5), (256, 5)]])
-
     def test_refused(self):
         self.write("one.csv", HEAD + ROWS[0] + ROWS[1])
         for words, fault in (
@@ -90,7 +78,7 @@ class Script(LooksTest):
 @needs("gnuplot-nox")
 class Drawn(LooksTest):
     def test_a_real_table(self):
-        """Each format, and as text lines with letters. The misses of one way are the table's."""
+        """Each format, and as text lines with letters."""
         words = "--bsize 16-32 --sets 1-64 --assoc 1-4 --size 64-1k".split()
         text = self.good(self.run_tool("three-c", base.EXAMPLES / "sort.din", *words))
         self.write("t.csv", text)
@@ -98,17 +86,8 @@ class Drawn(LooksTest):
             for more in ([], ["--mono", "--size", "3.3in"]):
                 self.assertEqual(self.good(self.plot("--only", "three-c", *more, "t.csv", out)), "")
         drawn = self.good(self.plot("--only", "three-c", "t.csv", "-"))
-        for name in ("***A*** 1 way", "$$$C$$$ 4 ways", "capacity",
-                     "compulsory"):
+        for name in ("***A*** 1 way", "$$$C$$$ 4 ways", "capacity", "compulsory"):
             self.assertIn(name, drawn)
-        rows = [line.split(",") for line in text.splitlines()[1:]]
-        wanted = [(int(row[3]), 100 * int(row[5]) / 5846) for row in rows
-                  if (row[0], row[2]) == ("32", "1")]
-        data = self.data("--only", "three-c", "--bsize", "32", "t.csv", "a.svg")
-        self.assertEqual(len(data["stack_1"][0]), len(wanted))
-        for one, other in zip(data["stack_1"][0], sorted(wanted)):
-            self.assertEqual(one[0], other[0])
-            self.assertAlmostEqual(one[1], other[1], places=6)
 
 
 @needs("python3-plotly", "chromium")
@@ -120,9 +99,7 @@ class Page(LooksTest):
             look = self.look("--only", "three-c", "t.csv", width=width, dark=dark)
             self.assertEqual(look["found"], [])
             self.assertLessEqual(look["wide"], look["width"])
-        page = (self.folder / "a.html").read_text()
-        figures = json.loads(re.search("(?m)^const figures = (.*);$", page)[1])
-        data = figures["three-c"]["64"]["data"]
+        data = self.figures("--only", "three-c", "t.csv")["three-c"]["64"]["data"]
         self.assertEqual([area["name"] for area in data],
                          ["1 way", "2 ways", "capacity", "compulsory"])
         self.assertEqual([area["y"] for area in data], [[55, 38], [60, 30], [60, 20], [5, 5]])

@@ -6,13 +6,10 @@ from typing import NamedTuple, Optional
 ACCESSES = ("read", "write", "fetch")
 
 
-def is_power_of_two(number):
-    return number > 0 and number & (number - 1) == 0
-
-
 class Cache(NamedTuple):
-    """A cache, and its options for `cachesim log`."""
+    """A cache, and its options for `cachesim log`, which judges them."""
 
+    options: list
     place: str
     sets: int
     block: int
@@ -35,16 +32,6 @@ class Cache(NamedTuple):
 
     def set_of(self, address):
         return address // self.block % self.sets
-
-    def is_possible(self):
-        """Whether blocks and sets are powers of two, and a set has a line."""
-        return self.ways > 0 and is_power_of_two(self.block) and is_power_of_two(self.sets)
-
-    def options(self):
-        given = {"sets": self.sets, "bsize": self.block, "assoc": self.ways}
-        given.update(repl=self.repl, walloc=self.walloc, wback=self.wback)
-        return [word for name, value in given.items()
-                for word in (f"-{self.place}{name}", str(value))]
 
     def __str__(self):
         parts = [f"{number_of(self.sets, 'set')} of {number_of(self.ways, 'way')}"]
