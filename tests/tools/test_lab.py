@@ -61,7 +61,7 @@ class Grade(StudentTest):
 
     def test_mistakes(self):
         cases = list(mistakes())
-        self.assertEqual(len(cases), 13)
+        self.assertEqual(len(cases), 11)
         for names, arguments, said in cases:
             with self.subTest(names):
                 program = self.student(*names)

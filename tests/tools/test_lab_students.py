@@ -45,7 +45,6 @@ OFFSET_KEPT      mixed  2,4,3   the set is that of the address, with its offset
 TWICE_SETS       mixed  4,2,4   the set is that of 2 * s and not of 2 to the power of s
 XOR_SETS         mixed  4,2,4   the set is that of 2 ^ s, which is an exclusive or in C
 MASK_SETS        mixed  2,4,3   the mask of the set is 1 << (s - 1), which is how C reads 1 << s - 1
-HIGH_SETS        rows   4,1,4   the set is in the highest of 32 bits
 MASK_IS_S        mixed  4,2,4   the mask of the set is s and not 2 to the power of s, less 1
 BLOCKS_OF_16     mixed  2,4,3   blocks have 16 bytes, whatever -b is
 FEW_SETS         rows   14,2,2  there are at most 1024 sets

@@ -186,36 +186,35 @@ class Script(PlotTest):
             self.assertEqual(list(map(int, named)), chosen)
 
     def test_axis(self):
-        """Logarithmic where the greatest is five times the least, with a place for 0 and ticks."""
-        words = ("--only", "size", "t.csv")
-        for *misses, is_log in (
-            (100, 499, False), (100, 500, True), (1000, 1000, False), (0, 0, False),
-            (1, 1000, True), (0, 10, 900, True), (0, 300, 900, False),
+        """Logarithmic where the greatest is five times the least, with a place for 0, and with
+        ticks that do not touch, in a picture and in few lines of text."""
+        tens, tenths = "0 10 20 30 40 50", " ".join(f"{at / 10:.1g}" for at in range(1, 10))
+        lines = {"COLUMNS": "72", "LINES": "16"}
+        for *misses, is_log, low, high, ticks, few in (
+            (100, 499, 0, 0, 52.395, "0 5 10 15 20 25 30 35 40 45 50", tens),
+            (100, 500, 1, 8.24373, 54.1899, "10 20 30 50", "10 20 30 50"),
+            (1000, 1000, 0, 0, 105, f"{tens} 60 70 80 90 100", "0 20 40 60 80 100"),
+            (0, 0, 0, 0, 1, f"0 {tenths} 1", "0 0.2 0.4 0.6 0.8 1"),
+            (1, 1000, 1, 0.0436516, 141.254, "0.05 0.1 0.2 0.5 1 2 5 10 20 50 100",
+             "0.1 0.3 1 3 10 30 100"),
+            (0, 10, 900, 1, 0.339611, 112.708, "0.582762 1 2 3 5 7 10 20 30 50 70 100",
+             "0.582762 2 5 10 20 50 100"),
+            (0, 300, 900, 0, 0, 94.5, f"{tens} 60 70 80 90", "0 20 40 60 80"),
         ):
             self.write("t.csv", rows_of(enumerate(misses, 1)))
-            # labels of 14 pixels in a height of some 380 must not touch, nor texts in its rows
-            self.judge_axis(misses, is_log, self.script(*words, "a.png"), 380, 20)
-            for lines, rows in ((16, 11), (60, 54)):
-                script = self.script(*words, "-", env={"COLUMNS": "72", "LINES": str(lines)})
-                self.judge_axis(misses, is_log, script, rows, 1.2)
-
-    def judge_axis(self, misses, is_log, script, height, closest):
-        self.assertIn(f"{'set' if is_log else 'unset'} logscale y\n", script)
-        ticks = re.search(r"(?m)^set ytics \((.*)\)$", script)[1]
-        ticks = {text: float(value) for text, value in re.findall(r"'([^']+)' ([^ ,]+)", ticks)}
-        foot = ticks["0"] if is_log and 0 in misses else 0
-        for text, value in ticks.items():
-            self.assertEqual(float(text), 0 if value == foot else value)
-        values = list(ticks.values())
-        self.assertTrue(len(ticks) > 3 and max(values) <= 100, ticks)
-        low, high = map(float, re.search(r"(?m)^set yrange \[(.*):(.*)\]$", script).groups())
-        places = [miss / 10 or foot for miss in misses]
-        self.assertEqual([place for _, place in data_of(script)["size_1"][0]], places)
-        self.assertTrue(all(low <= place <= high for place in [*places, *values]), script)
-        measure = math.log if is_log else float
-        places = [measure(value) for value in values]
-        gap = min(above - below for below, above in zip(places, places[1:]))
-        self.assertGreater(height * gap / (measure(high) - measure(low)), closest)
+            for out, env, wanted in ("a.png", {}, ticks), ("-", lines, few):
+                script = self.script("--only", "size", "t.csv", out, env=env)
+                self.assertIn(f"{'set' if is_log else 'unset'} logscale y\n", script)
+                ends = re.search(r"(?m)^set yrange \[(.*):(.*)\]$", script).groups()
+                self.assertEqual([f"{float(end):.6g}" for end in ends], [f"{low}", f"{high}"])
+                ticks = re.search(r"(?m)^set ytics \((.*)\)$", script)[1]
+                ticks = re.findall(r"'([^']+)' ([^ ,]+)", ticks)
+                self.assertEqual(" ".join(f"{float(at):.6g}" for _, at in ticks), wanted)
+                foot = float(ticks[0][1]) if is_log and 0 in misses else 0
+                self.assertEqual([float(text) for text, _ in ticks],
+                                 [float(at) * (float(at) != foot) for _, at in ticks])
+                places = [place for _, place in data_of(script)["size_1"][0]]
+                self.assertEqual(places, [miss / 10 or foot for miss in misses])
 
     def test_titles_and_names(self):
         """A title is quoted, and told where there are no references; names have blanks and

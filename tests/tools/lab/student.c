@@ -63,8 +63,6 @@ static void miss(struct line *victim, address_t tag)
 static address_t place(address_t address)
 {
     address_t block = address >> block_bits, sets = 1ull << set_bits;
-    if (HAS(HIGH_SETS))
-        return address >> (32 - set_bits) & (sets - 1);
     if (HAS(TWICE_SETS))
         return set_bits ? block % (2 * set_bits) : 0;
     if (HAS(FEW_SETS))

@@ -48,18 +48,14 @@ def short(bits):
     return lambda *numbers: tuple(number & (1 << bits) - 1 for number in numbers)
 
 
-def twice(kind):
-    return lambda all: [one for one in all for _ in range(1 + (one.kind == kind))]
+# Lines are read into a buffer that holds 15 characters, before the address three; those that do not
+# fit are cut, or not taken.
+def cut(all):
+    return [one._replace(address=int(one.digits[:12], 16)) for one in all]
 
 
-def cut(held):
-    """Lines are read into a buffer that holds so many characters, before the address three."""
-    return lambda all: [one._replace(address=int(one.digits[:held - 3], 16)) for one in all]
-
-
-def lost(held):
-    """The same, where lines that do not fit are not taken."""
-    return lambda all: [one for one in all if 4 + len(one.digits) + len(str(one.size)) <= held]
+def lost(all):
+    return [one for one in all if 4 + len(one.digits) + len(str(one.size)) <= 15]
 
 
 def of_blocks(bits):
@@ -104,9 +100,8 @@ MISTAKES = {
     "a set has at most 16 lines": {"ways": 16},
     "a set has at most 32 lines": {"ways": 32},
     "a set has at most 64 lines": {"ways": 64},
-    "a line of the trace is read into 12 bytes, and long addresses are cut": {"taken": cut(11)},
-    "a line of the trace is read into 16 bytes, and long addresses are cut": {"taken": cut(15)},
-    "a line of the trace is read into 16 bytes, and longer ones are lost": {"taken": lost(15)},
+    "a line of the trace is read into 16 bytes, and long addresses are cut": {"taken": cut},
+    "a line of the trace is read into 16 bytes, and longer ones are lost": {"taken": lost},
     "the last line of the trace counts twice (while !feof)": {"taken": lambda all: all + all[-1:]},
     "the last line of the trace is lost": {"taken": lambda all: all[:-1]},
     "the first line of the trace is lost": {"taken": lambda all: all[1:]},
@@ -121,14 +116,10 @@ MISTAKES = {
         "set_of": lambda address, s, b: (address >> b) % max(1, 2 ^ s)},
     "the mask of the set is 1 << (s - 1), which is how C reads 1 << s - 1": {
         "set_of": lambda address, s, b: address >> b & 1 << s - 1 if s else 0},
-    "the set is in the highest of 32 bits": {
-        "set_of": lambda address, s, b: address >> max(0, 32 - s) & (1 << s) - 1},
     "the mask of the set is s and not 2 to the power of s, less 1": {
         "set_of": lambda address, s, b: address >> b & s},
     "blocks have 16 bytes, whatever -b is": of_blocks(4),
     "blocks have 32 bytes, whatever -b is": of_blocks(5),
-    "there are at most 256 sets": {
-        "set_of": lambda address, s, b: address >> b & (1 << min(s, 8)) - 1},
     "there are at most 1024 sets": {
         "set_of": lambda address, s, b: address >> b & (1 << min(s, 10)) - 1},
     "the offset is taken for a part of the tag": {"tag_of": lambda address, s, b: address},
@@ -142,12 +133,8 @@ MISTAKES = {
         "set_of": lambda address, s, b: address >> max(0, b - 1) & (1 << s) - 1},
     "the set is taken modulo one less than the number of sets": {
         "set_of": lambda address, s, b: (address >> b) % max(1, (1 << s) - 1)},
-    "there are at most 4096 sets": {
-        "set_of": lambda address, s, b: address >> b & (1 << min(s, 12)) - 1},
     "the last byte of an access decides on its block": {"taken": lambda all: [
         one._replace(address=one.address + one.size - 1) for one in all]},
-    "S counts as two accesses": {"taken": twice("S")},
-    "L counts as two accesses": {"taken": twice("L")},
     "each miss counts as an eviction": {"report": lambda h, m, e: (h, m, m)},
     "an eviction does not count as a miss": {"report": lambda h, m, e: (h, m - e, e)},
     "an eviction counts as a hit too": {"report": lambda h, m, e: (h + e, m, e)},

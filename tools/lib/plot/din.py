@@ -145,8 +145,7 @@ def by_across(asked, table, across, several, measure):
         cases = {int(case.given[at]): case for case in reversed(cases)}
         points = [point(table, cases[x], x, several, has_caches) for x in sorted(cases)]
         lines.append(Line(name, [points]))
-    what = {"size": "cache size", "sets": "sets", "bsize": "block size", "assoc": "ways"}
-    what = what[kind(across)]
+    what = ACROSS[kind(across)].removesuffix(" in bytes")
     title = ": ".join([f"{measure.name} by {what}", *[", ".join(remarks)] * bool(remarks)])
     words = f"{ACROSS[kind(across)]} ({cache(across)})" if has_caches else ACROSS[kind(across)]
     return Picture("size", 0, title, words, "", lines)
