@@ -141,7 +141,8 @@ class GradeClass(ClassTest):
         self.assertFalse((self.folder / "students/ann/grade.txt").exists())
 
     def test_files_among_the_folders(self):
-        """They are named and left out; without a folder nobody is judged."""
+        """They are named and left out; without a folder nobody is judged. A text that can't be
+        written is told."""
         students = [self.enrol(name, self.student()) for name in ("ann", "zoe")]
         files = [self.folder / "students" / name for name in ("README.txt", "list")]
         for file in files:
@@ -151,13 +152,11 @@ class GradeClass(ClassTest):
         rows = "ann,6,6,18,1,1,1,1,1,1,\nzoe,6,6,18,1,1,1,1,1,1,\n"
         self.ends(ran, 1, message, f"{HARD}\n{rows}")
         self.refused(self.grade_class(*files), 2, f"grade-class: {files[0]}: no folder\n")
-
-    def test_a_text_that_cannot_be_written(self):
-        ann = self.enrol("ann", self.student())
-        (ann / "grade.txt").mkdir()
-        message = f"grade-class: {ann}: grade.txt can't be written: Is a directory\n"
-        ran = self.grade_class(*self.SHORT, "students/ann")
-        self.ends(ran, 1, message, f"{HARD}\nann,6,6,18,1,1,1,1,1,1,\n")
+        (students[0] / "grade.txt").unlink()
+        (students[0] / "grade.txt").mkdir()
+        message = f"grade-class: {students[0]}: grade.txt can't be written: Is a directory\n"
+        ran = self.grade_class(*self.SHORT, *students)
+        self.ends(ran, 1, message, f"{HARD}\n{rows}")
 
     def test_an_interrupt(self):
         """Nothing goes on, and no file is left."""
@@ -218,13 +217,11 @@ class Confined(ClassTest):
 
     @needs("bubblewrap")
     def test_what_is_left_behind_is_ended(self):
-        for name in ("LEAVES_CHILD", "LEAVES_DAEMON"):
-            self.enrol(name, self.student(name))
-        for confine in ([], ["--confine"]):
-            points = self.points("--trace", BLOCKS, *confine)
-            self.assertEqual(points, {"LEAVES_CHILD": 3, "LEAVES_DAEMON": 3})
-            for name in ("LEAVES_CHILD", "LEAVES_DAEMON"):
-                self.assertFalse(is_running(self.folder / "students" / name / "csim"))
+        names = "LEAVES_CHILD", "LEAVES_DAEMON"
+        folders = [self.enrol(name, self.student(name)) for name in names]
+        self.assertEqual(self.points("--trace", BLOCKS, "--confine"), dict.fromkeys(names, 3))
+        for folder in folders:
+            self.assertFalse(is_running(folder / "csim"))
 
     @needs("bubblewrap")
     def test_faults_are_told_as_without(self):

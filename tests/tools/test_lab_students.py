@@ -27,9 +27,6 @@ BYTE_TAG         order  2,4,3   tags have only about 8 bits
 SHORT_TAG        wide   0,2,4   tags have only about 16 bits
 NARROW_TAG       wide   0,2,4   tags have only about 32 bits
 SIGNED_ADDRESS   wide   0,2,4   addresses are signed, and cut at 7fffffffffffffff
-BYTE_CLOCK       mixed  2,4,3   the clock of LRU has only 8 bits
-TICKS_AT_MISSES  mixed  2,2,3   in which a hit does not advance the clock of LRU
-TICKS_AFTER_MISSES mixed 2,4,3  of LRU, and a miss does once its block is in
 CROSSES          mixed  0,1,0   an access that ends in another block counts for that too
 NO_VALID         order  2,4,3   a line that is still empty is found by tag 0
 ONE_WAY          order  1,9,3   a set has only one line
@@ -59,7 +56,6 @@ SWAPS_COUNTS     order  2,4,3   hits and misses are exchanged
 SWAPS_MISSES     order  2,4,3   misses and evictions are exchanged
 BYTE_COUNTS      mixed  4,2,4   counts have only 8 bits
 SHORT_COUNTS     long   4,2,4   counts have only 16 bits
-SHORT_CLOCK      long   2,4,3   the clock of LRU has only 16 bits
 FEW_LINES        long   4,2,4   the trace is read to line 65,536
 UNCLEARED        order  2,4,3   memory of malloc is taken for zeros; calloc clears it
 TAG_TOO_SHORT    mixed  2,4,3   line 25 with -v

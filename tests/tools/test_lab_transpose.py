@@ -8,7 +8,7 @@ import re
 import signal
 import subprocess
 
-from base import EXAMPLES, PROGRAM, ended, needs
+from base import PROGRAM, ended, needs
 from lab_base import LAB, STUDENTS, LabTest, comes
 
 TRANS = STUDENTS / "trans.c"
@@ -80,27 +80,13 @@ class Transpose(LabTest):
 
     @needs("valgrind")
     def test_the_accesses_are_kept(self):
-        """Those of a matrix transposed row by row are, from A and B on, those of the example."""
         ran = self.transpose("--size", "32x32", "--keep", "new/kept", TRANS)
         self.assertEqual(ran.returncode, 1)
         names = sorted(path.name for path in (self.folder / "new/kept").iterdir())
         self.assertEqual(names, [f"32x32-{number}.trace" for number in (1, 2, 3)])
-        kept = (self.folder / "new/kept/32x32-1.trace").read_text().splitlines()
-        text = (EXAMPLES / "transpose.lackey").read_text()
-        example = [line for line in text.splitlines() if line[0] == " "]
-        self.assertEqual(self.steps(kept[4:-1]), self.steps(example))
         words = ["csim", "-s", 5, "-E", 1, "-b", 5, "-t", "new/kept/32x32-1.trace"]
         summary = self.good(self.run_command(PROGRAM, *words))
         self.assertEqual(summary, "hits:870 misses:1183 evictions:1151\n")
-
-    def steps(self, lines):
-        """The kinds of accesses, and how far each is from the last one of its kind."""
-        last, steps = {}, []
-        for line in lines:
-            kind, place = line[1], int(line[3:].partition(",")[0], 16)
-            steps.append((kind, place - last.get(kind, place)))
-            last[kind] = place
-        return steps
 
     @needs("valgrind")
     def test_faults(self):
@@ -137,8 +123,6 @@ class Transpose(LabTest):
             ("before", counts), ("after", counts),
             ("exits", "32x32 it has ended the program (ended with status 0) 0.0 of 8 points"),
             ("crashes", "32x32 it ended by signal 11: Segmentation fault 0.0 of 8 points"),
-            ("aborts", "32x32 it ended by signal 6: Aborted 0.0 of 8 points"),
-            ("recurses", "32x32 it ended by signal 11: Segmentation fault 0.0 of 8 points"),
         ):
             self.assertEqual(told[name], lines)
         for name, line in (("changes", "A is changed"),
@@ -146,7 +130,7 @@ class Transpose(LabTest):
             self.assertEqual(told[name][1:], [line])
         self.assertEqual(len(told["prints @ 0"]), 1)
         kept = sorted(path.stem for path in (self.folder / "kept").iterdir())
-        self.assertEqual(kept, sorted(f"32x32-{number}" for number in (1, 5, 6, 7, 8, 10)))
+        self.assertEqual(kept, sorted(f"32x32-{number}" for number in (1, 4, 5, 6, 7, 8)))
         self.assertEqual(list(self.private.iterdir()), [])
 
     @needs("valgrind")
@@ -159,9 +143,6 @@ class Transpose(LabTest):
         said = ran.stdout.decode()
         self.assertTrue(said.endswith("wrong\n    4x4  it makes more than 1,000,000 accesses\n"))
         self.assertIn("row by row\n    4x4  hits:15 misses:22 evictions:20\n", said)
-        ran = self.transpose("--size", "4x4", TRANS, CC="cc -DCRASHES")
-        told = "wrong\n    4x4  it ended by signal 11: Segmentation fault"
-        self.assertIn(told, ran.stdout.decode())
         self.assertTrue(comes(lambda: not those_that_name(self.private), 60))
 
     def interrupted(self, number):

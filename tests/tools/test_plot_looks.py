@@ -160,7 +160,7 @@ class Drawn(LooksTest):
     def test_png_for_print(self):
         """300 pixels an inch; the title and the legend are on it."""
         self.good(self.plot("--size", "3.3x2.5in", "din.csv", "a.png"))
-        self.assertEqual(png_of((self.folder / "a.png").read_bytes())[:2], (990, 750))
+        self.assertEqual(png_of((self.folder / "a.png").read_bytes()), (990, 750))
 
     def test_no_warning_where_the_language_is_c(self):
         env = {"LC_ALL": "C", "LANG": "C"}

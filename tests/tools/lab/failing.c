@@ -23,12 +23,6 @@ static void crashes(int M, int N, int A[N][M], int B[M][N])
     *(volatile int *)8 = 1;
 }
 
-static void aborts(int M, int N, int A[N][M], int B[M][N])
-{
-    good(M, N, A, B);
-    abort();
-}
-
 static void changes(int M, int N, int A[N][M], int B[M][N])
 {
     good(M, N, A, B);
@@ -55,15 +49,6 @@ static void prints(int M, int N, int A[N][M], int B[M][N])
     fclose(stderr);
 }
 
-static void recurses(int M, int N, int A[N][M], int B[M][N])
-{
-    volatile int many[100000];
-    many[M] = N;
-    if (many[M] == N)
-        recurses(M, N, A, B);
-    many[0] = 0;
-}
-
 static void spins(int M, int N, int A[N][M], int B[M][N])
 {
     good(M, N, A, B);
@@ -83,12 +68,10 @@ void registerFunctions(void)
     registerTransFunction(good, "before");
     registerTransFunction(exits, "exits");
     registerTransFunction(crashes, "crashes");
-    registerTransFunction(aborts, "aborts");
     registerTransFunction(changes, "changes");
     registerTransFunction(beyond_B, "beyond B");
     registerTransFunction(beyond_A, "beyond A");
     registerTransFunction(prints, "prints\n@ 0");
-    registerTransFunction(recurses, "recurses");
     registerTransFunction(good, "after");
     (void)spins;
 }

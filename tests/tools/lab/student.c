@@ -54,9 +54,7 @@ static void miss(struct line *victim, address_t tag)
         hits += HAS(EVICTION_HITS);
         misses -= HAS(EVICTION_NO_MISS);
     }
-    now += HAS(TICKS_AT_MISSES);
     *victim = (struct line){!HAS(NEVER_VALID), tag, HAS(NEW_IS_OLD) ? 0 : now, 1};
-    now += HAS(TICKS_AFTER_MISSES);
 }
 
 /* The number of a block's set. */
@@ -123,8 +121,7 @@ static void touch(address_t address, char kind)
     address &= HAS(NARROW) ? 0xffffffff : ~0ull;
     address_t tag = tag_of(address);
     struct line *set = lines + place(address) * ways, *victim = set, *end = set + looked_at();
-    now += !HAS(TICKS_AT_MISSES) && !HAS(TICKS_AFTER_MISSES);
-    now &= HAS(SHORT_CLOCK) ? 0xffff : HAS(BYTE_CLOCK) ? 0xff : ~0ul;
+    now++;
     for (struct line *line = set; line < end; line++)
         if ((line->valid || HAS(NO_VALID)) && line->tag == tag) {
             hit(line, kind);

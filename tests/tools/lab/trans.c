@@ -1,5 +1,5 @@
 /* Functions for part B of the cache lab, for the tests of `lab-transpose`: row by row, in blocks of
- * 8 by 8 with the diagonal last, and one that is wrong. -DCRASHES and -DLOOPS put a mistake in. */
+ * 8 by 8 with the diagonal last, and one that is wrong, or with -DLOOPS has no end. */
 #include "cachelab.h"
 
 static void by_rows(int M, int N, int A[N][M], int B[M][N])
@@ -31,9 +31,6 @@ static void by_blocks(int M, int N, int A[N][M], int B[M][N])
 static void wrong(int M, int N, int A[N][M], int B[M][N])
 {
     B[0][0] = A[0][0];
-#ifdef CRASHES
-    *(volatile int *)8 = 0;
-#endif
 #ifdef LOOPS
     for (;;)
         B[0][0]++;

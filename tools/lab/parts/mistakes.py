@@ -23,19 +23,15 @@ class Habits:
     evicts: str = "used"  # the block used first, or that which came first, was used last, ..
     address_bits: int = 64
     tag_bits: int = 64
-    clock_bits: int = 64
-    ticks: str = ""  # the clock stands at a hit, and at a miss goes on "before" or "after" its use
     is_signed: bool = False
     kinds: str = "LSM"
-    modify: str = "both"  # accesses of an M count, or "once", or the second after a "hit" only, or
-    # after one that is "no eviction"
+    modify: str = "both"  # accesses of an M count, or "once", or the second after a "hit" only
     no_use: str = ""  # the kinds of a hit that is no use of its block
     is_old: bool = False  # a new block is older than all others
     passes: bool = False  # a store that misses brings no block in
     crosses: bool = False  # an access touches the block of its last byte too
     is_valid: bool = True  # whether a line's valid bit is looked at
     ways: Optional[int] = None  # a set has at most so many lines
-    is_early: bool = False  # a set's last free line counts as an eviction when it is filled
     by_size: bool = False  # evictions are the misses less the lines of all sets
     taken: Callable = lambda accesses: accesses
     swaps: bool = False  # set bits and block bits are exchanged
@@ -69,8 +65,6 @@ MISTAKES = {
     "a hit does not count as a use of its block (FIFO)": {"evicts": "came"},
     "the block used last is evicted (MRU)": {"evicts": "latest"},
     "the block used least often is evicted (LFU)": {"evicts": "rarest"},
-    "the block used least often is evicted, of several the one used longest ago (LFU)": {
-        "evicts": "rarest, oldest"},
     "a full set always evicts the block in its first line": {"evicts": "first"},
     "a new block counts as the oldest of its set": {"is_old": True},
     "a store that hits does not count as a use of its block": {"no_use": "S"},
@@ -78,7 +72,6 @@ MISTAKES = {
     "a store that misses brings no block in": {"passes": True},
     "M counts as one access": {"modify": "once"},
     "the store of an M that misses does not count": {"modify": "hit"},
-    "the store of an M that evicts does not count": {"modify": "no eviction"},
     "M is ignored": {"kinds": "LS"},
     "S is ignored": {"kinds": "LM"},
     "I lines count as accesses": {"kinds": "LSMI"},
@@ -88,11 +81,6 @@ MISTAKES = {
     "tags have only about 16 bits": {"tag_bits": 16},
     "tags have only about 32 bits": {"tag_bits": 32},
     "addresses are signed, and cut at 7fffffffffffffff": {"is_signed": True},
-    "the clock of LRU has only 8 bits": {"clock_bits": 8},
-    "the clock of LRU has only 16 bits": {"clock_bits": 16},
-    "a hit does not advance the clock of LRU": {"ticks": "before"},
-    "a hit does not advance the clock of LRU, and a miss does once its block is in": {
-        "ticks": "after"},
     "an access that ends in another block counts for that too": {"crosses": True},
     "a line that is still empty is found by tag 0": {"is_valid": False},
     "a set has only one line": {"ways": 1},
@@ -131,17 +119,11 @@ MISTAKES = {
         "set_of": lambda address, s, b: address >> b + 1 & (1 << s) - 1},
     "the set is shifted by one bit too few": {
         "set_of": lambda address, s, b: address >> max(0, b - 1) & (1 << s) - 1},
-    "the set is taken modulo one less than the number of sets": {
-        "set_of": lambda address, s, b: (address >> b) % max(1, (1 << s) - 1)},
-    "the last byte of an access decides on its block": {"taken": lambda all: [
-        one._replace(address=one.address + one.size - 1) for one in all]},
     "each miss counts as an eviction": {"report": lambda h, m, e: (h, m, m)},
     "an eviction does not count as a miss": {"report": lambda h, m, e: (h, m - e, e)},
     "an eviction counts as a hit too": {"report": lambda h, m, e: (h + e, m, e)},
     "evictions are not counted": {"report": lambda h, m, e: (h, m, 0)},
-    "evictions are one too few": {"report": lambda h, m, e: (h, m, max(0, e - 1))},
     "evictions are the misses less the lines of all sets": {"by_size": True},
-    "a set's last free line counts as an eviction when it is filled": {"is_early": True},
     "all accesses count as misses": {"report": lambda h, m, e: (h, h + m, e)},
     "hits are one too many": {"report": lambda h, m, e: (h + 1, m, e)},
     "hits and misses are exchanged": {"report": lambda h, m, e: (m, h, e)},
@@ -166,7 +148,6 @@ KEYS = {
     "came": lambda line: line.came,
     "latest": lambda line: (-line.used, line.place),
     "rarest": lambda line: (line.uses, line.place),
-    "rarest, oldest": lambda line: (line.uses, line.used),
     "first": lambda line: line.place,
 }
 
@@ -185,8 +166,7 @@ class Cache:
     def touch(self, kind, address):
         """An access to one block. Returns whether it hits."""
         habits = self.habits
-        if not habits.ticks:
-            self.tick()
+        self.now += 1
         address &= (1 << habits.address_bits) - 1
         if habits.is_signed:
             address = min(address, (1 << 63) - 1)
@@ -201,17 +181,9 @@ class Cache:
                 line.used = line.used if kind in habits.no_use else self.now
             return "hit"
         self.misses += 1
-        if habits.ticks == "before":
-            self.tick()
-        before = self.evictions
         if not (habits.passes and kind == "S"):
             self.bring(lines, tag)
-        if habits.ticks == "after":
-            self.tick()
-        return "miss" if self.evictions == before else "eviction"
-
-    def tick(self):
-        self.now = self.now + 1 & (1 << self.habits.clock_bits) - 1
+        return "miss"
 
     def bring(self, lines, tag):
         """Brings a block in, and evicts one where the set is full."""
@@ -220,8 +192,6 @@ class Cache:
             self.evictions += 1
             key = KEYS[self.habits.evicts]
             place = lines.pop(min(lines, key=lambda tag: key(lines[tag]))).place
-        elif place == self.ways - 1:
-            self.evictions += self.habits.is_early
         used = 0 if self.habits.is_old else self.now
         lines[tag] = Line(used, self.misses, place)
 
@@ -234,8 +204,7 @@ def counts(accesses, cache, habits):
         if kind not in habits.kinds:
             continue
         went = made.touch("L" if kind == "M" else kind, address)
-        if kind == "M" and (habits.modify in ("both", went)
-                            or habits.modify == "no eviction" and went != "eviction"):
+        if kind == "M" and habits.modify in ("both", went):
             made.touch("S", address)
         end = address + size - 1
         if habits.crosses and end >> made.block_bits != address >> made.block_bits:
