@@ -48,11 +48,6 @@ class Grade(StudentTest):
         self.ends(ran, status, "", text)
         self.assertEqual(list(self.private.iterdir()), [])
 
-    def test_a_right_program(self):
-        """A simulator that shares nothing with cachesim."""
-        traces = "yi.trace", EXAMPLES / "blocks.lackey", EXAMPLES / "transpose.lackey"
-        self.says(self.grade(self.student(), *traces), "45 of 45 right\n", 0)
-
     def test_the_labs_caches_are_among_those_tried(self):
         said = self.good(self.grade("--all", self.student(), "yi.trace")).splitlines()
         self.assertEqual((len(said), said[-1]), (16, "15 of 15 right"))

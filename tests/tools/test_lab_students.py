@@ -58,15 +58,10 @@ BYTE_COUNTS      mixed  4,2,4   counts have only 8 bits
 SHORT_COUNTS     long   4,2,4   counts have only 16 bits
 FEW_LINES        long   4,2,4   the trace is read to line 65,536
 UNCLEARED        order  2,4,3   memory of malloc is taken for zeros; calloc clears it
-TAG_TOO_SHORT    mixed  2,4,3   line 25 with -v
-NEVER_VALID      order  2,4,3   line 3 with -v
-NEXT_SETS        mixed  2,1,4   line 11 with -v
-ONE_LESS         order  2,4,3   line 7 with -v
-ONE_MORE         order  2,2,3   line 4 with -v
+TAG_TOO_SHORT    mixed  2,4,3   the tag is shifted by one bit too many
+NEXT_SETS        mixed  2,1,4   the set is shifted by one bit too many
 STORES_NEXT      mixed  2,1,3   line 8 with -v
-DECIMAL_ADDRESS  order  2,4,3   line 1 with -v
 FIRST_LETTER     order  2,4,3   with -v it writes no line for an access
-ENDS_AT_FETCH    mixed  2,4,3   line 3 with -v
 OWN_ORDER        order  2,4,3   no summary; the last line is 'misses:19 hits:7 evictions:15'
 CALLS_CACHESIM   order  2,4,3   ended with status 1
 """

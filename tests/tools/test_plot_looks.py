@@ -73,46 +73,43 @@ class Script(LooksTest):
         self.assertTrue(len(bars) == 1 and "dashtype solid" in bars[0], bars)
 
     def test_sizes(self):
-        for size, ending, wanted in (
-            ("3.3in", "pdf", "pdfcairo size 3.3in,2.64in font 'DejaVu Sans,7'"),
-            ("80x60mm", "pdf", "pdfcairo size 3.15in,2.362in font 'DejaVu Sans,7'"),
-            ("7in", "pdf", "pdfcairo size 7in,3.92in font 'DejaVu Sans,8'"),
-            ("3.3in", "png", "pngcairo size 990,792 font 'Sans,7' fontscale 3.125"),
-            ("700x400", "png", "pngcairo size 700,400 font 'Sans,10.5' fontscale 1 "),
-            ("8cmx5cm", "svg", None),
-            ("6cm", "svg", "svg size 227,181 font 'DejaVu Sans,Verdana,sans-serif,9.333'"),
-            ("640x480px", "svg", "svg size 640,480 font 'DejaVu Sans,Verdana,sans-serif,14'"),
-            ("1600x900 --scale 2", "png", "pngcairo size 1600,900 font 'Sans,21' fontscale 1 "),
-            ("10x6in --scale 2.5", "pdf", "pdfcairo size 10in,6in font 'DejaVu Sans,20'"),
-            ("860 --scale 0.5", "svg", "svg size 860,482 font 'DejaVu Sans,Verdana,sans-serif,7'"),
+        """The terminal that is set, or what is refused."""
+        small = "--size is too small for 1 picture with type that can be read"
+        for words, out, wanted in (
+            ("3.3in", "a.pdf", "pdfcairo size 3.3in,2.64in font 'DejaVu Sans,7'"),
+            ("80x60mm", "a.pdf", "pdfcairo size 3.15in,2.362in font 'DejaVu Sans,7'"),
+            ("7in", "a.pdf", "pdfcairo size 7in,3.92in font 'DejaVu Sans,8'"),
+            ("3.3in", "a.png", "pngcairo size 990,792 font 'Sans,7' fontscale 3.125"),
+            ("700x400", "a.png", "pngcairo size 700,400 font 'Sans,10.5' fontscale 1 "),
+            ("6cm", "a.svg", "svg size 227,181 font 'DejaVu Sans,Verdana,sans-serif,9.333'"),
+            ("640x480px", "a.svg", "svg size 640,480 font 'DejaVu Sans,Verdana,sans-serif,14'"),
+            ("1600x900 --scale 2", "a.png", "pngcairo size 1600,900 font 'Sans,21' fontscale 1 "),
+            ("10x6in --scale 2.5", "a.pdf", "pdfcairo size 10in,6in font 'DejaVu Sans,20'"),
+            ("860 --scale 0.5", "a.svg", "svg size 860,482 font 'DejaVu Sans,Verdana,sans-serif,7"),
+            ("", "a.png", "pngcairo size 860,480 font 'Sans,10.5'"),
+            ("1in", "a.pdf", small),
+            ("3.3x0.5in", "a.pdf", small),
+            ("3in", "-", "--size is for .png, .svg and .pdf"),
+            ("0", "a.png", "too small"),
+            ("x", "a.png", "'x' is no size such as 3.3in, 80x60mm or 800x600; "),
+            ("8cmx5cm", "a.svg", "'8cmx5cm' is no size"),
+            ("3ft", "a.png", "'3ft' is no size"),
+            ("999999", "a.png", "'999999' is no size"),
+            ("3in --scale 0.1", "a.png", "'0.1' is no scale from"),
+            ("3in --scale x", "a.png", "'x' is no scale from"),
+            ("3in --scale 9", "a.png", "--size is too small for 1 picture"),
         ):
-            words = ("--only", "block", "--size", *size.split(), "eight.csv", f"a.{ending}")
-            ran = self.plot("--script", *words)
-            if wanted:
+            size = ["--size", *words.split()] * bool(words)
+            ran = self.plot("--script", "--only", "block", *size, "eight.csv", out)
+            if "cairo" in wanted or "svg size" in wanted:
                 self.assertIn(f"set terminal {wanted}", self.good(ran))
             else:
-                fault = f"plot: '{size}' is no size such as 3.3in, 80x60mm or 800x600; "
-                self.refused(ran, 2, fault)
+                self.refused(ran, 2, "plot: ", wanted)
+        for option in ("--size", "--scale"):
+            ran = self.plot(option, "3", "eight.csv", "a.html")
+            self.refused(ran, 2, f"plot: {option} is for .png, .svg and .pdf; ")
         script = self.script("--only", "size", "--scale", "2", "eight.csv", "a.png")
         self.assertIn("pngcairo size 1720,960 font 'Sans,21'", script)
-
-    def test_refused(self):
-        small = "--size is too small for 1 picture with type that can be read"
-        for words, out, fault in (
-            ("--script --only size --size 1in", "a.pdf", small),
-            ("--script --only size --size 3.3x0.5in", "a.pdf", small),
-            ("--script --only size --size 3in", "-", "--size is for .png, .svg and .pdf"),
-            ("--script --only size --size 0", "a.png", "too small"),
-            ("--script --only size --size x", "a.png", "'x' is no size"),
-            ("--script --only size --size 3ft", "a.png", "'3ft' is no size"),
-            ("--script --only size --size 999999", "a.png", "'999999' is no size"),
-            ("--size 3in", "a.html", "--size is for .png, .svg and .pdf"),
-            ("--scale 2", "a.html", "--scale is for .png, .svg and .pdf"),
-            ("--scale 0.1", "a.png", "'0.1' is no scale from"),
-            ("--scale x", "a.png", "'x' is no scale from"),
-            ("--scale 9 --size 3in", "a.png", "--size is too small for 3 pictures"),
-        ):
-            self.refused(self.plot(*words.split(), "eight.csv", out), 2, "plot: ", fault)
 
     def margins(self, script):
         """Where the left, right, bottom and top of each picture are."""
@@ -204,5 +201,3 @@ class Page(LooksTest):
         self.assertEqual((look["found"], look["line"]), ([], "rgb(0, 0, 0)"))
         script = (self.folder / "a.html").read_text()
         self.assertEqual(re.findall('"dash":"([a-z]+)"', script), ["solid", "dash", "dot"])
-        self.assertIn('"error_y":{"type":"data","symmetric":false,"array":[3.0,', script)
-        self.assertIn("18 runs, 1,000 references", script)

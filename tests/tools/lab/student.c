@@ -54,7 +54,7 @@ static void miss(struct line *victim, address_t tag)
         hits += HAS(EVICTION_HITS);
         misses -= HAS(EVICTION_NO_MISS);
     }
-    *victim = (struct line){!HAS(NEVER_VALID), tag, HAS(NEW_IS_OLD) ? 0 : now, 1};
+    *victim = (struct line){1, tag, HAS(NEW_IS_OLD) ? 0 : now, 1};
 }
 
 /* The number of a block's set. */
@@ -111,9 +111,8 @@ static address_t tag_of(address_t address)
 /* The lines of a set that are looked at. */
 static int looked_at(void)
 {
-    int most = HAS(ONE_WAY) ? 1 : HAS(MOST_8) ? 8 : HAS(MOST_64) ? 64
-        : HAS(ONE_LESS) ? ways - 1 : ways + HAS(ONE_MORE);
-    return most < ways + HAS(ONE_MORE) ? most : ways + HAS(ONE_MORE);
+    int most = HAS(ONE_WAY) ? 1 : HAS(MOST_8) ? 8 : HAS(MOST_64) ? 64 : ways;
+    return most < ways ? most : ways;
 }
 
 static void touch(address_t address, char kind)
@@ -261,8 +260,6 @@ static int reads(const char *text, char *kind, address_t *address, int *size)
     int found = sscanf(text, " %c %llx,%d", kind, address, size);
     if (HAS(SIGNED_ADDRESS) && found == 3)
         *address = strtoll(text + 3, NULL, 16);
-    if (HAS(DECIMAL_ADDRESS) && found == 3)
-        *address = strtoull(text + 3, NULL, 10);
     if (HAS(FIRST_LETTER) && found == 3)
         *kind = *text;
     const char *kinds = HAS(FETCHES) ? "LSMI"
@@ -286,8 +283,6 @@ static void run(FILE *file)
         strcpy(text, next);
         if ((HAS(FIRST_LOST) && number == 1) || (HAS(FEW_LINES) && number > 65536))
             *text = 0;
-        if (HAS(ENDS_AT_FETCH) && *next == 'I')
-            break;
     }
     for (int times = HAS(LAST_LOST) ? 0 : HAS(LAST_TWICE) ? 2 : 1; times > 0; times--)
         if (reads(text, &kind, &address, &size))
