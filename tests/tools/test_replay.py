@@ -59,6 +59,10 @@ class ReplayTest(ToolTest):
         """The lines with --text."""
         return self.page(*arguments, "--text", **given).splitlines()
 
+    def rows(self, *arguments, **given):
+        """The columns of these for each step."""
+        return [re.split("  +", row.strip()) for row in self.text(*arguments, **given)[3:-1]]
+
     def data(self, *arguments, **given):
         """What the page has been given to draw."""
         data = '<script type="application/json" id="data">(.*?)</script>'
@@ -74,18 +78,19 @@ class Replay(ReplayTest):
         self.assertEqual(self.page("-s1", "-E=2", "-b4", "--text", stdin=HANDOUT.read_bytes()),
                          HANDOUT_TEXT.replace("handout.lackey", "standard input"))
 
-    def test_policies_and_a_flush_by_hand(self):
-        for policy, lines in ORDERED.items():
-            rows = self.text(*ONE_SET, "-l1-urepl", policy, stdin=ORDER)[3:-1]
-            self.assertEqual([re.split("  +", row)[-1] for row in rows], lines)
-        self.assertRegex(rows[5], r"^ +6  flush +1 written back +all free$")
-
-    def test_a_flush_of_several_sets(self):
-        """Of three blocks in two sets two are dirty."""
+    def test_ways_by_hand(self):
+        """Policies, and a flush: of three blocks in two sets two are dirty; three ways, by the
+        handout's example, with a third line for the block of 210."""
+        for policy, wanted in ORDERED.items():
+            rows = self.rows(*ONE_SET, "-l1-urepl", policy, stdin=ORDER)
+            self.assertEqual([row[-1] for row in rows], wanted)
         words = ("-l1-usize", 64, "-l1-ubsize", 16, "-l1-uassoc", 2)
-        rows = self.text(*words, stdin=b"1 10\n1 20\n0 40\n4 0\n4 0\n")
-        self.assertEqual([re.split("  +", row.strip())[1:] for row in rows[6:8]],
-                         [["flush", f"{dirty} written back", "all free"] for dirty in (2, 0)])
+        rows = self.rows(*words, stdin=b"1 10\n1 20\n0 40\n4 0\n4 0\n")
+        self.assertEqual([row[1:] for row in rows[3:]], [
+            ["flush", f"{dirty} written back", "all free"] for dirty in (2, 0)])
+        rows = self.rows("-s", 1, "-E", 3, "-b", 4, "-t", HANDOUT)
+        self.assertEqual([row[-1] for row in rows if row[4] == "1"],
+                         ["0 - -", "0* - -", "0* 8 -", "[0*] 8 10", "0* [8] 10", "0* [8] 10"])
 
     def test_one_set(self):
         """The steps of set 1 of the handout's trace, with the lines and sets as in the whole."""
@@ -114,18 +119,13 @@ class Replay(ReplayTest):
         ran = self.replay(*lab_words(4, 2, 4), "-t", HANDOUT, "--set", "f")
         self.refused(ran, 1, "no reference for set f")
 
-    def test_ways_of_any_number(self):
-        """What csim says of them; the example by hand, with a third line for the block of 210."""
-        rows = self.text("-s", 1, "-E", 3, "-b", 4, "-t", HANDOUT)[2:-1]
-        rows = [re.split("  +", row.strip()) for row in rows]
-        self.assertEqual([row[-1] for row in rows if row[4] == "1"],
-                         ["0 - -", "0* - -", "0* 8 -", "[0*] 8 10", "0* [8] 10", "0* [8] 10"])
+    def test_totals(self):
+        """They are those of csim."""
         cut = self.write("cut.lackey", start_of("transpose.lackey", 900))
-        for cache in ((1, 9, 3), (1, 65, 3), (3, 3, 6)):
+        for cache in ((0, 1, 1), (1, 9, 3), (1, 65, 3), (3, 3, 6), (5, 1, 0)):
             words = *lab_words(*cache), "-t", cut
-            text = self.text(*words)
-            self.assertEqual(text[-1], self.good(self.run_command(PROGRAM, "csim", *words)).strip())
-            self.assertEqual(len(self.steps(*words)), len(text) - 4)
+            summary = self.good(self.run_command(PROGRAM, "csim", *words))
+            self.assertEqual(self.text(*words)[-1], summary.strip())
 
     def test_a_trace_up_to_a_line(self):
         """Of more than 1,000 steps the last, with what the sets hold before them."""
@@ -176,17 +176,14 @@ class Replay(ReplayTest):
 
     def test_decimal_addresses(self):
         """Those of a textbook's exercise, in blocks of four words; and what is no decimal number
-        is no address. The same trace in hexadecimal takes the same steps."""
+        is no address."""
         cache = ("-l1-usets", 2, "-l1-ubsize", 4, "-l1-uassoc", 3)
         numbers = (180, 43, 2, 191, 88, 190, 14, 181, 44, 186)
-        text = self.text(*cache, "--decimal", stdin="".join(f"0 {at}\n" for at in numbers).encode())
-        rows = [re.split("  +", row.strip()) for row in text[3:-1]]
+        trace = "".join(f"0 {at}\n" for at in numbers).encode()
+        rows = self.rows(*cache, "--decimal", stdin=trace)
         self.assertEqual([[int(word) for word in row[2:6]] for row in rows],
                          [[at, at // 8, at // 4 % 2, at % 4] for at in numbers])
-        plain = self.text(*cache, stdin="".join(f"0 {at:x}\n" for at in numbers).encode())
-        tags = re.compile(r" of (\d+)")
-        self.assertEqual([re.split("  +", row.strip())[6] for row in plain[3:-1]],
-                         [tags.sub(lambda of: f" of {int(of[1]):x}", row[6]) for row in rows])
+        self.assertEqual(rows[-2][6], "miss eviction of 23")
         lab = self.data(*LAB, "--decimal", "--set", "1", stdin=b" L 16,4\n M 48 , 4\n S 32,1\n")
         self.assertEqual([step["address"] for step in lab["steps"]], ["16", "48", "48"])
         self.assertEqual((lab["base"], lab["title"]), (10, "standard input, set 1"))
@@ -424,9 +421,8 @@ class InABrowser(ReplayTest):
         handout, transpose = HANDOUT.read_bytes(), start_of("transpose.lackey", 100).encode()
         for trace, *words in ((handout, *lab_words(0, 2, 4)), (transpose, *lab_words(2, 4, 4)),
                               (ORDER, *ONE_SET, "-l1-urepl", "f")):
-            rows = self.text(*words, stdin=trace)[3:-1]
             sets = self.shown(self.page(*words, stdin=trace))["sets"]
-            self.same(sets, [re.split("  +", row)[-1] for row in rows])
+            self.same(sets, [row[-1] for row in self.rows(*words, stdin=trace)])
 
     def test_narrow_and_wide(self):
         """Nothing is wider than the window, with the longest addresses too."""
