@@ -43,10 +43,6 @@ def access_time(row, cost):
     return HIT + fractions.Fraction(row.misses, max(1, row.references)) * cost.of_block(row.bsize)
 
 
-def columns_of(lines):
-    return lines[0].rstrip("\r\n").split(",") if lines else []
-
-
 def column_of(asked):
     """The name of what is asked for."""
     return ACCESS_TIME if asked.miss_cost else asked.measure or "misses"
@@ -59,7 +55,7 @@ def rows_of(asked, lines, name):
     if asked.miss_cost:
         def made(row):
             return access_time(row, asked.miss_cost)
-    elif column == TRAFFIC and TRAFFIC not in columns_of(lines):
+    elif column == TRAFFIC and TRAFFIC not in "".join(lines[:1]).strip().split(","):
         def made(row):
             return fractions.Fraction(row.bsize * row.misses)
     else:

@@ -218,7 +218,7 @@ def page(drawn, offered, measure, title, counts, mono):
     figures = {picture.name: {fixed: figure(each, up, measure, mono)
                               for fixed, each in several.items()}
                for picture, several in zip(drawn, offered)}
-    heading = html.escape(title or measure.heading)
+    heading = html.escape(title or measure.name)
     return f"""<!DOCTYPE html>
 <html lang="en">
 <head>

@@ -44,11 +44,6 @@ class Measure(NamedTuple):
     is_linear: bool = False
 
     @property
-    def heading(self):
-        """What stands above a page of several pictures."""
-        return "Miss ratios of caches" if self.name == "Miss ratio" else self.name
-
-    @property
     def least(self):
         """The title of the Pareto front."""
         if self.name == "Miss ratio":
