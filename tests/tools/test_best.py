@@ -124,80 +124,65 @@ class Best(base.ToolTest):
             self.refused(ran, status, fault)
 
 
-class OfDin(base.ToolTest):
+# 30, 33 and 42 are 35 in the mean, and the deviation is the root of (25 + 4 + 49) / 2
+FIRST, SECOND = "128,16,2,l,128,20,3,0.000,20,20", "128,16,2,f,128,25,3,0.000,25,25"
+LAST = "128,16,2,r,128,35,3,6.245,30,42"
+LRU_64, RANDOM_64 = "64,16,2,l,64,100,3,0.000,100,100", "64,16,2,r,64,150,3,30.000,120,180"
+ALONE = re.sub("(?m)^(([^,]+,){4})1,", r"\1", din_rows({(64, "l"): (100,)}))
+# 20 of 50 references to the second level, of 109 of the trace: 40 and 18.349 per cent
+TWO = (f"{LEVELS},cycles\n64,256,100,50,50.000,50,20,40.000,20,9,90\n"
+       "128,256,100,40,40.000,40,25,62.500,25,9,80\n")
+NOTHING = "l1-dsize,l1-d-references,l1-d-misses,l1-d-percent,bypassed\n64,0,0,0.000,0\n"
+HITS = f"{table.HEADER}\n64,1,1,64,500,500,0\n64,2,1,128,600,400,0\n"
+KINDS = f"{table.HEADER},conflict\n64,1,1,64,50,50,49,7\n64,2,1,128,60,40,38,9\n"
+COST = f"{table.HEADER},cost\n64,1,1,64,50,50,49,7.5\n64,2,1,128,60,40,38,4.25\n"
+# a table, what is asked, and the lines of the answer, with its header or without
+ANSWERS = (
+    (GIVEN, "--rows 3", MEANS, FIRST, SECOND, LAST),
+    (GIVEN, "--up-to 64", LRU_64),
+    (GIVEN, "--up-to 64 --within 50", LRU_64, RANDOM_64),
+    (GIVEN, "--front", LRU_64, FIRST),
+    (GIVEN, "--measure l1-u-percent --rows 3", MEANS.replace("misses", "percent"),
+     "128,16,2,l,128,2,3,0.000,2,2", "128,16,2,f,128,2.500,3,0.000,2.500,2.500",
+     "128,16,2,r,128,3.500,3,0.624,3,4.200"),
+    (GIVEN, "--below 3.5", f"{MEANS},percent", f"{FIRST},2.000", f"{SECOND},2.500",
+     f"{LAST},3.500"),
+    (GIVEN, "--below 3.4999", f"{FIRST},2.000", f"{SECOND},2.500"),
+    (GIVEN, "--below 10", f"{LRU_64},10.000"),
+    (COLUMNS.replace(",seed", "") + "\n" + ALONE, "", SHAPE, "64,16,2,l,64,100"),
+    # the misses of the last cache, whatever stands behind them, and the size of all
+    (TWO, "--rows 2", "l1-dsize,l2-usize,size,l2-u-misses", "64,256,320,20", "128,256,384,25"),
+    (TWO, "--below 40", "64,256,320,20,40.000"),
+    (TWO, "--below 20 --measure memory-reads", "64,256,320,20,18.349"),
+    (TWO, "--below 40 --measure l1-d-misses", "128,256,384,40,40.000"),
+    (TWO, "--below 41 --measure l2-u-percent", "64,256,320,40,40.000"),
+    (TWO, "--below 90 --measure cycles", "64,256,320,90"),
+    (NOTHING, "--below 0", "64,64,0,0.000"),
+    (HITS, "--measure hits", f"{table.HEADER},percent", "64,1,1,64,500,500,0,50.000"),
+    (KINDS, "--measure conflict", f"{table.HEADER},conflict,percent",
+     "64,1,1,64,50,50,49,7,7.000"),
+    (COST, "--measure cost --below 7.5", f"{table.HEADER},cost", "64,1,1,64,50,50,49,7.500"),
+    (COST, "--measure cost --below 7.49", "64,2,1,128,60,40,38,4.250"),
+)
+
+
+class Measures(base.ToolTest):
     """Of tables of din, and by other measures than misses."""
 
-    def best(self, text, words=""):
-        self.write("t.csv", text)
-        return self.good(self.run_tool("best", "t.csv", *words.split())).splitlines()
+    def test_answers(self):
+        for text, words, *wanted in ANSWERS:
+            self.write("t.csv", text)
+            lines = self.good(self.run_tool("best", "t.csv", *words.split())).splitlines()
+            self.assertEqual(lines[wanted[0][0].isdigit():], wanted, words)
 
-    def test_mean_and_spread(self):
-        """30, 33 and 42: the mean is 35, and the deviation the root of (25 + 4 + 49) / 2."""
-        self.assertEqual(self.best(GIVEN, "--rows 3"), [
-            MEANS, "128,16,2,l,128,20,3,0.000,20,20", "128,16,2,f,128,25,3,0.000,25,25",
-            "128,16,2,r,128,35,3,6.245,30,42"])
-        two = ["64,16,2,l,64,100,3,0.000,100,100", "64,16,2,r,64,150,3,30.000,120,180"]
-        self.assertEqual(self.best(GIVEN, "--up-to 64")[1:], two[:1])
-        self.assertEqual(self.best(GIVEN, "--up-to 64 --within 50")[1:], two)
-        self.assertEqual([line[:4] for line in self.best(GIVEN, "--front")[1:]], ["64,1", "128,"])
-        percent = self.best(GIVEN, "--measure l1-u-percent --rows 3")
-        self.assertEqual(percent[0].split(",")[5], "l1-u-percent")
-        self.assertEqual(percent[3], "128,16,2,r,128,3.500,3,0.624,3,4.200")
-
-    def test_without_seeds(self):
-        rows = re.sub("(?m)^(([^,]+,){4})1,", r"\1", din_rows({(64, "l"): (100,)}))
-        given = COLUMNS.replace(",seed", "") + "\n" + rows
-        self.assertEqual(self.best(given), [SHAPE, "64,16,2,l,64,100"])
-
-    def test_the_last_cache(self):
-        """Its misses are compared, whatever stands behind them, and the size is that of all."""
-        rows = "64,256,100,50,50.000,50,20,40.000,20,9\n128,256,100,40,40.000,40,25,62.500,25,9\n"
-        wanted = ["l1-dsize,l2-usize,size,l2-u-misses", "64,256,320,20", "128,256,384,25"]
-        self.assertEqual(self.best(f"{LEVELS}\n{rows}", "--rows 2"), wanted)
-
-    def test_below(self):
-        """30, 42 and 33 misses of 1,000 references are 3.5 per cent in the mean."""
-        lines = self.best(GIVEN, "--below 3.5")
-        self.assertEqual(lines[0], f"{MEANS},percent")
-        got = [f"{line[:10]} {line.split(',')[-1]}" for line in lines[1:]]
-        self.assertEqual(got, ["128,16,2,l 2.000", "128,16,2,f 2.500", "128,16,2,r 3.500"])
-        lines = self.best(GIVEN, "--below 3.4999")[1:]
-        self.assertEqual([line[:10] for line in lines], ["128,16,2,l", "128,16,2,f"])
-        self.assertEqual([line[:9] for line in self.best(GIVEN, "--below 10")[1:]], ["64,16,2,l"])
-        self.refused(self.run_tool("best", "t.csv", "--below", "1.9"), 1,
-                     "best: t.csv: no cache has at most 1.9 per cent misses; the least is 2\n")
-
-    def test_below_of_a_cache_and_of_the_trace(self):
-        """20 of 50 references to the second level, of 109 of the trace: 40 and 18.349 per cent."""
-        rows = "64,256,100,50,50.000,50,20,40.000,20,9,90\n"
-        rows += "128,256,100,40,40.000,40,25,62.500,25,9,80\n"
-        for words, row in (
-            ("--below 40", "64,256,320,20,40.000"),
-            ("--below 20 --measure memory-reads", "64,256,320,20,18.349"),
-            ("--below 40 --measure l1-d-misses", "128,256,384,40,40.000"),
-            ("--below 41 --measure l2-u-percent", "64,256,320,40,40.000"),
-            ("--below 90 --measure cycles", "64,256,320,90"),
+    def test_refused(self):
+        for text, words, said in (
+            (GIVEN, "--below 1.9", "no cache has at most 1.9 per cent misses; the least is 2\n"),
+            (TWO, "--below 39.999",
+             "no cache has at most 39.999 per cent misses; the least is 40\n"),
+            (COST, "--measure cost --below 4", "no cache has at most 4 cost; the least is 4.25\n"),
+            (COST, "--measure x", "no column x; there are "),
         ):
-            self.assertEqual(self.best(f"{LEVELS},cycles\n{rows}", words)[1:], [row])
-        ran = self.run_tool("best", "t.csv", "--below", "39.999")
-        self.refused(ran, 1, "at most 39.999 per cent misses; the least is 40\n")
-        nothing = "l1-dsize,l1-d-references,l1-d-misses,l1-d-percent,bypassed\n64,0,0,0.000,0\n"
-        self.assertEqual(self.best(nothing, "--below 0")[1:], ["64,64,0,0.000"])
-
-    def test_measure_of_a_sweep(self):
-        given = f"{table.HEADER}\n64,1,1,64,500,500,0\n64,2,1,128,600,400,0\n"
-        wanted = [f"{table.HEADER},percent", "64,1,1,64,500,500,0,50.000"]
-        self.assertEqual(self.best(given, "--measure hits"), wanted)
-        more = f"{table.HEADER},conflict\n64,1,1,64,50,50,49,7\n64,2,1,128,60,40,38,9\n"
-        wanted = [f"{table.HEADER},conflict,percent", "64,1,1,64,50,50,49,7,7.000"]
-        self.assertEqual(self.best(more, "--measure conflict"), wanted)
-        cost = f"{table.HEADER},cost\n64,1,1,64,50,50,49,7.5\n64,2,1,128,60,40,38,4.25\n"
-        header, *rows = cost.replace("7.5", "7.500").replace("4.25", "4.250").splitlines()
-        self.assertEqual(self.best(cost, "--measure cost --below 7.5"), [header, rows[0]])
-        self.assertEqual(self.best(cost, "--measure cost --below 7.49"), [header, rows[1]])
-        for words, said in (
-            ("--measure cost --below 4", "no cache has at most 4 cost; the least is 4.25\n"),
-            ("--measure x", "no column x; there are "),
-        ):
+            self.write("t.csv", text)
             ran = self.run_tool("best", "t.csv", *words.split())
             self.refused(ran, 1, f"best: t.csv: {said}")
