@@ -5,14 +5,13 @@ import importlib
 import os
 import pathlib
 import shutil
+import signal
 import subprocess
 import sys
 import tempfile
 
-import base
-from base import TOOLS, TOP, ToolTest
+from base import TOOLS, TOP, ToolTest, comes, ended
 
-comes = base.comes
 LAB = TOOLS / "lab"
 STUDENTS = TOP / "tests/tools/lab"
 sys.path.append(str(LAB))
@@ -36,6 +35,17 @@ class LabTest(ToolTest):
         super().setUp()
         self.private = self.folder / "private"
         self.private.mkdir()
+
+    def interrupted(self, command, has_begun, is_left, **env):
+        """Ends a tool once it has begun. Nothing goes on, and no file is left."""
+        env = {**os.environ, "TMPDIR": str(self.private), **env}
+        for number in (signal.SIGINT, signal.SIGTERM):
+            with ended(subprocess.Popen(command, env=env, stdout=subprocess.DEVNULL)) as tool:
+                self.assertTrue(comes(has_begun, 60))
+                tool.send_signal(number)
+                self.assertEqual(tool.wait(60), 128 + number)
+            self.assertTrue(comes(lambda: not is_left(), 60))
+            self.assertEqual(list(self.private.iterdir()), [])
 
 
 class StudentTest(LabTest):

@@ -129,16 +129,9 @@ class Grade(StudentTest):
         self.refused(ran, 2, "grade: /absent is no program that can be run\n")
 
     def test_an_interrupt(self):
-        """Nothing goes on, and no file is left."""
-        student, env = self.student("LOOPS"), {**os.environ, "TMPDIR": str(self.private)}
-        for number in (signal.SIGINT, signal.SIGTERM):
-            command = [LAB / "grade", "--seconds", "30", student, YI]
-            with subprocess.Popen(command, env=env) as grade:
-                self.assertTrue(comes(lambda: is_running(student)))
-                grade.send_signal(number)
-                self.assertEqual(grade.wait(20), 128 + number)
-            self.assertTrue(comes(lambda: not is_running(student)))
-            self.assertEqual(list(self.private.iterdir()), [])
+        student = self.student("LOOPS")
+        command = [LAB / "grade", "--seconds", "30", student, YI]
+        self.interrupted(command, lambda: is_running(student), lambda: is_running(student))
 
     def test_an_interrupt_as_a_run_begins(self):
         """The program itself sends it, several times since it need not come at the worst moment."""
@@ -187,7 +180,8 @@ class Trace(LabTest):
             self.ends(self.run_command("bash", "-c", call), 125, message)
 
     def test_a_failure_of_valgrind(self):
-        """With a valgrind that writes what the real one does at an instruction unknown to it."""
+        """With one that writes what the real one does at an instruction unknown to it, and with
+        some that write no line of a trace."""
         log = r"I  0400d7d4,8\n\nhost stacktrace:\n==1== at 0\n"
         self.executable("valgrind", "for word; do [[ $word = --log-fd=* ]] && to=${word#*=}; done",
                         f"printf '{log}' >&$to", "exit 1")
@@ -198,8 +192,6 @@ class Trace(LabTest):
         self.ends(ran, 125, said, f"I  0400d7d4,8\n{LAST}")
         self.assertEqual(list(self.private.iterdir()), [])
 
-    def test_a_silent_end_of_valgrind(self):
-        """Without a line of a trace, the tool tells of it."""
         for end, status, told in (("exit 1", 1, 1), ("exit 0", 125, 0), ("kill -KILL $$", 137, 137),
                                   ("exit 127", 127, 127)):
             ran = self.trace("true", env=self.stand_in("valgrind", end))

@@ -4,11 +4,9 @@ import csv
 import os
 import re
 import shutil
-import signal
-import subprocess
 
 from base import EXAMPLES, PROGRAM, TOOLS, copy_tools, needs
-from lab_base import LAB, STUDENTS, StudentTest, comes, is_running, traces
+from lab_base import LAB, STUDENTS, StudentTest, is_running, traces
 
 TRACES = "order mixed wide rows blocks long".split()
 BLOCKS = EXAMPLES / "blocks.lackey"
@@ -159,18 +157,11 @@ class GradeClass(ClassTest):
         self.ends(ran, 1, message, f"{HARD}\n{rows}")
 
     def test_an_interrupt(self):
-        """Nothing goes on, and no file is left."""
         folders = [self.enrol(name, self.student("LOOPS")) for name in ("ann", "bob", "eve")]
         programs = [folder / "csim" for folder in folders]
         command = [LAB / "grade-class", "--seconds", "60", "--jobs", "2", *folders]
-        given = {"env": {**os.environ, "TMPDIR": str(self.private)}, "stdout": subprocess.DEVNULL}
-        for number in (signal.SIGINT, signal.SIGTERM):
-            with subprocess.Popen(command, **given) as tool:
-                self.assertTrue(comes(lambda: sum(map(is_running, programs)) == 2))
-                tool.send_signal(number)
-                self.assertEqual(tool.wait(20), 128 + number)
-            self.assertEqual(list(filter(is_running, programs)), [])
-            self.assertEqual(list(self.private.iterdir()), [])
+        self.interrupted(command, lambda: sum(map(is_running, programs)) == 2,
+                         lambda: any(map(is_running, programs)))
 
 
 class Confined(ClassTest):

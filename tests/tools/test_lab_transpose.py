@@ -5,10 +5,8 @@ import contextlib
 import os
 import pathlib
 import re
-import signal
-import subprocess
 
-from base import PROGRAM, ended, needs
+from base import PROGRAM, needs
 from lab_base import LAB, STUDENTS, LabTest, comes
 
 TRANS = STUDENTS / "trans.c"
@@ -145,24 +143,10 @@ class Transpose(LabTest):
         self.assertIn("row by row\n    4x4  hits:15 misses:22 evictions:20\n", said)
         self.assertTrue(comes(lambda: not those_that_name(self.private), 60))
 
-    def interrupted(self, number):
-        """Ends a tool whose function loops, as Valgrind is started. Nothing goes on, and no file is
-        left."""
-        env = {"CACHESIM": str(PROGRAM), "TMPDIR": str(self.private), "CC": "cc -DLOOPS"}
-        command = [LAB / "lab-transpose", "--size", "4x4", TRANS]
-        with ended(subprocess.Popen(command, env={**os.environ, **env})) as running:
-            try:
-                self.assertTrue(comes(lambda: any(self.private.rglob("report")), 60))
-                running.send_signal(number)
-                self.assertEqual(running.wait(60), 128 + number)
-                self.assertTrue(comes(lambda: not those_that_name(self.private), 60))
-                self.assertEqual(list(self.private.iterdir()), [])
-            finally:
-                for process in those_that_name(self.private):
-                    os.kill(process, signal.SIGKILL)
-
     @needs("valgrind")
     def test_an_interrupt(self):
-        """As lab-trace is started."""
-        for number in (signal.SIGINT, signal.SIGTERM):
-            self.interrupted(number)
+        """As lab-trace is started for a function that loops."""
+        self.interrupted([LAB / "lab-transpose", "--size", "4x4", TRANS],
+                         lambda: any(self.private.rglob("report")),
+                         lambda: those_that_name(self.private),
+                         CACHESIM=str(PROGRAM), CC="cc -DLOOPS")
