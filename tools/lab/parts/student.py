@@ -107,7 +107,7 @@ class Limited:
         resource.setrlimit(resource.RLIMIT_FSIZE, (self.limit, most))
         resource.setrlimit(resource.RLIMIT_CORE, (0, 0))
 
-    def kill(self, *_):
+    def kill(self):
         with contextlib.suppress(ProcessLookupError):
             os.killpg(self.process.pid, signal.SIGKILL)
 
@@ -140,8 +140,10 @@ class Limited:
     def status(self):
         """The status at its end, or None where its time ran out."""
         # process.wait can keep its lock at a signal
-        os.waitid(os.P_PID, self.process.pid, os.WEXITED | os.WNOWAIT)
-        return None if self.is_late else self.process.wait()
+        end = os.waitid(os.P_PID, self.process.pid, os.WEXITED | os.WNOWAIT)
+        if self.is_late:
+            return None
+        return end.si_status if end.si_code == os.CLD_EXITED else -end.si_status
 
 
 def number_of(status):
