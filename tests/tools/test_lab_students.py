@@ -55,7 +55,7 @@ COUNTS           order  2,4,3   hits are one too many
 SWAPS_COUNTS     order  2,4,3   hits and misses are exchanged
 SWAPS_MISSES     order  2,4,3   misses and evictions are exchanged
 BYTE_COUNTS      mixed  4,2,4   counts have only 8 bits
-SHORT_COUNTS     long   4,2,4   counts have only 16 bits
+SHORT_COUNTS     long   0,1,0   counts have only 16 bits
 FEW_LINES        long   4,2,4   the trace is read to line 65,536
 UNCLEARED        order  2,4,3   memory of malloc is taken for zeros; calloc clears it
 TAG_TOO_SHORT    mixed  2,4,3   the tag is shifted by one bit too many
