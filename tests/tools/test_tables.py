@@ -181,7 +181,7 @@ class Scripts(base.ToolTest):
         for folder in ("tools", "tools/lab"):
             rows = table((base.TOP / folder / "README.md").read_text(), "Tool")
             called = [cell.strip("`") for cell, *_ in rows if not cell.endswith("/`")]
-            self.assertGreater(len(called), 5)
+            self.assertGreater(len(called), 4)
             for name, *arguments in (words.split(maxsplit=1) for words in called):
                 told = self.good(self.run_command(base.TOP / folder / name, "--help"))
                 words, usage = self.words("".join(arguments)), self.usage(name, told)
