@@ -140,39 +140,37 @@ class Replay(ReplayTest):
             {"tag": "2", "since": 834, "dirty": True}, {"tag": "1", "since": 833, "dirty": True}]}])
 
     def test_reasons(self):
-        """In words, with the step that decides; and what memory gets. None is not looked at."""
+        """In words, with the step that decides; and what memory gets."""
         full, free = "Set 0 is full and does not hold tag", "Set 0 does not hold tag 1."
         dirt = "The write makes this block dirty: memory gets it only when it is evicted or"
-        coming = "Next to be evicted in set 0: way 0 (tag 1), "
         own = "the write itself (write-through, or no write-allocate) at"
         small = ("-l1-dsize", 16, "-l1-dbsize", 16)
         for words, trace, place, *wanted in (
             (ONE_SET, ORDER, 3, f"{full} 3. The block in way 1 (tag 2) is evicted: it was last "
-             "used in trace line 2, the others later.", f"{coming}last used in trace line 3."),
-            (ONE_SET, ORDER, 1, None, f"{coming}last used in trace line 1."),
-            (ONE_SET, ORDER, 5, "A flush empties all sets. 1 dirty block written back.", ""),
+             "used in trace line 2, the others later."),
+            (ONE_SET, ORDER, 5, "A flush empties all sets. 1 dirty block written back."),
             ((*ONE_SET, "-l1-urepl", "f"), ORDER, 2, "Way 0 of set 0 holds tag 1. With FIFO a use "
-             "does not change the order of eviction.", f"{coming}which came in trace line 1."),
+             "does not change the order of eviction."),
             ((*ONE_SET, "-l1-urepl", "f"), ORDER, 3, f"{full} 3. The block in way 0 (tag 1) is "
              "evicted: it came in trace line 1, the others later."),
             ((*small, "-l1-dwalloc", "n"), NO_ALLOCATE, 0, f"{free} A write that misses brings no "
-             "block in (no write-allocate).", "", ["write 10"], f"Sent to memory: {own} 10."),
+             "block in (no write-allocate).", ["write 10"], f"Sent to memory: {own} 10."),
             ((*small, "-l1-dwalloc", "n"), NO_ALLOCATE, 1, f"{free} Way 0 is free and takes the "
-             "block.", "", ["read 10"], "Sent to memory: the missing block is read at 10."),
+             "block.", ["read 10"], "Sent to memory: the missing block is read at 10."),
             ((*small, "-l1-dwalloc", "n"), NO_ALLOCATE, 2, f"Way 0 of set 0 holds tag 1. {dirt} "
-             "flushed.", "", [], ""),
+             "flushed.", [], ""),
             ((*small, "-l1-dwalloc", "n"), NO_ALLOCATE, 3, f"{full} 2. The block in way 0 (tag 1) "
-             "is evicted: it is the only one. It is dirty, so it is written back.", "",
+             "is evicted: it is the only one. It is dirty, so it is written back.",
              ["write 10", "read 20"], "Sent to memory: the evicted block, which is dirty, is "
              "written back at 10; then the missing block is read at 20."),
             # no block is dirty, and the write comes after the read of its block
             ((*small, "-l1-dwback", "n"), b"1 10\n1 24\n", 1, f"{full} 2. The block in way 0 (tag "
-             "1) is evicted: it is the only one.", "", ["read 20", "write 24"],
+             "1) is evicted: it is the only one.", ["read 20", "write 24"],
              f"Sent to memory: the missing block is read at 20; then {own} 24."),
         ):
             step = self.steps(*words, stdin=trace)[place]
-            for key, text in zip(("why", "coming", "sent", "memory"), wanted):
-                self.assertIn(text, (step[key], None))
+            for key, text in zip(("why", "sent", "memory"), wanted):
+                self.assertEqual(step[key], text)
 
     def test_decimal_addresses(self):
         """Those of a textbook's exercise, in blocks of four words; and what is no decimal number
@@ -372,10 +370,9 @@ class InABrowser(ReplayTest):
             "evictions 1. | ",
             "tag bits from 5 up 1 0000 hex 10 set bit 4 1 hex 1 offset bits 3 to 0 0000 hex 0 ",
             "The block in way 0 (tag 0) is evicted: it was last used in trace line 4, the others "
-            "later. It is dirty, so it is written back. Next to be evicted in set 1: way 1 (tag "
-            "8), last used in trace line 5. Sent to memory: the evicted block, which is dirty, is "
-            "written back at 10; then the missing block is read at 210. Next in the trace: M load "
-            "12 | ",
+            "later. It is dirty, so it is written back. Sent to memory: the evicted block, which "
+            "is dirty, is written back at 10; then the missing block is read at 210. Next in the "
+            "trace: M load 12 | ",
             "Set 0 way 0 dirty tag 1 used in trace line 3 way 1 free ▶ Set 1 way 0 tag 10 used "
             "in trace line 6 new, was 0 way 1 tag 8 used in trace line 5 evicted next | ",
         ):

@@ -178,15 +178,6 @@ def dirt(cache, step):
     return " The write makes this block dirty: memory gets it only when it is evicted or flushed."
 
 
-def coming(cache, step):
-    """Which block of the set is evicted next, in words; nothing with a free way, or only one."""
-    if step.next is None or cache.ways == 1:
-        return ""
-    block, verb = step.held[step.next], "last used" if cache.repl == "l" else "which came"
-    return (f"Next to be evicted in set {cache.text(step.set)}: way {step.next} (tag "
-            f"{cache.text(block.tag)}), {verb} in trace line {block.line}.")
-
-
 def to_memory(cache, step):
     """What the log says that memory gets, in words."""
     texts = []
