@@ -108,7 +108,7 @@ class Replay(ReplayTest):
         # a flush counts the dirty blocks of both sets; what the other set sends is of no step
         two = ("-l1-usize", "32", "-l1-ubsize", "16", "--set", "0")
         steps = self.steps(*two, stdin=b"1 0\n1 10\n0 30\n4 0\n1 20\n")
-        self.assertEqual([step["sent"] for step in steps], [["read 0"], [], ["read 20"]])
+        self.assertEqual([step["memory"][-6:] for step in steps], [" at 0.", "", "at 20."])
         self.assertIn("1 dirty block written back", steps[1]["why"])
         # more than the limit in all, but not in the set
         many = b" L 0,1\n" * 2000 + b" L 10,1\n"
@@ -154,22 +154,22 @@ class Replay(ReplayTest):
             ((*ONE_SET, "-l1-urepl", "f"), ORDER, 3, f"{full} 3. The block in way 0 (tag 1) is "
              "evicted: it came in trace line 1, the others later."),
             ((*small, "-l1-dwalloc", "n"), NO_ALLOCATE, 0, f"{free} A write that misses brings no "
-             "block in (no write-allocate).", ["write 10"], f"Sent to memory: {own} 10."),
+             "block in (no write-allocate).", f"Sent to memory: {own} 10."),
             ((*small, "-l1-dwalloc", "n"), NO_ALLOCATE, 1, f"{free} Way 0 is free and takes the "
-             "block.", ["read 10"], "Sent to memory: the missing block is read at 10."),
+             "block.", "Sent to memory: the missing block is read at 10."),
             ((*small, "-l1-dwalloc", "n"), NO_ALLOCATE, 2, f"Way 0 of set 0 holds tag 1. {dirt} "
-             "flushed.", [], ""),
+             "flushed.", ""),
             ((*small, "-l1-dwalloc", "n"), NO_ALLOCATE, 3, f"{full} 2. The block in way 0 (tag 1) "
              "is evicted: it is the only one. It is dirty, so it is written back.",
-             ["write 10", "read 20"], "Sent to memory: the evicted block, which is dirty, is "
-             "written back at 10; then the missing block is read at 20."),
+             "Sent to memory: the evicted block, which is dirty, is written back at 10; then the "
+             "missing block is read at 20."),
             # no block is dirty, and the write comes after the read of its block
             ((*small, "-l1-dwback", "n"), b"1 10\n1 24\n", 1, f"{full} 2. The block in way 0 (tag "
-             "1) is evicted: it is the only one.", ["read 20", "write 24"],
+             "1) is evicted: it is the only one.",
              f"Sent to memory: the missing block is read at 20; then {own} 24."),
         ):
             step = self.steps(*words, stdin=trace)[place]
-            for key, text in zip(("why", "sent", "memory"), wanted):
+            for key, text in zip(("why", "memory"), wanted):
                 self.assertEqual(step[key], text)
 
     def test_decimal_addresses(self):
@@ -199,8 +199,9 @@ class Replay(ReplayTest):
         else:
             said = f"{step['outcome']}{' dirty' * bool(victim and victim['dirty'])}"
             yield f"{place} {label[step['access']]} {step['address']} {said}"
-        for word, at in map(str.split, step["sent"]):
-            yield f"memory {label[word]} {at}"
+        for word, at in re.findall("(read|write|written)[^;]* at ([0-9a-f]+)", step["memory"]):
+            read = 2 if step["access"] == "fetch" else 0
+            yield f"memory {read if word == 'read' else 1} {at}"
 
     def test_steps_are_those_of_the_log(self):
         """Dirty blocks and what memory gets, by the model; what is bypassed is no step."""
