@@ -1,14 +1,14 @@
 -- The slots of a list, after each change.
-use Rattle.std.proofs.Common.{◌≡◌, ℕ, zero, suc, ◌+◌, ◌-◌, ◌*◌, ◌<◌, ◌≤◌, ◌^◌, ◌≢◌, ◌⊎◌, inl, inr}
-use Rattle.std.proofs.Common.{Bool, true, false, cond, Some, None, Option, List, [], ◌∷◌, length}
-use Rattle.std.proofs.Common.{take, drop, get_or, set, sum, refl, sym, ◌∙◌, ap, subst, arith}
+use Rattle.std.proofs.Common.{◌≡◌, ℕ, zero, suc, ◌+◌, ◌-◌, ◌<◌, ◌≤◌, ◌^◌, inl, inr}
+use Rattle.std.proofs.Common.{true, false, cond, Some, None, List, [], ◌∷◌, length}
+use Rattle.std.proofs.Common.{take, get_or, set, sum, refl, sym, ◌∙◌, ap, subst, arith}
 use Rattle.std.proofs.Common.{length-set, get_or-set_same, get_or-set_other}
 use Rattle.std.specs.Prelude.{replicate}
 use Rattle.std.specs.List.{remove}
-use Rattle.std.proofs.lemmas.Bool.{cases_eq, cases_lt, false≢true}
+use Rattle.std.proofs.lemmas.Bool.{cases_eq, cases_lt}
 use Rattle.std.proofs.lemmas.List.{take_all, length-take-le, get_or_past, nil_from_length}
 use Rattle.std.proofs.lemmas.List.{length-replicate}
-use Rattle.std.proofs.lemmas.List.Sums.{sum_by-set, sum_by_more, sum_by-take-le}
+use Rattle.std.proofs.lemmas.List.Sums.{sum_by-set, sum_by_more}
 use Rattle.deep_list.specs.Slots.{SlotsValue, AreFlags, live_blocks, slots_with_block}
 use Rattle.deep_list.specs.Slots.{slots_without, IsAt}
 use Rattle.deep_list.specs.Slots.{NoneHas}
@@ -18,12 +18,12 @@ use Rattle.deep_list.specs.Deep.{Deep, index_of_block, has_block, place_of, IsOn
 use Rattle.deep_list.specs.Deep.{IsDeep, IsGathering, IsGathered}
 use Rattle.deep_list.proofs.ChainLemmas.{chain_small, chains_more, filed_more, same_all, same_most}
 use Rattle.deep_list.proofs.ChainLemmas.{zeros}
-use Rattle.deep_list.proofs.SlotLemmas.{sum_take-set_above, flags_set, flags_sum}
+use Rattle.deep_list.proofs.SlotLemmas.{sum_take-set_above, flags_set}
 use Rattle.deep_list.proofs.LiveBlockLemmas.{live_blocks-vacate, live_blocks-fill, live_blocks-move}
 use Rattle.deep_list.proofs.LiveBlockLemmas.{live_blocks-dead, length-live_blocks}
 use Rattle.deep_list.proofs.LiveBlockLemmas.{sum-dead, is_in-live_blocks, absent-live_blocks}
 use Rattle.deep_list.proofs.LiveBlockLemmas.{index-live_blocks, sum-some}
-use Rattle.deep_list.proofs.LiveBlockLemmas.{remove-last, remove-end, once-take, once-remove}
+use Rattle.deep_list.proofs.LiveBlockLemmas.{remove-last, remove-end, once-remove}
 use Rattle.deep_list.proofs.LiveBlockLemmas.{index-absent}
 
 zero_set : (xs : List ℕ) (s k : ℕ) → get_or xs k 0 ≡ 0 → get_or (set xs s 0) k 0 ≡ 0

@@ -1,12 +1,12 @@
 -- The blocks of the live slots, after a change to the slots.
-use Rattle.std.proofs.Common.{◌≡◌, ℕ, zero, suc, ◌+◌, ◌-◌, ◌<◌, ◌≤◌, ◌≢◌, Bool, true, false, not}
-use Rattle.std.proofs.Common.{cond, eqb, List, [], ◌∷◌, ◌++◌, length, take, drop, get_or, set, sum}
-use Rattle.std.proofs.Common.{refl, sym, ◌∙◌, ap, subst, arith, add-one, append-nil, eq-eqb}
-use Rattle.std.specs.List.{remove, list_any}
-use Rattle.std.proofs.lemmas.Bool.{ne_eqb, eqb-true, false≢true, cases_lt}
+use Rattle.std.proofs.Common.{◌≡◌, ℕ, zero, suc, ◌+◌, ◌<◌, ◌≤◌, true, false}
+use Rattle.std.proofs.Common.{eqb, List, [], ◌∷◌, ◌++◌, length, take, drop, get_or, set, sum}
+use Rattle.std.proofs.Common.{refl, sym, ◌∙◌, ap, subst, arith, append-nil, eq-eqb}
+use Rattle.std.specs.List.{remove}
+use Rattle.std.proofs.lemmas.Bool.{ne_eqb, false≢true}
 use Rattle.std.proofs.lemmas.List.{drop_all, get_or-drop}
 use Rattle.std.proofs.lemmas.List.Sums.{sum_by-take-drop, sum_by_more}
-use Rattle.deep_list.specs.Slots.{SlotsValue, IsAt, AreFlags, live_blocks}
+use Rattle.deep_list.specs.Slots.{AreFlags, live_blocks}
 use Rattle.deep_list.specs.Deep.{index_of_block, has_block, IsOnce}
 use Rattle.deep_list.proofs.SlotLemmas.{sum-cons, flags_tail}
 

@@ -1,8 +1,8 @@
 -- Counts of live slots: a flag that is set or cleared changes the sums of the fronts that reach
 -- past it.
 use Rattle.std.proofs.Common.{◌≡◌, ℕ, zero, suc, ◌+◌, ◌-◌, ◌*◌, ◌/◌, ◌<◌, ◌≤◌, ◌^◌, List, [], ◌∷◌}
-use Rattle.std.proofs.Common.{length, take, drop, get_or, set, sum, refl, sym, ◌∙◌, ap, arith}
-use Rattle.std.proofs.Common.{add-one, length-set, ◌⊎◌, inl, inr}
+use Rattle.std.proofs.Common.{length, take, drop, get_or, set, sum, sym, ◌∙◌, ap, arith}
+use Rattle.std.proofs.Common.{length-set, inl, inr}
 use Rattle.std.proofs.lemmas.Bool.{cases_lt}
 use Rattle.std.proofs.lemmas.List.{take-set-le, take-take, drop-take, get_or-drop}
 use Rattle.std.proofs.lemmas.List.Sums.{sum_by-cons, sum_by-take-le, sum_by_more, sum_by-take-drop}

@@ -1,6 +1,6 @@
 -- Slots for blocks: which are live, how many live slots stand before one, and the list of the live
 -- ones' blocks.
-use Rattle.std.specs.Prelude.{ℕ, zero, suc, ◌≡◌, ◌≤◌, ◌<◌, ◌+◌, ◌*◌, ◌^◌, List, [], ◌∷◌, length}
+use Rattle.std.specs.Prelude.{ℕ, zero, suc, ◌≡◌, ◌≤◌, ◌<◌, ◌*◌, ◌^◌, List, [], ◌∷◌, length}
 use Rattle.std.specs.Prelude.{take, sum, slice_set, slice_index}
 
 -- a block for each slot, and 1 for each that is live, else 0

@@ -1,30 +1,25 @@
 -- A reference to the block of the one before finds it in front in each profile.
-use Rattle.std.proofs.Common.{◌≡◌, ℕ, ◌+◌, ◌-◌, ◌<◌, ◌≤◌, ◌/◌, ◌^◌, Bool, true, false, cond, eqb}
+use Rattle.std.proofs.Common.{◌≡◌, ℕ, ◌+◌, ◌-◌, ◌<◌, ◌≤◌, ◌/◌, ◌^◌, Bool, true, false, cond}
 use Rattle.std.proofs.Common.{List, [], ◌∷◌, ◌++◌, map, take, length, get_or, fold, refl, sym}
-use Rattle.std.proofs.Common.{ap, ◌∙◌, subst, arith}
+use Rattle.std.proofs.Common.{ap, ◌∙◌, arith}
 use Rattle.std.specs.Prelude.{min}
 use Rattle.std.specs.List.{AllByRecursion as Each}
 use Rattle.std.proofs.Math.Nat.{div-div-eq-div-mul}
 use Rattle.std.proofs.lemmas.Bool.{ltb-true, eqb-true, and_parts}
 use Rattle.std.proofs.lemmas.List.{take_more, take_all}
-use Rattle.std.proofs.lemmas.List.Sums.{fold-append}
 use Rattle.std.proofs.lemmas.Nat.{pow-add}
-use Rattle.trace_core.specs.declared.events.Ref.{Ref}
-use Rattle.trace_core.specs.declared.events.Kind.{Kind}
-use Rattle.trace_core.specs.Events.{is_kept}
 use Rattle.cache_core.specs.Geometry.{block_of}
 use Rattle.cache_core.proofs.Lists.{cases}
 use Rattle.profile_core.specs.internal.State.{ProfileState, after_reference}
 use Rattle.profile_core.specs.internal.Fronts.{after_unless_front, is_front_of, after_batch, IsFit}
 use Rattle.profile_core.proofs.Fronts.{front_again}
 use Rattle.sweep_core.specs.declared.profiles.PairProfile.{PairProfile}
-use Rattle.sweep_core.specs.internal.Pass.{pair_after_flush, profiles_after, kept_events}
-use Rattle.sweep_core.specs.internal.Implied.{profiles_with_fronts, AreBehind}
+use Rattle.sweep_core.specs.internal.Pass.{pair_after_flush}
 use Rattle.sweep_core.specs.internal.Batches.{pair_after_batch, profiles_after_batch, AreWaiting}
 use Rattle.sweep_core.specs.internal.Batches.{AreNoFiner, finest_bits, is_in_last_block}
 use Rattle.sweep_core.specs.internal.Batches.{with_waiting}
 use Rattle.sweep_core.proofs.Lists.{Each-weaker, Each-map}
-use Rattle.sweep_core.proofs.Batching.{fed-append, waiting-more, kept-waits}
+use Rattle.sweep_core.proofs.Batching.{fed-append, waiting-more}
 
 -- the smallest block of some profiles is no larger than that of each
 finest-most : (bits : ℕ) (xs : List PairProfile) →

@@ -1,6 +1,6 @@
 -- What `log` has read, stepped through and written where it stands, and so what it performs at each
 -- of its ends.
-use Rattle.std.proofs.Common.{Ok, [], refl, sym, ap, ◌++◌, ◌∙◌, append-nil, arith}
+use Rattle.std.proofs.Common.{Ok, [], refl, sym, ap, ◌∙◌, append-nil, arith}
 use Rattle.trace_core.specs.declared.events.Kind.TheVariants.{All}
 use Rattle.trace_core.specs.Task.{entries_of}
 use Rattle.trace_core.proofs.EntryEvents.{events_within}

@@ -1,4 +1,4 @@
-use Rattle.std.proofs.Common.{◌≡◌, ◌+◌, ◌-◌, ◌<◌, ◌≤◌, ◌∙◌, ℕ, length, get_or, sym, ap, arith}
+use Rattle.std.proofs.Common.{◌≡◌, ◌+◌, ◌-◌, ◌<◌, ◌∙◌, ℕ, length, get_or, sym, ap, arith}
 use Rattle.std.proofs.Common.{subst}
 use Rattle.deep_list.specs.Chains.{ChainsValue, AreChains, AreFiledFrom, chain_of, with_slot}
 use Rattle.deep_list.proofs.ChainLemmas.{chain_small, chains_more, filed_more}

@@ -5,7 +5,6 @@ use Rattle.std.proofs.lemmas.List.{get_or_read}
 use Rattle.deep_list.specs.Slots.{IsAt}
 use Rattle.deep_list.specs.Chains.{chain_of, IsFiled, IsOnChain}
 use Rattle.deep_list.proofs.ChainLemmas.{chain_small, chain_rises, on_chain_none, on_chain_past}
-use Rattle.deep_list.proofs.DeepLemmas.{live_within}
 use Rattle.deep_list.proofs.chains.Chains.find.Goals as goal
 
 pub loop-step-init : goal.loop-step-init

@@ -1,4 +1,4 @@
-use Rattle.std.proofs.Common.{◌≡◌, ◌∙◌}
+use Rattle.std.proofs.Common.{◌∙◌}
 use Rattle.deep_list.proofs.DeepLemmas.{held_is, full_some, full_cut, full_room, short_cut}
 use Rattle.deep_list.proofs.DeepLemmas.{short_room}
 use Rattle.deep_list.proofs.deep.DeepList.drop_if_full.Goals as goal

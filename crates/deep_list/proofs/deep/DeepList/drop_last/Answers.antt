@@ -1,4 +1,4 @@
-use Rattle.std.proofs.Common.{◌≡◌, ◌-◌, ◌∙◌, List, ℕ, length, take, sym, ap, arith}
+use Rattle.std.proofs.Common.{◌-◌, ◌∙◌, List, ℕ, length, take, sym, ap}
 use Rattle.deep_list.specs.Slots.{live_blocks}
 use Rattle.deep_list.specs.Deep.{Deep}
 use Rattle.deep_list.proofs.DeepLemmas.{vacated_deep, vacated_last, last_kept, some_live}

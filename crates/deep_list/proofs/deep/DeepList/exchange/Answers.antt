@@ -1,4 +1,4 @@
-use Rattle.std.proofs.Common.{◌≡◌, ◌-◌, ◌∙◌, ◌<◌, ◌≤◌, ◌∷◌, false, take, length, ap, sym, List, ℕ}
+use Rattle.std.proofs.Common.{◌-◌, ◌∙◌, ◌≤◌, ◌∷◌, take, ap, List, ℕ}
 use Rattle.std.proofs.Common.{arith}
 use Rattle.std.specs.List.{remove}
 use Rattle.deep_list.specs.Deep.{Deep, has_block, index_of_block}

@@ -1,4 +1,4 @@
-use Rattle.std.proofs.Common.{◌≡◌, length, ap, ◌∙◌}
+use Rattle.std.proofs.Common.{length, ap, ◌∙◌}
 use Rattle.deep_list.proofs.DeepLemmas.{held_length}
 use Rattle.deep_list.proofs.deep.DeepList.len.Goals as goal
 

@@ -1,6 +1,5 @@
-use Rattle.std.proofs.Common.{◌≡◌, ◌+◌, ◌*◌, ◌/◌, ◌<◌, ◌≤◌, ◌^◌, ◌∙◌, [], length, sym, ap, List, ℕ}
-use Rattle.std.proofs.Common.{arith, subst}
-use Rattle.std.specs.Prelude.{replicate}
+use Rattle.std.proofs.Common.{◌+◌, ◌/◌, ◌∙◌, length, ap, List, ℕ}
+use Rattle.std.proofs.Common.{arith}
 use Rattle.std.proofs.lemmas.List.{length-replicate}
 use Rattle.deep_list.specs.Deep.{Deep}
 use Rattle.deep_list.proofs.DeepLemmas.{none_deep, none_kept, chains_none}

@@ -1,8 +1,8 @@
-use Rattle.std.proofs.Common.{◌≡◌, ◌+◌, ◌-◌, ◌<◌, ◌≤◌, ◌∙◌, [], ◌∷◌, length, get_or, set, sym, ap}
+use Rattle.std.proofs.Common.{◌≡◌, ◌+◌, ◌-◌, ◌∙◌, ◌∷◌, length, sym, ap}
 use Rattle.std.proofs.Common.{List, ℕ, arith, subst}
 use Rattle.deep_list.specs.Slots.{SlotsValue, live_blocks, slots_with_block}
 use Rattle.deep_list.specs.Chains.{ChainsValue}
-use Rattle.deep_list.specs.Deep.{Deep, IsDeep, has_block, IsRanked}
+use Rattle.deep_list.specs.Deep.{Deep, has_block, IsRanked}
 use Rattle.deep_list.proofs.DeepLemmas.{filled_kept, filled_deep, filled_ranked}
 use Rattle.deep_list.proofs.deep.DeepList.put_first.Goals as goal
 use Rattle.deep_list.proofs.deep.DeepList.put_first.Goals.{After-make_room-self-inside}

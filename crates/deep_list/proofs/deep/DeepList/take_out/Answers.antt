@@ -1,4 +1,4 @@
-use Rattle.std.proofs.Common.{◌≡◌, ◌∙◌, List, ℕ, sum, take, sym, ap, arith}
+use Rattle.std.proofs.Common.{◌∙◌, List, ℕ, sym, ap}
 use Rattle.std.specs.List.{remove}
 use Rattle.deep_list.specs.Slots.{live_blocks}
 use Rattle.deep_list.specs.Deep.{Deep, index_of_block, place_of}

@@ -1,7 +1,5 @@
-use Rattle.std.proofs.Common.{◌≡◌, ◌+◌, ◌-◌, ◌*◌, ◌/◌, ◌<◌, ◌≤◌, ◌^◌, ◌∙◌, ap, sym, subst, sum}
-use Rattle.std.proofs.Common.{take, drop, arith, length, ℕ, List}
-use Rattle.std.proofs.lemmas.List.{drop-take}
-use Rattle.std.proofs.lemmas.List.Sums.{sum_by-take-drop}
+use Rattle.std.proofs.Common.{◌-◌, ◌*◌, ◌/◌, ◌<◌, ap, sum}
+use Rattle.std.proofs.Common.{take, drop, arith, length}
 use Rattle.deep_list.proofs.SlotLemmas.{live_before, sum_small, at_chunk, part_small}
 use Rattle.deep_list.proofs.slots.Slots.live_before.Goals as goal
 

@@ -1,4 +1,4 @@
-use Rattle.std.proofs.Common.{◌≡◌, ◌+◌, ◌/◌, ◌<◌, ◌≤◌, ◌^◌, arith, length, length-set, get_or, ap}
+use Rattle.std.proofs.Common.{◌≡◌, ◌/◌, ◌<◌, arith, length, get_or, ap}
 use Rattle.std.proofs.Common.{◌∙◌, refl}
 use Rattle.std.proofs.lemmas.List.{get_or_read}
 use Rattle.deep_list.proofs.SlotLemmas.{count_some, counted_set, at_chunk}
