@@ -56,7 +56,7 @@ class Grade(StudentTest):
 
     def test_mistakes(self):
         cases = list(mistakes())
-        self.assertEqual(len(cases), 11)
+        self.assertEqual(len(cases), 17)
         for names, arguments, said in cases:
             with self.subTest(names):
                 program = self.student(*names)

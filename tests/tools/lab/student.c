@@ -54,13 +54,17 @@ static void miss(struct line *victim, address_t tag)
         hits += HAS(EVICTION_HITS);
         misses -= HAS(EVICTION_NO_MISS);
     }
-    *victim = (struct line){1, tag, HAS(NEW_IS_OLD) ? 0 : now, 1};
+    now += HAS(TICKS_AT_MISSES);
+    *victim = (struct line){!HAS(NEVER_VALID), tag, HAS(NEW_IS_OLD) ? 0 : now, 1};
+    now += HAS(TICKS_AFTER_MISSES);
 }
 
 /* The number of a block's set. */
 static address_t place(address_t address)
 {
     address_t block = address >> block_bits, sets = 1ull << set_bits;
+    if (HAS(HIGH_SETS))
+        return address >> (32 - set_bits) & (sets - 1);
     if (HAS(TWICE_SETS))
         return set_bits ? block % (2 * set_bits) : 0;
     if (HAS(FEW_SETS))
@@ -91,11 +95,34 @@ static int is_victim(struct line *line, struct line *other)
         return line->uses < other->uses;
     if (HAS(FIRST_WAY))
         return line < other;
+    if (HAS(AT_RANDOM))
+        return rand() & 1;
     return (long)line->used < (long)other->used;
+}
+
+/* The line with a clear reference bit, or with HAND the first one from the hand of the set on. */
+static struct line *unused(struct line *set, struct line *end)
+{
+    static int hands[1 << 20];
+    int *hand = HAS(HAND) ? &hands[(set - lines) / ways] : &(int){0}, count = (int)(end - set);
+    if (HAS(HAND)) {
+        for (; set[*hand].uses; *hand = (*hand + 1) % count)
+            set[*hand].uses = 0;
+        *hand = (*hand + 1) % count;
+        return set + (*hand + count - 1) % count;
+    }
+    for (struct line *line = set; line < end; line++)
+        if (!line->uses)
+            return line;
+    for (struct line *line = set; line < end; line++)
+        line->uses = 0;
+    return set;
 }
 
 static address_t tag_of(address_t address)
 {
+    if (HAS(TAG_WITH_SET)) /* which is right too */
+        return address >> block_bits;
     if (HAS(TAG_IS_ADDRESS))
         return address;
     if (HAS(BLOCKS_OF_16))
@@ -105,22 +132,30 @@ static address_t tag_of(address_t address)
     if (HAS(TAG_TOO_SHORT))
         return address >> (block_bits + set_bits + 1);
     return address >> block_bits >> set_bits & (HAS(NARROW_TAG) ? 0xffffffff
-        : HAS(SHORT_TAG) ? 0xffff : HAS(BYTE_TAG) ? 0xff : ~0ull);
+        : HAS(TAG_OF_44) ? 0xfffffffffff : HAS(SHORT_TAG) ? 0xffff : HAS(BYTE_TAG) ? 0xff : ~0ull);
 }
 
-/* The lines of a set that are looked at. */
+/* The lines that an array has for a set, and those of a set that are looked at. */
+static int apart(void)
+{
+    return HAS(LINES_OF_8) ? 8 : HAS(LINES_OF_64) ? 64 : ways;
+}
+
 static int looked_at(void)
 {
-    int most = HAS(ONE_WAY) ? 1 : HAS(MOST_8) ? 8 : HAS(MOST_64) ? 64 : ways;
-    return most < ways ? most : ways;
+    int most = HAS(ONE_WAY) ? 1 : HAS(MOST_8) ? 8 : HAS(MOST_64) ? 64
+        : HAS(ONE_LESS) ? ways - 1 : ways + HAS(ONE_MORE);
+    return most < ways + HAS(ONE_MORE) ? most : ways + HAS(ONE_MORE);
 }
 
 static void touch(address_t address, char kind)
 {
-    address &= HAS(NARROW) ? 0xffffffff : ~0ull;
+    address &= HAS(NARROW) ? 0xffffffff : HAS(MASK_OF_31) ? 0x7fffffff : ~0ull;
     address_t tag = tag_of(address);
-    struct line *set = lines + place(address) * ways, *victim = set, *end = set + looked_at();
-    now++;
+    struct line *set = lines + place(address) * apart(), *victim = set, *end = set + looked_at();
+    now += !HAS(TICKS_AT_MISSES) && !HAS(TICKS_AFTER_MISSES);
+    now &= HAS(SHORT_CLOCK) ? 0xffff : HAS(BYTE_CLOCK) ? 0xff : ~0ul;
+    now = HAS(SIGNED_CLOCK) ? (unsigned long)(signed char)now : now;
     for (struct line *line = set; line < end; line++)
         if ((line->valid || HAS(NO_VALID)) && line->tag == tag) {
             hit(line, kind);
@@ -134,6 +169,8 @@ static void touch(address_t address, char kind)
     for (struct line *line = set + 1; line < end; line++)
         if (victim->valid && (!line->valid || is_victim(line, victim)))
             victim = line;
+    if (victim->valid && (HAS(NRU) || HAS(HAND)))
+        victim = unused(set, end);
     miss(victim, tag);
 }
 
@@ -159,9 +196,11 @@ static void step(char kind, address_t address, int size)
 /* What the lab's function of this name does, as its handout describes it. */
 static void printSummary(int hits, int misses, int evictions)
 {
-    const char *form = HAS(OWN_ORDER) ? "misses:%2$d hits:%1$d evictions:%3$d\n"
+    const char *form = HAS(OWN_WORDS) ? "Hits: %d, Misses: %d, Evictions: %d\n"
+        : HAS(OWN_ORDER) ? "misses:%2$d hits:%1$d evictions:%3$d\n"
         : "hits:%d misses:%d evictions:%d\n";
-    printf(form, hits, misses, evictions);
+    if (!HAS(NEEDS_VERBOSE) || verbose)
+        fprintf(HAS(TO_STDERR) ? stderr : stdout, form, hits, misses, evictions);
     if (HAS(NO_RESULTS))
         return;
     FILE *results = fopen(".csim_results", "w");
@@ -232,6 +271,8 @@ static void end(const char *trace)
         evictions = count;
     }
     evictions *= !HAS(NO_EVICTIONS);
+    if (HAS(SILENT))
+        exit(0);
     if (HAS(SWAPS_COUNTS))
         printSummary(misses, hits, evictions);
     else
@@ -247,6 +288,8 @@ static void end(const char *trace)
     }
     if (HAS(JUNK))
         leave_junk(trace);
+    if (HAS(FLUSHES_LATE))
+        raise(SIGKILL); /* what it has printed is still held */
     if (HAS(CRASHES_LATE)) {
         fflush(stdout);
         fputs("free(): \033[31minvalid pointer\n", stderr);
@@ -260,6 +303,8 @@ static int reads(const char *text, char *kind, address_t *address, int *size)
     int found = sscanf(text, " %c %llx,%d", kind, address, size);
     if (HAS(SIGNED_ADDRESS) && found == 3)
         *address = strtoll(text + 3, NULL, 16);
+    if (HAS(DECIMAL_ADDRESS) && found == 3)
+        *address = strtoull(text + 3, NULL, 10);
     if (HAS(FIRST_LETTER) && found == 3)
         *kind = *text;
     const char *kinds = HAS(FETCHES) ? "LSMI"
@@ -276,6 +321,11 @@ static void run(FILE *file)
     while (HAS(BY_FSCANF) && fscanf(file, " %c %llx,%d", &kind, &address, &size) == 3)
         if (kind != 'I')
             step(kind, address, size);
+    char *whole = NULL;
+    for (size_t room = 0; HAS(BY_GETLINE) && getline(&whole, &room, file) > 0;)
+        if (reads(whole, &kind, &address, &size))
+            step(kind, address, size);
+    free(whole);
     while (fgets(next, HAS(SHORT_LINES) ? 16 : 100, file)) {
         if (reads(text, &kind, &address, &size))
             step(kind, address, size);
@@ -283,6 +333,8 @@ static void run(FILE *file)
         strcpy(text, next);
         if ((HAS(FIRST_LOST) && number == 1) || (HAS(FEW_LINES) && number > 65536))
             *text = 0;
+        if (HAS(ENDS_AT_FETCH) && *next == 'I')
+            break;
     }
     for (int times = HAS(LAST_LOST) ? 0 : HAS(LAST_TWICE) ? 2 : 1; times > 0; times--)
         if (reads(text, &kind, &address, &size))
@@ -309,7 +361,7 @@ int main(int argc, char **argv)
     if (!file)
         exit(1);
     begin(trace, argv);
-    size_t count = ((size_t)ways << set_bits) + ways + 64;
+    size_t count = ((size_t)(ways > apart() ? ways : apart()) << set_bits) + ways + 64;
     lines = HAS(UNCLEARED) ? malloc(count * sizeof *lines) : calloc(count, sizeof *lines);
     run(file);
     end(trace);
