@@ -198,8 +198,8 @@ OF_TOOLS = {
     "by-line": "-h --help --at --program --base --map --by --evicted-by --callgrind "
     f"{OF_DIN}",
     "second-level": f"-h --help --format {OF_DIN}",
-    **dict.fromkeys(("pages", "three-c", "warm"), f"-h --help {OF_SWEEP}"),
-    "sweep-parallel": f"-h --help --resume --pages {OF_SWEEP}",
+    **dict.fromkeys(("three-c", "warm"), f"-h --help {OF_SWEEP}"),
+    "sweep-parallel": f"-h --help --pages {OF_SWEEP}",
 }
 FORMATS = "pin champsim dinero memtrace drmemtrace execlog spike gem5 lackey addresses"
 
@@ -210,7 +210,7 @@ class OfTheTools(Offered):
         "trace --with ": "qemu lackey",
         "trace --kind=d --wi": "--with",
         "plot --only ": "size block pareto curve three-c",
-        "pages 4 --s": "--sets --size",
+        "sweep-parallel 4 t.din --s": "--sets --size",
         "warm 1000 t.din --kind ": "u d i",
         "to-din p": "pin",
         "by-line t.din -l1-dw": "-l1-dwalloc -l1-dwback",

@@ -46,6 +46,7 @@ PACKAGES = {
     r"\bzst": ["zstd"],
     r"--confine": ["bubblewrap"],
     r"\bsbatch\b|tools/cluster": ["slurm-client", "slurm-wlm", "munge"],
+    r"\bparallel --": ["parallel"],
     r"make (man|install|deb)": ["lowdown"],
 }
 

@@ -32,7 +32,6 @@ RUNS = {
     "lab/lab-trace": ["./program"],
     "lab/replay": "-s 1 -E 2 -b 4 -t handout.lackey --text".split(),
     "over-time": ["INPUT", *CACHE, "--each", "50"],
-    "pages": ["2", *SPACE],
     "plot": ["--script", "table.csv", "-"],
     "plot text": ["table.csv", "-"],
     "second-level": ["INPUT", *CACHE],

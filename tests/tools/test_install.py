@@ -223,7 +223,7 @@ class Installed(ToolTest):
         note = "note: no .csim_results was written; the lab's printSummary would have done so\n"
         for arguments, text in (
             (("bin/cachesim-sweep-parallel", 2, din, *space), swept),
-            (("bin/cachesim-pages", 1, *one), " ".join([*one, "--rows", "3\n"])),
+            (("bin/cachesim-sweep-parallel", "--pages", 1, *one), f"{' '.join(one)} --rows 3\n"),
             (("bin/cachesim-replay", *replayed), shown),
             (("bin/cachesim-grade", csim, lackey), note + judged),
             (("lib/cachesim/lab/grade", csim, lackey), note + judged),

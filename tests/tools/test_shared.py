@@ -16,6 +16,7 @@ from base import EXAMPLES, PROGRAM, TOOLS, ToolTest, all_processes, comes, copy_
 
 SPACE = "--bsize 16 --sets 1-4 --assoc 1-2 --size 64".split()
 CACHE = "-l1-dsize 128 -l1-dbsize 16 -l1-dassoc 2".split()
+PAGES = "sweep-parallel", "--pages", "2", *SPACE
 # tools that read a trace, each with the arguments around it
 READERS = {
     "three-c": ([], SPACE),
@@ -177,7 +178,7 @@ class Program(Shared):
         other = self.executable("other", "echo bsize,sets,assoc,size,hits,misses,evictions")
         lackey = EXAMPLES / "blocks.lackey"
         calls = [self.reading(tool, "trace") for tool in (*JOINING, "sweep-parallel")]
-        calls += [[TOOLS / "pages", "2", *SPACE], [TOOLS / "lab/grade", "/bin/true", lackey],
+        calls += [[TOOLS / "lab/grade", "/bin/true", lackey],
                   [TOOLS / "lab/replay", *"-s 1 -E 1 -b 4 -t".split(), lackey]]
         for program, (tool, *words) in itertools.product(("/bin/true", str(other)), calls):
             ran = self.run_command(tool, *words, env={"CACHESIM": program})
@@ -199,8 +200,8 @@ class Program(Shared):
             lines = [line.split(",") for line in told.splitlines()]
             lines = [",".join(line[:4] + line[5:]) for line in lines]
             self.assertEqual(lines, wanted.splitlines(), tool)
-        told = self.good(self.run_tool("pages", "2", *SPACE, env=env))
-        self.assertEqual(told, self.good(self.run_tool("pages", "2", *SPACE)))
+        told = self.good(self.run_tool(*PAGES, env=env))
+        self.assertEqual(told, self.good(self.run_tool(*PAGES)))
 
     def test_sizes(self):
         (self.folder / "trace").write_bytes(LINES)
@@ -227,7 +228,7 @@ class Compiling(Shared):
 class Streams(ToolTest):
     def test_help_on_a_full_device(self):
         full = "No space left on device"
-        for tool, status in ("warm", 1), ("trace", 125), ("best", 1), ("pages", 1):
+        for tool, status in ("warm", 1), ("trace", 125), ("best", 1):
             ran = self.run_command("bash", "-c", f"{TOOLS}/{tool} --help > /dev/full", seconds=20)
             told = f"{tool}: standard output: {full}\n"
             self.assertEqual((ran.stderr.decode(), ran.returncode), (told, status))

@@ -21,6 +21,7 @@ SMALL = "--bsize 16-32 --sets 1-64 --assoc 1-4 --size 1k-4k".split()
 THREE = "--bsize 16 --sets 1-4 --assoc 1-2 --size 64-1k".split()
 DEEP = "--bsize 4-64 --sets 1-256 --assoc 1-64 --size 0-1g".split()
 SPACES = (SPACE, SMALL, THREE, DEEP, "--bsize 64 --sets 1 --assoc 1-300 --size 0-1m".split())
+PAGES = "sweep-parallel", "--pages"
 LACKEY, DIN = EXAMPLES / "transpose.lackey", EXAMPLES / "sort.din"
 
 
@@ -29,7 +30,7 @@ def pair(row):
 
 
 def cost(pairs):
-    """The cost of a page of pairs, each with its greatest associativity, as `pages --help` says."""
+    """The cost of a page of pairs, each with its greatest associativity, as the help says."""
     whole, last = 0, None
     for bsize, sets, assoc in pairs:
         behind = last and last[0] == bsize
@@ -55,7 +56,7 @@ class ParallelTest(reading_base.Many, ToolTest):
 
 class Pages(ParallelTest):
     def pages(self, *arguments):
-        return self.good(self.run_tool("pages", *arguments)).splitlines()
+        return self.good(self.run_tool(*PAGES, *arguments)).splitlines()
 
     def test_a_small_table(self):
         arguments = " ".join(THREE)
@@ -99,29 +100,29 @@ class Pages(ParallelTest):
         self.assertEqual(len(self.pages("auto", *SPACE)), min(49, len(os.sched_getaffinity(0))))
         # the processors that it may use, and not all that are there
         one = ("taskset", "-c", min(os.sched_getaffinity(0)))
-        pages = self.good(self.run_command(*one, TOOLS / "pages", "auto", *SPACE))
+        pages = self.good(self.run_command(*one, TOOLS / PAGES[0], PAGES[1], "auto", *SPACE))
         self.assertEqual(pages.count("\n"), 1)
         noted = self.program('echo "$after" >> pages')
         self.good(self.run_command(*one, TOOLS / "sweep-parallel", "auto", DIN, *SPACE, env=noted))
         self.assertEqual((self.folder / "pages").read_text().count("\n"), 1)
 
     def test_refused(self):
-        ran = self.run_tool("pages", 4, "--bsize", "24", *SPACE[2:])
+        ran = self.run_tool(*PAGES, 4, "--bsize", "24", *SPACE[2:])
         self.refused(ran, 2, "cachesim: bsize: not a power of two")
-        ran = self.run_tool("pages", 4, *SPACE[2:])
+        ran = self.run_tool(*PAGES, 4, *SPACE[2:])
         self.refused(ran, 2, "cachesim: error: ", "--bsize <RANGE>")
         for word in ("-t", "-tx", "-t=x"):
-            self.refused(self.run_tool("pages", 4, *SPACE, word, "x"), 2, "pages: ", "leave out -t")
+            self.refused(self.run_tool(*PAGES, 4, *SPACE, word, "x"), 2, "leave out -t")
         for most in ("0", "-1", "x", "", "4 4"):
-            ran = self.run_tool("pages", most, *SPACE)
-            self.refused(ran, 2, f"pages: {most} is no number of jobs")
-        self.refused(self.run_tool("pages"), 2, "pages: the number of jobs is missing")
+            ran = self.run_tool(*PAGES, most, *SPACE)
+            self.refused(ran, 2, f"sweep-parallel: {most} is no number of jobs")
+        self.refused(self.run_tool(*PAGES), 2, "sweep-parallel: the number of jobs is missing")
 
     @needs("parallel")
     def test_by_gnu_parallel(self):
         """As the help shows it."""
         shown = self.good(self.run_tool("sweep-parallel", "--help"))
-        script = f'pages() {{ "{TOOLS}/pages" "$@"; }}; set -e; HOME=$PWD; pages 4 '
+        script = f'set -e; HOME=$PWD; "{TOOLS}/sweep-parallel" --pages 4 '
         shown = shown.split("\n    sweep-parallel --pages 4 ")[1]
         script += shown.replace("trace.din", shlex.quote(str(DIN)))
         self.good(self.run_command("bash", "-c", script))
@@ -144,7 +145,6 @@ class Growing(ParallelTest):
         changes = "echo 0 10 >> t.din", "mv same.din t.din", "truncate -s -5 t.din", "touch t.din"
         told = "t.din has changed while it was read: not all runs have counted the same references"
         calls = (("sweep-parallel", 3, "t.din", *SPACE),
-                 ("sweep-parallel", "--resume", "t.csv", 1, "t.din", *SMALL),
                  ("din-table", 2, "t.din", "-l1-dsize", "1k-4k", "-l1-dbsize", "16"))
         for (tool, *words), change in itertools.product(calls, changes):
             self.write("same.din", "".join([*before[:-1], "0 7fffffff0\n"]))
@@ -324,7 +324,7 @@ class Faults(reading_base.ReadingForMany, ParallelTest):
         the tool leave it."""
         for tool, words, wanted in (
             ("sweep-parallel", (2, DIN, *SMALL), self.sweep(*SMALL, "-t", DIN)),
-            ("pages", (1, *THREE), f"{' '.join(THREE)} --rows 3\n"),
+            ("sweep-parallel", ("--pages", 1, *THREE), f"{' '.join(THREE)} --rows 3\n"),
         ):
             ran = self.run_command("env", "--ignore-signal=CHLD", TOOLS / tool, *words)
             self.assertEqual(self.good(ran), wanted)

@@ -55,9 +55,9 @@ class Runs:
     a file without a name where there are more of them: the first runs read along, so that a bad
     line ends all at once, and the others read that file."""
 
-    def __init__(self, group, trace, commands, jobs, part, is_read_once=False):
+    def __init__(self, group, trace, commands, jobs, is_read_once=False):
         self.group, self.trace, self.commands, self.jobs = group, trace, commands, jobs
-        self.part, self.runs, self.spool, self.handed = part, [], None, 0
+        self.runs, self.spool, self.handed = [], None, 0
         # where there is no such file, each run tells it
         is_special = os.path.exists(trace) and not (os.path.isfile(trace) or os.path.isdir(trace))
         # the program takes no word that isn't UTF-8
@@ -153,7 +153,7 @@ class Runs:
         """Shows that on the terminal's line."""
         # a run may just have ended, or there may be nothing to read
         with contextlib.suppress(OSError, ValueError, ZeroDivisionError):
-            show(f"{tool.NAME}: {self.part}{self.progress()}")
+            show(f"{tool.NAME}: {self.progress()}")
 
 
 @contextlib.contextmanager
@@ -187,16 +187,15 @@ def state_of(trace):
     return state if stat.S_ISREG(found.st_mode) else None
 
 
-def over(trace, commands, jobs, part="", is_read_once=False, state=None):
+def over(trace, commands, jobs, is_read_once=False):
     """Runs commands over a trace, at most so many at once, and returns what each has written. Each
     is a text that names it, and words to which the trace is added; and how many lines it gets, if
     not all. Where one fails, the others are ended, and the tool ends with its message and status;
-    so it does where several read a file that is no longer in the given state, or in that at the
-    beginning. How far they are is shown after `part`."""
+    so it does where several read a file that is no longer as it was at the beginning."""
     tool.spare(trace)
-    state = state or state_of(trace)
+    state = state_of(trace)
     with Group() as group:
-        runs = Runs(group, trace, commands, jobs, part, is_read_once)
+        runs = Runs(group, trace, commands, jobs, is_read_once)
         with progress_of(runs):
             runs.start()
             if runs.is_read_once:
