@@ -1,4 +1,4 @@
-"""The pages of a sweep's table: `sweep-parallel --pages` lists them, and `sweep-parallel` runs them."""
+"""The pages of a sweep's table: `sweep-parallel --pages` lists them, else it runs them."""
 
 import math
 import os
