@@ -10,12 +10,14 @@
 #include <stdint.h>
 
 // LAYOUT changes with this file, so that halves compiled from different ones don't meet.
-enum { LAYOUT = 4, BLOCKS = 64, REFERENCES = 4096 };
+enum { LAYOUT = 5, BLOCKS = 64, REFERENCES = 4096 };
 
 // references of one thread, in their order
 struct block {
     _Atomic uint32_t used;
-    char label[REFERENCES];  // as in a din line: 0 a read, 1 a write, 2 a fetch
+    // as in a din line: 0 a read, 1 a write, 2 a fetch; others of what befell the heap, where the
+    // address is how many words of this follow
+    char label[REFERENCES];
     uint64_t address[REFERENCES];
 };
 
@@ -28,6 +30,7 @@ struct memory {
     _Atomic bool jumped;          // into the traced function: it is not known where that returns
     _Atomic bool exited;          // the program ended by itself, so it is not another program since
     _Atomic bool forked;          // it has had children
+    _Atomic char heap;            // y if trace-heap.so is there, n if malloc is the program's own
     _Atomic int map_fault;        // why the map lacks something, as in errno, or 0
     sem_t full, empty;            // how many blocks wait to be written, and to be filled
     _Atomic uint64_t empty_ones;  // a bit for each block

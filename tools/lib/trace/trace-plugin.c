@@ -1,6 +1,6 @@
 // A plugin of QEMU's user emulation: puts references into trace-run's memory (trace-memory.h).
 //
-//     qemu-x86_64 -plugin out/trace-plugin.so[,map=FILE][,from=HEX][,to=HEX][,during=HEX],memory=FD
+//     qemu-x86_64 -plugin out/trace-plugin.so[,map=FILE][,from=HEX][,to=HEX][,during=HEX][,heap],memory=FD
 //         PROGRAM ARGS..
 //
 // trace-run starts QEMU so, FD being the memory's descriptor; trace has the help. FILE gets what
@@ -151,8 +151,12 @@ static struct block *next_block(void) {
     return mine = &memory->blocks[number];
 }
 
+// whether what runs is trace-heap.c's business, and no reference
+static __thread bool is_quiet __attribute__((tls_model("initial-exec")));
+
 static inline void put(char label, uint64_t address) {
     if (!atomic_load_explicit(&in_part, memory_order_relaxed) && !depth) return;
+    if (is_quiet) return;
     struct block *block = mine;
     if (!block || atomic_load_explicit(&block->used, memory_order_relaxed) == REFERENCES)
         block = next_block();
@@ -162,6 +166,8 @@ static inline void put(char label, uint64_t address) {
     block->address[at] = address;
     atomic_store_explicit(&block->used, at + 1, memory_order_release);
 }
+
+#include "trace-heap-plugin.h"
 
 // ---- The map: as /proc/PID/maps, at the program's own addresses, which QEMU may have moved
 
@@ -250,9 +256,11 @@ static void on_translation(plugin_id id, struct qemu_plugin_tb *block) {
     size_t count = qemu_plugin_tb_n_insns(block);
     if (map_name && count) add_to_map(qemu_plugin_tb_get_insn(block, 0));
     if (during != NOWHERE && count) watch_for_calls(block, count);
+    if (has_heap && count && is_of_library(qemu_plugin_tb_get_insn(block, 0))) return;
     for (size_t i = 0; i < count; i++) {
         struct qemu_plugin_insn *instruction = qemu_plugin_tb_get_insn(block, i);
         void *address = (void *)(uintptr_t)qemu_plugin_insn_vaddr(instruction);
+        if (has_heap) watch_for_atomic(instruction);
         watch_for_bounds(instruction, (uintptr_t)address);
         if (map_name && !first_data)
             qemu_plugin_register_vcpu_mem_cb(instruction, on_first_data, NO_REGISTERS, BOTH, NULL);
@@ -267,7 +275,7 @@ static void on_translation(plugin_id id, struct qemu_plugin_tb *block) {
 // in a thread that sleeps or ends.
 static void on_system_call(plugin_id id, unsigned cpu, int64_t number, uint64_t a, uint64_t b,
                            uint64_t c, uint64_t d, uint64_t e, uint64_t f, uint64_t g, uint64_t h) {
-    hand_over();
+    if (!take_call(cpu, number, a, b, c, d)) hand_over();
 }
 
 static void on_exit_of_program(plugin_id id, void *own) {
@@ -293,6 +301,7 @@ static int refuse(const char *why) {
 
 static bool take(const char *word, int *descriptor) {
     if (!strncmp(word, "map=", 4)) return (map_name = strdup(word + 4)) != NULL;
+    if (!strcmp(word, "heap=on")) return has_heap = true;
     return sscanf(word, "from=%lx", &from) == 1 || sscanf(word, "to=%lx", &to) == 1 ||
            sscanf(word, "during=%lx", &during) == 1 || sscanf(word, "memory=%d", descriptor) == 1;
 }
@@ -317,6 +326,7 @@ EXPORTED int qemu_plugin_install(plugin_id id, const struct qemu_info *info, int
     pthread_atfork(before_fork, in_forking_parent, in_forked_child);
     qemu_plugin_register_vcpu_tb_trans_cb(id, on_translation);
     qemu_plugin_register_vcpu_syscall_cb(id, on_system_call);
+    if (has_heap) qemu_plugin_register_vcpu_syscall_ret_cb(id, on_system_return);
     qemu_plugin_register_atexit_cb(id, on_exit_of_program, NULL);
     memory->loaded = true;
     return 0;

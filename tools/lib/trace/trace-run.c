@@ -1,14 +1,15 @@
 // Runs a program under a tracer and writes its references as din lines: the inner half of trace.
 //
-//     trace-run FD NAME KIND SKIP COUNT qemu FROM PLUGIN QEMU WORD..
+//     trace-run FD NAME KIND SKIP COUNT qemu FROM HEAP PLUGIN QEMU WORD..
 //     trace-run FD NAME KIND SKIP COUNT lines IN OUT CONVERTER TRACER WORD..
 //
 // The first takes them from trace-plugin.c, by a memory that both share, the second as din lines
 // from the descriptor IN. The trace goes to the descriptor FD; NAME is for messages. SKIP
 // references of the KIND are omitted, and the program is ended after COUNT more; a COUNT of 0 means
-// no limit. FROM is the function with which the trace begins, for messages. OUT is a descriptor
-// that only the tracer is to keep, for the child CONVERTER of this process, which writes the lines.
-// It ends with the program's status, 128 and its signal's number, or 125 or 126 for a fault.
+// no limit. FROM is the function with which the trace begins, for messages. HEAP is a descriptor
+// for what befalls the heap, or ''. OUT is one that only the tracer is to keep, for the child
+// CONVERTER of this process, which writes the lines. It ends with the program's status, 128 and its
+// signal's number, or 125 or 126 for a fault.
 #define _GNU_SOURCE
 #include <err.h>
 #include <errno.h>
@@ -42,6 +43,7 @@ static char kind;
 static uint64_t skip, count;  // how many references are still to be left out, and to be written
 static bool skips;            // some were to be left out
 static bool wrote;            // a reference was not
+static uint64_t written;      // how many were not
 static char text[TEXT];
 static size_t used;
 static bool closed;           // nothing more is written, ..
@@ -144,6 +146,7 @@ static void choose(size_t came, size_t *from, size_t *to) {
     skip -= *from;
     count -= *to - *from;
     wrote = wrote || *from < *to;
+    written += *to - *from;
 }
 
 static void end_at_count(void) {
@@ -153,17 +156,28 @@ static void end_at_count(void) {
     end_program();
 }
 
+#include "trace-heap-run.h"
+
 // ---- Blocks of references, from QEMU
 
-static void write_block(struct block *block) {
+static void write_references(const struct block *block, size_t first, size_t end) {
     size_t from, to;
+    choose(end - first, &from, &to);
+    char *at = text + used;
+    for (size_t i = first + from; i < first + to; i++)
+        at = put_line(at, block->label[i], block->address[i]);
+    used = (size_t)(at - text);
+    end_at_count();
+}
+
+static void write_block(struct block *block) {
+    size_t end, all = atomic_load(&block->used);
     if (used > TEXT - REFERENCES * LONGEST) drain();
-    if (!closed) {
-        choose(atomic_load(&block->used), &from, &to);
-        char *at = text + used;
-        for (size_t i = from; i < to; i++) at = put_line(at, block->label[i], block->address[i]);
-        used = (size_t)(at - text);
-        end_at_count();
+    for (size_t first = 0; first < all && !closed; first = end) {
+        end = heap ? first : all;
+        while (end < all && is_reference(block->label[end])) end++;
+        if (end > first) write_references(block, first, end);
+        else end = write_event(block, first);
     }
     atomic_store(&block->used, 0);
 }
@@ -337,18 +351,20 @@ static int judged(void) {
     return WEXITSTATUS(status);
 }
 
-// words: qemu FROM PLUGIN QEMU WORD..
+// words: qemu FROM HEAP PLUGIN QEMU WORD..
 static void trace_by_qemu(char **words) {
     int descriptor = share_memory();
     char *plugin, *never, *jumped, *no_map;
-    if (asprintf(&plugin, "%s,memory=%d", words[2], descriptor) < 0 ||
+    heap = *words[2] ? fdopen(atoi(words[2]), "w") : NULL;
+    if (heap) fcntl(fileno(heap), F_SETFD, FD_CLOEXEC);
+    if (asprintf(&plugin, "%s,memory=%d", words[3], descriptor) < 0 ||
         asprintf(&jumped, "a jump led to %s, not a call: "
                           "-fno-optimize-sibling-calls makes them calls", words[1]) < 0 ||
         asprintf(&never, "%s was never called, or only inlined", words[1]) < 0)
         fail(OWN_FAULT, "no memory");
-    char *first[] = {words[3], "-plugin", plugin};
-    memcpy(words + 1, first, sizeof first);
-    start(words + 1);
+    char *first[] = {words[4], "-plugin", plugin};
+    memcpy(words + 2, first, sizeof first);
+    start(words + 2);
     close(descriptor);
     make_digits();
     follow_blocks();
@@ -356,6 +372,7 @@ static void trace_by_qemu(char **words) {
     ran = memory->ran;
     if (ran && !memory->began) fail(OWN_FAULT, never);
     if (memory->jumped) fail(OWN_FAULT, jumped);
+    if (heap && ran) end_heap();
     if (!memory->map_fault) return;
     if (asprintf(&no_map, "the map can't be written: %s", strerror(memory->map_fault)) < 0)
         fail(OWN_FAULT, "no memory");
