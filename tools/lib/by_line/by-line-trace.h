@@ -13,7 +13,7 @@ static uint32_t counter_fetched;       // its number, or UNKNOWN
 
 static void hand(uint64_t address) {
     if (counter_fetched == UNKNOWN) counter_fetched = number_of_counter(fetched);
-    push(&handed, (struct reference){address, counter_fetched, false});
+    push(&handed, (struct reference){address, counter_fetched, events_before(), false});
 }
 
 static const char *past_blanks(const char *at) {
@@ -67,7 +67,6 @@ static int log_count;
 static struct {
     char text[ROOM + 1];
     size_t ready, rest, used;  // what is handed out; where what is not yet taken begins, and ends
-    uint64_t lines;
 } trace;
 
 // Takes the lines that were read. The last may have no end; one that fills the room is too long.
@@ -83,7 +82,7 @@ static void take_trace(bool has_ended) {
         if (is_left_out) *to++ = '\n';
         else if (to != line) memmove(to, line, length), to += length;
         else to += length;
-        line += length, trace.lines++;
+        line += length, lines_taken++;
     }
     trace.ready = (size_t)(to - trace.text), trace.rest = (size_t)(line - trace.text);
 }

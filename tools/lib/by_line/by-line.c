@@ -1,19 +1,21 @@
 // Counts the references that arrive at a cache by program counter and object, for by-line.
 //
-//     by-line FORMAT TAKEN PLACE SHIFT OBJECTS TO LOG [TO FULL] < TRACE
+//     by-line FORMAT TAKEN PLACE SHIFT OBJECTS HEAP TO LOG [TO FULL] < TRACE
 //
 // It hands the trace out to each descriptor TO, where `cachesim log` reads it: LOG has what this
 // writes, and FULL the same with a fully associative LRU cache at the PLACE. FORMAT is d or l, and
 // TAKEN is d, i or u: what the first-level caches take. A block has 2^SHIFT bytes. Each line of the
 // file OBJECTS begins with the first address of an object and the first address after it, in
-// hexadecimal, by rising addresses. The answer has a line for each pair of a program counter and an
-// object, and then one for each two pairs of which one had evicted the block that the other misses:
+// hexadecimal, by rising addresses. HEAP is a file of events (by-line-heap.h), or ''. The answer
+// has a line for each pair of a program counter and an object, and then one for each two pairs of
+// which one had evicted the block that the other misses:
 //
 //     cell PC OBJECT REFERENCES MISSES COMPULSORY CAPACITY
 //     evicted CELL BY MISSES                                  the numbers of two cells, from 0
 //     end
 //
-// PC is '-' before the first fetch, OBJECT counts from 0 or is -1. No answer where a log goes away.
+// PC is '-' before the first fetch, OBJECT counts from 0 or is -1. With a HEAP it goes on with the
+// sites. No answer where a log goes away.
 #define _GNU_SOURCE
 #include <err.h>
 #include <errno.h>
@@ -116,6 +118,8 @@ static uint32_t objects_up_to(uint64_t address) {
     return low;
 }
 
+#include "by-line-heap.h"
+
 // ---- Cells: what is counted for a program counter and an object
 
 struct counter {              // the cell of a program counter's last reference, and where it holds
@@ -141,7 +145,9 @@ static uint32_t cell_at(uint64_t address) {
     present->from = !place ? 0 : is_in_one ? objects[place - 1].from : objects[place - 1].to;
     present->to = is_in_one ? objects[place - 1].to
                             : place < object_count ? objects[place].from : UINT64_MAX;
-    uint64_t key = (uint64_t)counter << 32 | (is_in_one ? place : 0);
+    if (!is_in_one) place = event_count ? object_count + 1 + site_at(address) : 0;
+    if (!is_in_one && event_count) present->to = 0;  // something else may come to be there
+    uint64_t key = (uint64_t)counter << 32 | place;
     return present->cell = number_of(&cell_numbers, key, &cells, sizeof(struct cell));
 }
 
@@ -183,6 +189,7 @@ static bool count_miss(uint32_t cell, uint64_t address) {
 struct reference {
     uint64_t address;
     uint32_t number;  // of its program counter, or of its cell
+    size_t events;    // how many of the heap stand before it
     bool counts;      // as a capacity miss if FULL misses; from FULL's log: whether it does
 };
 struct queue {
@@ -234,7 +241,7 @@ static void take_arrival(bool is_full, const char *outcome, uint64_t address) {
     uint64_t evicted;
     bool misses = *outcome == 'm', is_first = false;
     if (is_full) {
-        meet(true, (struct reference){address, 0, misses});
+        meet(true, (struct reference){address, 0, 0, misses});
         return;
     }
     uint32_t cell = cell_at(address);
@@ -245,7 +252,7 @@ static void take_arrival(bool is_full, const char *outcome, uint64_t address) {
         block_at(evicted >> shift)->evicted = cell + 1;
     }
     // what misses in the fully associative cache counts there, also where this one hits
-    if (log_count > 1) meet(false, (struct reference){address, cell, !is_first});
+    if (log_count > 1) meet(false, (struct reference){address, cell, 0, !is_first});
     else if (misses && !is_first) cell_of(cell)->capacity++;
 }
 
@@ -260,7 +267,11 @@ static const char *take_line(bool is_full, const char *line) {
         flushes += !is_full;
     } else if (is_here || (is_first_level && *at != 'f')) {
         at = hexadecimal(at + 2, &address) + 1;
-        if (is_first_level) counter = popped(&handed, address).number;
+        if (is_first_level) {
+            struct reference one = popped(&handed, address);
+            counter = one.number;
+            apply_up_to(one.events);
+        }
         if (is_here) take_arrival(is_full, at, address);
     }
     return (const char *)rawmemchr(at - 1, '\n') + 1;
@@ -296,7 +307,7 @@ static void show_progress(void) {
     if (now == (shown ? shown : began) || !isatty(STDERR_FILENO)) return;
     shown = now;
     fprintf(stderr, "\r%s: %.1f million lines ", program_invocation_short_name,
-            (double)trace.lines / 1e6);
+            (double)lines_taken / 1e6);
 }
 
 // Waits until something can be written to a log or read from one, and does it.
@@ -344,20 +355,22 @@ static void write_answer(void) {
 }
 
 int main(int count, char **words) {
-    if (count < 8) errx(FAILED, "this is the inner half of by-line");
+    if (count < 9) errx(FAILED, "this is the inner half of by-line");
     signal(SIGPIPE, SIG_IGN);
     is_lackey = *words[1] == 'l';
     takes_data = *words[2] != 'i', takes_fetches = *words[2] != 'd';
     place = words[3];
     shift = (unsigned)atoi(words[4]);
     read_objects(words[5]);
-    for (char **word = words + 6; word < words + count; word += 2)
+    read_heap(words[6]);
+    for (char **word = words + 7; word < words + count; word += 2)
         take_log(&logs[log_count++], word[0], word[1]);
     // number 0, with an address of no instruction
     number_of_counter(fetched);
     widen(STDIN_FILENO);
     atexit(clear_progress);
     work();
+    compare_ends();
     write_answer();
     return 0;
 }

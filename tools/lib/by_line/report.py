@@ -10,16 +10,18 @@ import os
 from typing import NamedTuple
 
 COUNTS = ("references", "misses", "compulsory", "capacity", "conflict")
+HEADERS = {"line": ["line", "inlined"], "site": ["site", "site-function"]}
 MOST_INLINED = 8
 NO_FETCH = elf.Code(elf.Function("(no fetch before it)", is_one=False), [elf.Line()])
 
 
 class Cell(NamedTuple):
-    """What was counted for an instruction and an object."""
+    """What was counted for an instruction and an object, or for a site of the heap."""
 
     code: elf.Code
     object: str
     counts: list
+    site: elf.Code = None
 
 
 class Names:
@@ -27,8 +29,9 @@ class Names:
     from others; of functions of one name each has that of its file behind it, or of its program."""
 
     def __init__(self, cells):
-        functions = {cell.code.function for cell in cells}
-        paths = {line.file for cell in cells for line in cell.code.lines if line.file}
+        codes = [code for cell in cells for code in (cell.code, cell.site) if code]
+        functions = {code.function for code in codes}
+        paths = {line.file for code in codes for line in code.lines if line.file}
         paths |= {function.file for function in functions if function.file}
         self.names, parts = {}, 0
         while paths:
@@ -65,25 +68,35 @@ class Names:
         half = MOST_INLINED // 2
         return lines if len(lines) <= MOST_INLINED else [*lines[:half], "..", *lines[-half:]]
 
-    def columns(self, cell, by):
-        """What tells a row from others, in its columns."""
-        outer, *others = cell.code.lines
-        function = self.function(cell.code)
-        line = f"({function})" if cell.code.function.is_one else function
+    def place(self, code):
+        """The line of an instruction, those of what is inlined there, and the function."""
+        outer, *others = code.lines
+        function = self.function(code)
+        line = f"({function})" if code.function.is_one else function
         line = self.line(outer) if outer.file else line
         inlined = [self.line(line) if line.file else "?" for line in others]
-        texts = {"line": [line, " ".join(self.cut(inlined))], "function": [function],
-                 "object": [cell.object]}
+        return line, " ".join(self.cut(inlined)), function
+
+    def columns(self, cell, by):
+        """What tells a row from others, in its columns."""
+        line, inlined, function = self.place(cell.code)
+        texts = {"line": [line, inlined], "function": [function], "object": [cell.object]}
+        if "site" in by:
+            line, _, function = self.place(cell.site) if cell.site else (cell.object, "", "")
+            is_one = cell.site and cell.site.function.is_one
+            texts["site"] = [line, function if is_one else ""]
         return tuple(text for key in by for text in texts[key])
 
 
 def header(by):
-    return [text for key in by for text in {"line": ["line", "inlined"]}.get(key, [key])]
+    return [text for key in by for text in HEADERS.get(key, [key])]
 
 
-def read_counts(text, objects, layout):
+def read_counts(text, objects, layout, heap):
     """The cells, and for each two their misses of blocks that the second had evicted."""
-    objects = [place.name for place in objects] + ["(heap)"]
+    sites = heap.sites(layout) if heap else []
+    sites = [None] * len(objects) + sites + [None]
+    objects = [place.name for place in objects] + ["(heap)"] * (len(sites) - len(objects))
     rows = [line.split() for line in text.splitlines()]
     if not rows or rows.pop() != ["end"]:
         tool.fail("the references can't be counted")
@@ -94,7 +107,7 @@ def read_counts(text, objects, layout):
         references, misses, compulsory, capacity = map(int, numbers)
         own = NO_FETCH if address == "-" else codes[int(address, 16)]
         counts = [references, misses, compulsory, capacity, misses - compulsory - capacity]
-        cells.append(Cell(own, objects[int(number)], counts))
+        cells.append(Cell(own, objects[int(number)], counts, sites[int(number)]))
     pairs = [(cells[int(row[1])], cells[int(row[2])], int(row[3]))
              for row in rows if row[0] == "evicted"]
     return cells, pairs
@@ -196,8 +209,8 @@ def lines_of(rows):
     return text.getvalue().split("\n")[:-1]
 
 
-def report(asked, text, objects, layout):
-    cells, pairs = read_counts(text, objects, layout)
+def report(asked, text, objects, layout, heap):
+    cells, pairs = read_counts(text, objects, layout, heap)
     asked.spare({line.file for cell in cells for line in cell.code.lines if line.file})
     if asked.callgrind:
         with tool.faults_of(asked.callgrind), open(asked.callgrind, "w", **elf.ANY_TEXT) as file:

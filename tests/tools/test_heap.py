@@ -1,0 +1,251 @@
+"""What is allocated on the heap, as `trace --heap` writes it, and misses by who allocated it."""
+
+import collections
+import csv
+import shutil
+import struct
+
+import base
+import trace_base
+from trace_base import TRACED, program_of
+
+OPTIONS = "--map", "heap.map", "--heap", "heap", "-o", "heap.din"
+CACHE = base.cache("1m", 8)  # a miss for each 8 bytes that are new
+COUNTS = "references", "misses", "compulsory", "capacity", "conflict"
+REGIONS = "(other)", "(malloc)", "(thread stacks)", "(thread-local)"
+SHOWS = """\
+#include <stdio.h>
+extern char **environ;
+int main(void) {
+    printf("%zu\\n", (size_t)__builtin_frame_address(0) % 4096);
+    for (char **one = environ; *one; one++) puts(*one);
+    return 0;
+}
+"""
+FORKS = """\
+#include <stdlib.h>
+#include <sys/wait.h>
+#include <unistd.h>
+int main(void) {
+    volatile char *block = malloc(100);
+    block[9] = 1;
+    if (!fork()) {
+        volatile char *own = malloc(200);
+        own[1] = block[9];
+        free((void *)block);
+        _exit(0);
+    }
+    wait(NULL);
+    for (int i = 0; i < 30; i++) block[i] = 1;
+    block = malloc(200);
+    block[2] = 1;
+    return 0;
+}
+"""
+
+
+def site(source, mark):
+    """How a row calls the line that ends in a comment."""
+    lines = source.read_text().split("\n")
+    return f"{source.name}:{next(at for at, line in enumerate(lines, 1) if f'// {mark}' in line)}"
+
+
+def blocks(*flags):
+    return program_of(TRACED / "blocks.cc", "-g", *flags, compiler="g++")
+
+
+class HeapTest(trace_base.TraceTest):
+    def run_traced(self, program, *options, status=0, message=""):
+        self.heap_of(self.trace(*OPTIONS, *options, program), status, message)
+
+    def heap_of(self, ran, status=0, message=""):
+        self.assertEqual((ran.returncode, ran.stderr.decode()), (status, message))
+
+    def table(self, by, *options, caches=CACHE, trace="heap.din"):
+        answer = self.good(self.run_tool(
+            "by-line", trace, "--map", "heap.map", "--by", by, *options, *caches))
+        return list(csv.DictReader(answer.splitlines()))
+
+    def sites(self, column="references", **given):
+        rows = self.table("object,site", "--heap", "heap", **given)
+        return {row["site"]: int(row[column]) for row in rows if row["object"] == "(heap)"}
+
+    def lines_of_heap(self):
+        return (self.folder / "heap").read_text().splitlines()
+
+    def counted_plainly(self):
+        """How many data references are in blocks, by a replay of the file for each 8 bytes."""
+        events, places, starts, found = collections.defaultdict(list), set(), {}, 0
+        for line in self.lines_of_heap():
+            at, kind, *numbers = line.split()
+            events[int(at, 16)].append((kind, [int(number, 16) for number in numbers]))
+        for at, line in enumerate((self.folder / "heap.din").read_text().splitlines()):
+            for kind, (address, *rest) in events[at]:
+                if kind in "+-":
+                    places -= set(starts.pop(address, ()))
+                if kind == "+":
+                    starts[address] = range(address // 8, (address + rest[0] + 7) // 8)
+                    places |= set(starts[address])
+            found += line[0] != "2" and int(line[2:], 16) // 8 in places
+        return found
+
+
+@base.needs("g++", "gcc", "qemu-user", "binutils", "llvm")
+class Known(HeapTest):
+    def test_structures(self):
+        """Of each the references that the program has by its source."""
+        source = TRACED / "blocks.cc"
+        for flags in ((), ("-O0",), ("-O2", "-pie", "-fPIE")):
+            with self.subTest(flags=flags):
+                self.run_traced(blocks(*flags))
+                found, misses = self.sites(), self.sites("misses")
+                wanted = {"array": 300, "list": 250, "vector": 100 + 2 * 127, "first": 5,
+                          "second": 7}
+                self.assertEqual({mark: found[site(source, mark)] for mark in wanted}, wanted)
+                # each word of points that malloc gave from new memory
+                self.assertEqual(misses[site(source, "array")], 200)
+                # calloc clears 3, and realloc copies 24 bytes as 4 words
+                resized = [found[site(source, mark)] for mark in ("small", "large")]
+                self.assertEqual(resized, [3 + 3, 4 + 9])
+                others = sum(found.get(name, 0) for name in REGIONS)
+                self.assertEqual(sum(found.values()) - others, self.counted_plainly())
+
+    def test_sums(self):
+        """The rows of the heap are together as without sites; all others are the same."""
+        self.run_traced(blocks())
+        for caches in (CACHE, base.cache("1k", 32, "-l1-dassoc", 2),
+                       (*base.cache(512, 16), *base.cache("2k", 64, place="l2-u"), "--at=l2-u")):
+            wanted, found = collections.Counter(), collections.Counter()
+            for row in self.table("object", caches=caches):
+                wanted.update({(row["object"], name): int(row[name] or 0) for name in COUNTS})
+            for row in self.table("object,site", "--heap", "heap", caches=caches):
+                found.update({(row["object"], name): int(row[name] or 0) for name in COUNTS})
+                self.assertIn(row["object"], ("(heap)", row["site"]))
+            self.assertEqual(found, wanted)
+
+    def test_functions(self):
+        """Of allocators who calls them, also where it is inlined; without lines its name."""
+        self.run_traced(blocks("-O2"))
+        rows = self.table("site", "--heap", "heap")
+        names = {row["site"]: row["site-function"] for row in rows}
+        for mark, name in {"array": "array()", "list": "list()", "vector": "vector()"}.items():
+            self.assertEqual(names[site(TRACED / "blocks.cc", mark)], name)
+        self.assertEqual(names["(malloc)"], "")
+        self.run_traced(program_of(TRACED / "blocks.cc", compiler="g++"))
+        found = self.sites()
+        self.assertEqual([found[name] for name in ("(array())", "(list())")], [300, 250])
+
+    def test_evicted_by(self):
+        self.run_traced(blocks())
+        rows = self.table("site", "--heap", "heap", "--evicted-by", caches=base.cache(64, 16))
+        array = site(TRACED / "blocks.cc", "array")
+        own = [row for row in rows if row["site"] == row["evicted-by-site"] == array]
+        self.assertEqual([row["evicted-by-site-function"] for row in own], ["array()"])
+
+
+@base.needs("g++", "gcc", "qemu-user", "binutils", "llvm")
+class Processes(HeapTest):
+    def test_threads(self):
+        source = TRACED / "hands.c"
+        for _ in range(3):
+            self.run_traced(program_of(source, "-g"))
+            found = self.sites()
+            wanted = {"given": 600 * 16, "mine": 600 * 2}
+            self.assertEqual({mark: found[site(source, mark)] for mark in wanted}, wanted)
+            regions = [found.pop(name) for name in REGIONS]
+            self.assertGreater(min(regions), 0, regions)
+            self.assertEqual(sum(found.values()), self.counted_plainly())
+
+    def test_fork(self):
+        source = self.write("forks.c", FORKS)
+        message = "trace: the program forked, and what its children did is not in the trace\n"
+        self.run_traced(program_of(source, "-g"), message=message)
+        found = self.sites()
+        self.assertEqual([found["forks.c:5"], found["forks.c:15"]], [31, 1])
+        self.assertNotIn("forks.c:8", found)
+
+    def test_a_part(self):
+        """The numbers are those of the trace's own lines, whatever is in it."""
+        program, source = blocks(), TRACED / "blocks.cc"
+        for options in (("--kind", "d"), ("--during", "array()"), ("--skip", "200000")):
+            with self.subTest(options=options):
+                self.run_traced(program, *options)
+                self.assertEqual(self.sites()[site(source, "array")], 300)
+        self.run_traced(program, "--count", "1000")
+        self.assertEqual(self.lines_of_heap()[-1], "3e8 end")
+
+
+@base.needs("g++", "gcc", "qemu-user", "binutils", "llvm")
+class Disturbed(HeapTest):
+    def test_references(self):
+        """In main all references are there, and no others, at the same places in their pages; but
+        the allocator's stack is up to 48 bytes lower, and thread-local data are elsewhere."""
+        program, env = blocks(), {"LD_BIND_NOW": "1"}
+        plain, others = (self.traced_to_file("--from", "main", *options, program, env=env)[0]
+                         for options in ((), ("--heap", "heap")))
+        main = trace_base.symbols_of(program)["main"]
+        end = max(at for at, line in enumerate(plain)
+                  if line[0] == "2" and trace_base.within(main, line[1]))
+        self.assertGreater(end, 30000)
+        local = next(line.split() for line in self.lines_of_heap() if line.split()[1] == "t")
+        local = [int(number, 16) for number in local[2:]]
+        moved = {(one[1] - other[1]) % 4096 if one[0] == other[0] else "another"
+                 for one, other in zip(plain[:end], others)
+                 if not trace_base.within(local, other[1])}
+        self.assertEqual(sorted(moved - {0, 16, 32, 48}, key=str)[:5], [])
+
+    def test_environment(self):
+        """It is what it would be without the library, and so is the stack's place in its page."""
+        program = program_of(self.write("shows.c", SHOWS))
+        for env, least in (({}, 0), ({"LD_PRELOAD": ""}, 1), ({"LD_PRELOAD": "libm.so.6"}, 1)):
+            shown = [self.traced_to_file(*options, program, env=env)[1]
+                     for options in ((), ("--heap", "heap"))]
+            self.assertEqual(*(sorted(text.splitlines()[least:]) for text in shown))
+
+
+@base.needs("g++", "gcc", "qemu-user", "binutils", "llvm")
+class Faults(HeapTest):
+    def test_programs_without_it(self):
+        own = program_of(TRACED / "own_malloc.c", "-g", "-fno-builtin")
+        machine = self.folder / "of_arm"
+        shutil.copy(own, machine)
+        with open(machine, "r+b") as file:
+            file.seek(18)
+            file.write(struct.pack("<H", 183))
+        static = program_of(TRACED / "ends.c", "-static")
+        for program, told in ((static, "is static"), (own, "malloc of its own"),
+                              (machine, "is for aarch64")):
+            self.fault(self.trace("--heap", "heap", program), 125, told)
+        hidden = program_of(TRACED / "own_malloc.c", "-g", "-fno-builtin", '-DVISIBILITY="hidden"')
+        self.run_traced(hidden)
+        self.assertNotIn(site(TRACED / "own_malloc.c", "own"), self.sites())
+
+    def test_files_that_can_not_be_written(self):
+        program = blocks()
+        self.fault(self.trace("--heap", "none/heap", program), 125, "none/heap can't be written")
+        self.fault(self.trace("--heap", "/dev/full", program), 125, "can't be written")
+        ran = self.trace("-o", "heap", "--heap", "heap", program)
+        self.assertEqual((ran.returncode, ran.stdout), (125, b""))
+        self.assertIn(b"are one file", ran.stderr)
+        copy = shutil.copy(program, self.folder / "copy")
+        ran = self.trace("--heap", copy, copy)
+        self.assertIn(b"--heap and the program are one file", ran.stderr)
+        ran = self.run_tool("trace", "--with", "lackey", "--heap", "heap", program)
+        self.assertEqual((ran.returncode, b"--heap is for QEMU" in ran.stderr), (125, True))
+
+    def test_files_that_are_not_whole(self):
+        self.run_traced(blocks())
+        lines = self.lines_of_heap()
+        read = ("heap.din", "--map", "heap.map", "--by", "site", "--heap", "cut", *CACHE)
+        for text, told in (
+            ("\n".join(lines[:-1]) + "\n", "cut has no end"),
+            ("\n".join(lines[:-1]), f"cut: line {len(lines) - 1} is none of `trace --heap`"),
+            ("\n".join([*lines, "0 end", ""]), f"cut: line {len(lines) + 1} is none"),
+            ("", "cut has no end"),
+            ("\n".join([*lines[:-1], "10 end", ""]), "and that of --heap had 16"),
+        ):
+            self.write("cut", text)
+            self.refused(self.run_tool("by-line", *read), 1, told)
+        told = "--heap and --by site go together"
+        self.refused(self.run_tool("by-line", *read[:5], *CACHE), 2, told)
+        self.refused(self.run_tool("by-line", *read[:6], "none", *CACHE), 1, "none: No such file")

@@ -1,0 +1,91 @@
+"""What `trace --heap` wrote of a program's heap: which site has what at each moment. A site is a
+place of the program that allocates, or memory of a kind. lib/trace/trace-heap-run.h has the form."""
+
+import array
+import re
+
+from lib import tool
+from lib.by_line import elf
+
+LINE = re.compile(rb"([0-9a-f]{1,16}) (?:end|([-+mstu]) ([0-9a-f]{1,12})((?: [0-9a-f]{1,16})*))\n")
+# by the letter of their lines; a block that is freed is the allocator's, as that of 'm'
+KINDS = {b"u": "(other)", b"m": "(malloc)", b"s": "(thread stacks)", b"t": "(thread-local)"}
+OTHER, MALLOC, TOP = 0, 1, 1 << 48
+# libraries, sources and functions that are no places of the program's own
+SYSTEM = re.compile("(/usr)?/lib")
+FOREIGN = re.compile(r"/(usr/(include|lib|src)|rustc)/|library/|"
+                     r".*/(include/c\+\+|rustlib|\.cargo)/")
+WRAPPER = re.compile(r"\w*(malloc|calloc|realloc|zalloc|memalign|strdup|memdup)\w*($|\()|"
+                     r"operator new|__(rust|rdl)_|<?(\w+ )?(std|__gnu_cxx|alloc|core)::")
+
+
+class Heap:
+    """The file: its events as by-line.c has them, and the callers of each site."""
+
+    def __init__(self, path):
+        self.events, self.callers, self.blocks, end = array.array("Q"), {}, {}, None
+        self.kinds = {kind: number for number, kind in enumerate(KINDS)}
+        with tool.faults_of(path), open(path, "rb") as lines:
+            for number, line in enumerate(lines, 1):
+                found = LINE.fullmatch(line)
+                if end is not None or not found:
+                    tool.fail(f"{path}: line {number} is none of `trace --heap`")
+                at, kind, address, rest = found.groups()
+                if kind is None:
+                    end = int(at, 16)
+                else:
+                    self.take(int(at, 16), kind, int(address, 16), *rest.split(None, 1))
+        if end is None:
+            tool.fail(f"{path} has no end: `trace --heap` has not, or not yet, written all of it")
+        self.events.extend((end, 0, 0, 0))
+
+    def take(self, at, kind, start, size=b"0", callers=b""):
+        end = min(start + int(size, 16), TOP)
+        if kind in b"+-" and start in self.blocks:
+            self.events.extend((at, start, self.blocks.pop(start), MALLOC))
+        if kind == b"+":
+            self.blocks[start] = end
+            site = len(KINDS) + self.callers.setdefault(callers, len(self.callers))
+            self.events.extend((at, start, end, site))
+        elif kind != b"-":
+            self.events.extend((at, start, end, self.kinds[kind]))
+
+    def sites(self, layout):
+        """The code of each site."""
+        # where a caller goes on may be in the next line
+        stacks = [[int(word, 16) - 1 for word in words.split()] for words in self.callers]
+        codes = functions(layout, {address for stack in stacks for address in stack})
+        own = layout.files[0].path if layout.files else None
+        return [*map(named, KINDS.values()),
+                *(site([code for at in stack for code in codes.get(at, ())], own)
+                  for stack in stacks)]
+
+
+def named(name):
+    """What has no line and is no function."""
+    return elf.Code(elf.Function(name, is_one=False), [elf.Line()])
+
+
+def functions(layout, addresses):
+    """Of each address the functions that have it, also those that are inlined there, the innermost
+    first, each with its line."""
+    found = {}
+    for file in layout.files:
+        own = {address for address in addresses if file.has(address)} - found.keys()
+        outer, lines = (file.code(own), file.lines_of(own)) if own else ({}, {})
+        for address, code in outer.items():
+            inlined = [elf.Code(elf.Function(name, file.path, line.file), [line])
+                       for name, line in reversed(lines[address][1:])]
+            found[address] = [*inlined, code._replace(lines=code.lines[:1])]
+    return found
+
+
+def site(codes, own):
+    """Of the functions that led to a block, the innermost one in the program's sources, and if none
+    is there, in the program."""
+    of_program = [code for code in codes
+                  if code.function.program == own or not SYSTEM.match(code.function.program)]
+    callers = [code for code in of_program if not WRAPPER.match(code.function.name)]
+    with_lines = [code for code in callers
+                  if code.lines[0].file and not FOREIGN.match(code.lines[0].file)]
+    return (with_lines or callers or of_program or codes or [named("?")])[0]
