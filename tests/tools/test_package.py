@@ -158,8 +158,8 @@ class Package(unittest.TestCase):
         self.assertIn("\nArchitecture: amd64\n", (PACKAGING / "debian/control").read_text())
         self.assertEqual(self.field("Version"), self.version)
         self.assertEqual(self.field("Maintainer"), "A Tester <tester@example.org>")
-        # 2.34 has the newest symbol that the program needs, __libc_start_main
-        self.assertIn("libc6 (>= 2.34)", self.field("Depends"))
+        # 2.35 has the newest symbol that is needed, by trace-heap.so: _dl_find_object
+        self.assertIn("libc6 (>= 2.35)", self.field("Depends"))
         recommended = "gnuplot-nox | gnuplot, llvm, python3, qemu-user, valgrind"
         self.assertEqual(self.field("Recommends"), recommended)
         self.assertIn("parallel", self.field("Suggests"))

@@ -1,5 +1,5 @@
 """What `trace --heap` wrote of a program's heap: which site has what at each moment. A site is a
-place of the program that allocates, or memory of a kind. lib/trace/trace-heap-run.h has the form."""
+place of the program that allocates, or memory of a kind."""
 
 import array
 import re
@@ -7,6 +7,7 @@ import re
 from lib import tool
 from lib.by_line import elf
 
+# trace-heap-run.h explains them
 LINE = re.compile(rb"([0-9a-f]{1,16}) (?:end|([-+mstu]) ([0-9a-f]{1,12})((?: [0-9a-f]{1,16})*))\n")
 # by the letter of their lines; a block that is freed is the allocator's, as that of 'm'
 KINDS = {b"u": "(other)", b"m": "(malloc)", b"s": "(thread stacks)", b"t": "(thread-local)"}
@@ -88,4 +89,4 @@ def site(codes, own):
     callers = [code for code in of_program if not WRAPPER.match(code.function.name)]
     with_lines = [code for code in callers
                   if code.lines[0].file and not FOREIGN.match(code.lines[0].file)]
-    return (with_lines or callers or of_program or codes or [named("?")])[0]
+    return (with_lines or callers or of_program or codes or [elf.Code(elf.Function("?"), [elf.Line()])])[0]

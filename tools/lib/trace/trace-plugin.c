@@ -1,12 +1,12 @@
 // A plugin of QEMU's user emulation: puts references into trace-run's memory (trace-memory.h).
 //
-//     qemu-x86_64 -plugin out/trace-plugin.so[,map=FILE][,from=HEX][,to=HEX][,during=HEX][,heap],memory=FD
-//         PROGRAM ARGS..
+//     qemu-x86_64 -plugin out/trace-plugin.so[,map=FILE][,from=HEX][,to=HEX][,during=HEX]
+//         [,heap=on],memory=FD PROGRAM ARGS..
 //
 // trace-run starts QEMU so, FD being the memory's descriptor; trace has the help. FILE gets what
-// was loaded where. HEX is how far a function is behind the start of the program's code. No
-// descriptor is kept: the program may close those that it doesn't know, and open its own files
-// under their numbers.
+// was loaded where. HEX is how far a function is behind the start of the program's code. With
+// heap=on it has trace-heap.so tell of the heap. No descriptor is kept: the program may close those
+// that it doesn't know, and open its own files under their numbers.
 #include <errno.h>
 #include <limits.h>
 #include <pthread.h>
