@@ -114,10 +114,11 @@ class Known(HeapTest):
     def test_by_hand(self):
         """From a line's number on, which is how many references stand before it."""
         self.write("heap.din", "2 400000\n" + "0 500000\n" * 3 + "1 50000f\n" + "0 600000\n" * 4)
-        self.write("heap", "2 + 500000 10 400010\n3 - 500000\n3 + 500000 8 400020\n"
-                           "6 m 600000 100\n7 s 5ff000 2000\n8 t 600000 8\n9 end\n")
+        self.write("heap", "2 + 500000 10 400010\n3 - 500000\n3 + 500008 8 400020\n"
+                           "3 + 500000 8 400020\n6 m 600000 100\n7 s 5ff000 2000\n8 t 600000 8\n"
+                           "9 end\n")
         self.write("heap.map", "400000-401000 r-xp 0 0:0 0 /none\n")
-        self.assertEqual(self.sites(), {"(other)": 2, "(?)": 2, "(malloc)": 2, "(thread stacks)": 1,
+        self.assertEqual(self.sites(), {"(other)": 2, "(?)": 3, "(malloc)": 1, "(thread stacks)": 1,
                                         "(thread-local)": 1})
 
     def test_sums(self):

@@ -16,7 +16,7 @@ static uint64_t local_size;                      // of threads' own data, at the
 static __thread uint64_t asked[4], frames[FRAMES], frame_count;
 static __thread bool is_inside;                  // the allocator
 
-// An event stands in one block. Where there are threads, what they do later is to stand behind it.
+// An event stands in one block.
 static void put_event(char kind, const uint64_t *words, size_t count) {
     if (mine && atomic_load(&mine->used) + count >= REFERENCES) hand_over();
     struct block *block = mine ? mine : next_block();
@@ -25,7 +25,6 @@ static void put_event(char kind, const uint64_t *words, size_t count) {
     block->label[at] = kind, block->address[at] = count;
     memcpy(block->address + at + 1, words, count * sizeof *words);
     atomic_store(&block->used, at + 1 + (uint32_t)count);
-    if (has_threads) hand_over();
 }
 
 static void put_range(char kind, uint64_t since, uint64_t address, uint64_t size) {
@@ -73,7 +72,7 @@ static void on_system_return(plugin_id id, unsigned cpu, int64_t number, int64_t
     if (number == SYS_brk) end = at;
 }
 
-// Before an atomic instruction, by which threads may hand each other blocks.
+// Before an atomic instruction, by which threads hand each other what is on the heap.
 static void on_atomic(unsigned cpu, void *own) {
     if (has_threads) hand_over();
 }
