@@ -89,4 +89,5 @@ def site(codes, own):
     callers = [code for code in of_program if not WRAPPER.match(code.function.name)]
     with_lines = [code for code in callers
                   if code.lines[0].file and not FOREIGN.match(code.lines[0].file)]
-    return (with_lines or callers or of_program or codes or [elf.Code(elf.Function("?"), [elf.Line()])])[0]
+    nothing = elf.Code(elf.Function("?"), [elf.Line()])
+    return (with_lines or callers or of_program or codes or [nothing])[0]

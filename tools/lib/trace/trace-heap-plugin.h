@@ -55,7 +55,6 @@ static bool take_call(unsigned cpu, int64_t number, uint64_t a, uint64_t b, uint
     if (number == HEAP_CALL) return on_heap_call(cpu + 1, a, b, c, d), true;
     memcpy(asked, (uint64_t[]){a, b, c, d}, sizeof asked);
     if (number == SYS_clone) has_threads = true;
-    if (number == SYS_munmap || number == SYS_mremap) put_range('u', 0, a, b);
     return false;
 }
 
