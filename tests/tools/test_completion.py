@@ -190,12 +190,12 @@ OF_DIN = "--seed " + " ".join(f"-{name} --{name}" for name in ONE_OR_TWO)
 OF_TOOLS = {
     "best": "-h --help --up-to --within --below --rows --front --measure --miss-cost",
     "trace": "-h --help -o --output --program-output --from --to --during --kind --skip --count "
-    "--with --libraries --any-version --map",
+    "--with --libraries --any-version --map --heap",
     "to-din": "-h --help",
     "din-table": f"-h --help {OF_DIN}",
     "over-time": f"-h --help --each --cache --format {OF_DIN}",
     "by-page": f"-h --help --page --cache --format {OF_DIN}",
-    "by-line": "-h --help --at --program --base --map --by --evicted-by --callgrind "
+    "by-line": "-h --help --at --program --base --map --by --heap --evicted-by --callgrind "
     f"{OF_DIN}",
     "second-level": f"-h --help --format {OF_DIN}",
     **dict.fromkeys(("three-c", "warm"), f"-h --help {OF_SWEEP}"),
