@@ -2,7 +2,6 @@
 
 import collections
 import csv
-import operator
 import shutil
 
 import base
@@ -158,7 +157,7 @@ class Processes(HeapTest):
             regions = [found.pop(name) for name in REGIONS]
             # at least of the malloc that has 1200 blocks, of 600 turns, and of what each has called
             least = (1000, 12000, 60000, 1200)
-            self.assertTrue(all(map(operator.ge, regions, least)), regions)
+            self.assertTrue(all(one >= other for one, other in zip(regions, least)), regions)
             self.assertEqual(sum(found.values()), self.counted_plainly())
 
     def test_fork(self):
@@ -182,8 +181,7 @@ class Processes(HeapTest):
 @base.needs("g++", "gcc", "qemu-user", "binutils", "llvm")
 class Disturbed(HeapTest):
     def test_references(self):
-        """In main all references are there, and no others, at the same places in their pages; but
-        the allocator's stack is up to 48 bytes lower, and thread-local data are elsewhere."""
+        """In main all are as without it, but for the allocator's stack and thread-local data."""
         program, env = blocks(), {"LD_BIND_NOW": "1"}
         plain, others = (self.traced_to_file("--from", "main", *options, program, env=env)[0]
                          for options in ((), ("--heap", "heap")))
