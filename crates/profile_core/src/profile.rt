@@ -47,8 +47,8 @@ impl Model for Profile {
 impl Profile {
     /// A profile of caches of `2^s` sets of 1 to `depth` lines of `2^b` bytes. It takes all its
     /// memory here: 8 bytes for each of `depth * 2^s` blocks, 4 and a quarter for each set, and 16
-    /// for each associativity and 8 more. With a depth of 256 or more it takes at most 21.6 bytes
-    /// for each block. Where memory is refused, nothing is kept.
+    /// for each associativity and 8 more. With a depth of 256 or more it is at most 21.6 bytes for
+    /// each block in place of the first two. Where memory is refused, nothing is kept.
     pub fn new(alloc: Global, b: u64, s: u64, depth: u64) -> Result<Profile, AllocError>
         requires { IsGeometry (geometry_value s depth b) }
         ensures { IfOk result (λ profile. profile ≡ empty (geometry_value s depth b)) }
@@ -57,11 +57,11 @@ impl Profile {
         Profile::with_lists(alloc, b, s, depth, lists)
     }
 
-    /// A profile as `new` makes it, to be fed in batches, as a sweep does. Memory for the third and
-    /// later blocks of a set is cleared only when the set gets its third block. With a depth of 12
-    /// to 16 and up to 4,096 sets it takes 184 and a quarter bytes in all for each set. With a
-    /// depth of 32 to 255 and more than 4,096 sets it takes 4 bytes more for each set than `new`,
-    /// and one row of blocks more. Fed one reference at a time, such a profile can take twice the
+    /// A profile as `new` makes it, to be fed in batches, as a sweep does. With a depth of 12 to 16
+    /// and up to 4,096 sets it takes 184 and a quarter bytes for each set. With a depth of 32 to
+    /// 255 and more than 4,096 sets it takes 4 bytes more for each set than `new`, and one row of
+    /// blocks more. In both, memory for the third and later blocks of a set is cleared only when
+    /// the set gets its third block. Fed one reference at a time, such a profile can take twice the
     /// time.
     pub fn new_sparse(alloc: Global, b: u64, s: u64, depth: u64) -> Result<Profile, AllocError>
         requires { IsGeometry (geometry_value s depth b) }
@@ -289,9 +289,9 @@ impl Profile {
     /// The number of comparisons counted. Each reference counts the comparisons of its block with
     /// the entries of its set's list in a walk up to the block, or over the whole list if the block
     /// isn't there. This is the cost of the stack algorithm, by which spaces can be compared. The
-    /// profile makes as many comparisons or fewer: for a reference that `count_fronts` counts, one
-    /// is counted and none is made; and with 12 to 16 ways and up to 4,096 sets, or with 256 ways
-    /// or more, most blocks are found without a walk.
+    /// profile makes as many comparisons or fewer, though no contract says so: for a reference that
+    /// `count_fronts` counts, one is counted and none is made; and with 12 to 16 ways and up to
+    /// 4,096 sets, or with 256 ways or more, most blocks are found without a walk.
     pub fn probes(&self) -> u64
         ensures value { result ≡ self.now.probes }
         ensures trace { (es : List Event) → ProfileStandsFor es self.now

@@ -22,20 +22,20 @@ pub type SweepFault = RunFault;
 /// file or a socket, adds a buffer: `ToWrite` over a `BufWriter`.
 ///
 /// Each pair of block size and set count that has a row costs one profile, as deep as the pair's
-/// greatest associativity in the space. A reference is fed to each of them as it is read, except
-/// to those that must have its block in front because another one has.
+/// greatest associativity in the space. References are fed to each of them in batches, except
+/// those that must find their block in front there because they do in another one.
 ///
 /// It returns the number of comparisons of a block with an entry of a recency list. The number
 /// depends only on the trace and the space: it counts as if each profile looked for each
 /// reference's block from the most recent entry on, which takes at most as many comparisons as the
 /// profile is deep. This is the cost of the stack algorithm, by which spaces can be compared. The
-/// sweep makes as many comparisons or fewer: one look that decides for several profiles counts as
-/// one comparison in each of them, and a profile of 256 ways or more finds most distances without a
-/// walk over the list.
+/// sweep makes as many comparisons or fewer, though no contract says so: one look that decides for
+/// several profiles counts as one comparison in each of them, and a profile of 256 ways or more
+/// finds most distances without a walk over the list.
 ///
 /// Errors: `Memory`, with nothing read or written; `Trace` if the trace has a fault or the
 /// source failed, with nothing written; `Write` if the sink failed, after the whole trace was
-/// read, with a part of the table written.
+/// read, with what it took written.
 pub fn sweep<S: Source, K: Sink>(
     alloc: Global,
     request: &Request,
