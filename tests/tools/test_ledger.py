@@ -24,7 +24,8 @@ class TheLedger(ToolTest):
         for name in ("crates", "tests/cases", "tests/mutants"):
             shutil.copytree(TOP / name, self.folder / name, ignore=ignored, dirs_exist_ok=True)
         for name in ("tests/ledger", "tests/common.py", "tests/documents.py", "docs/proofs.md",
-                     "docs/cookbook.md", "docs/speed.md", "README.md", "HANDLES", ".ci/run"):
+                     "docs/cookbook.md", "docs/PERF.md", "docs/speed.md", "README.md", "HANDLES",
+                     ".ci/run"):
             (self.folder / name).parent.mkdir(exist_ok=True)
             shutil.copy(TOP / name, self.folder / name)
         self.assertEqual(self.run_command(self.folder / "tests/ledger", "--write").returncode, 0)
@@ -80,6 +81,9 @@ class TheLedger(ToolTest):
         self.fails_after(TASK, r"IfSome, OnOk\}", some, "FAILED trace_core.Task: IfSome")
         self.fails_after("sweep_core/specs/Space.antt", "nat_lt, nat_le,",
                          "nat_le as nat_lt, nat_le,", "Space: nat_le as nat_lt of ")
+        self.fails_after("callers/proofs/readers/all_entries/Invariants.antt", "^",
+                         "use Rattle.trace_core.proofs.Runs.{a_lemma}\n",
+                         "FAILED callers.readers.all_entries.Invariants: a_lemma of ")
         work = r"(    ensures work \{.*?\}\n)\{"
         self.fails_after("sweep_core/src/sweep.rt", work, r"    /*\n\1    */\n{",
                          "FAILED sweep.work: there is no such clause")
@@ -125,11 +129,14 @@ class TheLedger(ToolTest):
             ("HANDLES", "none", "Threads"), (".ci/run", "exec make .*", "exec tests/run"),
             ("tests/documents.py", "if matches", "if True or matches"),
             ("README.md", "exactly one row", "one row"), ("docs/speed.md", "ways", "way"),
+            ("docs/PERF.md", "1.63", "1.64"),
             ("crates/cache_core/CALLING.md", "16 lines", "15 lines"),
         ):
             self.fails_after(f"../{file}", old, new, f"FAILED {file}: new")
         self.fails_after("cache_core/src/geometry.rt", "/// ", "/// Not ",
                          "FAILED crates/cache_core/src: new")
+        self.fails_after("cache_core/specs/Geometry.antt", "-- the size in", "-- no size in",
+                         "FAILED crates/cache_core/specs: new")
         rows = f"FAILED crates/{ROWS}: new or changed"
         self.fails_after(ROWS, r"nine_held : .*?refl\n", "", rows)
         held = r"(nine_held : .*?) ∷ 5 ∷ \[\]\) ≡ 1 ∷ 3 ∷ 4"
