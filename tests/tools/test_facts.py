@@ -28,7 +28,8 @@ def flat(name):
 def constant(crate, source, name):
     """The value of a constant of the code."""
     text = (base.TOP / "crates" / crate / "src" / source).read_text()
-    return int(re.search(rf"^(?:pub )?const {name}: \w+ = (\d[\d_]*);$", text, re.M)[1])
+    sign = rf"^(?:pub(?:\(crate\))? )?const {name}: \w+ = (\d[\d_]*);$"
+    return int(re.search(sign, text, re.M)[1])
 
 
 class Manual(base.ToolTest):
@@ -195,6 +196,29 @@ class Ledger(unittest.TestCase):
             most = times * constant("trace_core", "limits.rt", "MAX_LINES")
             self.assertEqual(most & (most - 1), 0)
             self.assertIn(what.format(f"2^{most.bit_length() - 1}"), text)
+
+
+class Thresholds(unittest.TestCase):
+    def test_both_sides_of_each(self):
+        """Random cases stand on both sides of each size at which the code works in another way."""
+        places = set(importlib.import_module("thresholds").PLACES)
+        for crate, source, name, command, what, sides in (
+            ("profile_core", "kept_lists.rt", "SLOTTED_FROM", "sweep", "ways", (-1, 0)),
+            ("profile_core", "kept_lists.rt", "SLOTTED_TO", "sweep", "ways", (0, 1)),
+            ("profile_core", "kept_lists.rt", "MANY_WAYS", "sweep", "ways", (-1, 0)),
+            ("profile_core", "kept_lists.rt", "MANY_WAYS", "sweep", "ways of 8,192 sets", (-1, 0)),
+            ("profile_core", "kept_lists.rt", "MANY_SETS", "sweep", "sets", (0, 4096)),
+            ("profile_core", "long_lists.rt", "ROW", "sweep", "ways", (-1, 0)),
+            ("profile_core", "long_lists.rt", "DEEP", "sweep", "ways", (-1, 0)),
+            ("sweep_core", "batch.rt", "BATCH", "sweep", "references", (-1, 0, 1)),
+            ("cache_core", "lru_sets.rt", "NEAR_WAYS", "csim", "ways", (0, 1)),
+            ("cache_core", "lru_sets.rt", "SEARCHED_WAYS", "csim", "ways", (0, 1)),
+            ("cache_core", "fingerprints.rt", "NEAR", "din", "ways", (0, 1)),
+            ("cache_core", "fingerprinted.rt", "FINGERPRINTED_WAYS", "din", "ways", (-1, 0)),
+            ("cache_core", "fingerprinted.rt", "FINGERPRINTED_WAYS", "log", "ways", (-1, 0)),
+        ):
+            size = constant(crate, source, name)
+            self.assertLessEqual({(command, what, size + side) for side in sides}, places, name)
 
 
 class Others(base.ToolTest):
