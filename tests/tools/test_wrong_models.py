@@ -44,6 +44,31 @@ MISTAKES = {
         "    machines = {}\n    for name, cache in caches.items():\n"
         '        if "l2-u" in caches and caches["l2-u"]["bsize"] < cache["bsize"]:\n'
         '            raise Fault("l2-u: block size smaller than in the first level", 2)\n'),
+    "smaller blocks below are looked for in one first-level cache alone": (
+        "din", "< max(bsizes)", "< bsizes[-2]"),
+    "all caches have one generator": (
+        "log", 'words=random_words(job["seed"])) for name',
+        'words=one) for one in [random_words(job["seed"])] for name'),
+    "the random words begin anew after a flush": (
+        "din", "        self.held = {}\n",
+        "        self.held, self.words = {}, random_words(42)\n"),
+    "a write hit is no use without allocation": (
+        "log", 'if self.repl == "l":',
+        'if self.repl == "l" and (ref.access != "write" or self.walloc == "a"):'),
+    "a write hit is no use with write-through": (
+        "log", 'if self.repl == "l":',
+        'if self.repl == "l" and (ref.access != "write" or self.wback == "a"):'),
+    "a write hit is a use under FIFO": (
+        "log", 'if self.repl == "l":',
+        'if self.repl == "l" or self.repl == "f" and ref.access == "write":'),
+    "a flush is no data": (
+        "sweep-tables", "            events.append(FLUSH)\n",
+        '            events += [FLUSH] * (kind != "d")\n'),
+    "a number has at most 20 digits": (
+        "sweep-words", 'if re.fullmatch("[0-9]+", text)', 'if re.fullmatch("[0-9]{1,20}", text)'),
+    "the ends of a range differ": (
+        "sweep-words", "if None not in ends and len(ends) in (1, 2):",
+        "if None not in ends and len(set(ends)) == len(ends) < 3:"),
     "-informat= is respelled": ("din", 'or word == "-informat"', 'or word.startswith("-informat")'),
     "two prefixes are passed": (
         "lines-din", "(?:0[xX])?([0-9a-fA-F]{1,16})", "(?:0[xX]){0,2}([0-9a-fA-F]{1,16})"),
