@@ -4,7 +4,7 @@ import re
 import shutil
 import sys
 
-from base import PROGRAM, TOP, ToolTest
+from base import PROGRAM, TOP, ToolTest, script
 
 EMPTY = "$ cachesim sweep --bsize 16 --sets 1 --assoc 1 --size 16\n"
 HEADER, ROW = "> bsize,sets,assoc,size,hits,misses,evictions\n", "> 16,1,1,16,0,0,0\n"
@@ -21,6 +21,19 @@ FAIL = {
     "no-command": "> x\n", "no-such-mark": EMPTY + "% x\n",
     "text-for-a-folder": EMPTY + HEADER + ROW + "@ folder/\n< x\n",
 }
+
+
+class InPart(ToolTest):
+    # long outputs, and a message that ends in a blank
+    KNOWN = {"blocks-verbose", "log-of-sort", "trace-without-a-name"}
+
+    def test_what_is_compared_in_part(self):
+        """Texts of the library that reads the arguments alone: a case has all that is written."""
+        run, cases = script("run"), TOP / "tests/cases"
+        found = {case.name for case, _ in run.read_all(cases, cases / "inputs")
+                 if any(it.begins or it.has for it in case.streams.values())
+                 and not case.is_beyond_the_model}
+        self.assertEqual(found, self.KNOWN)
 
 
 class Missing(ToolTest):

@@ -1,6 +1,7 @@
 """No worked row compares a thing with itself, is always true, or asks for a bound: it passes
-whatever the definition or the code says."""
+whatever the definition or the code says. Nor does a test of a tool."""
 
+import ast
 import re
 import unittest
 
@@ -46,6 +47,15 @@ def loose(text):
     return [condition.strip() for condition in LOOSE.findall(text)]
 
 
+def in_tests(text):
+    """The lines of a module of tests that compare a thing with itself, or ask for a constant."""
+    for call in ast.walk(ast.parse(text)):
+        if isinstance(call, ast.Call) and ast.unparse(call.func).startswith("self.assert"):
+            first, *others = map(ast.dump, call.args)
+            if first in others[:1] or isinstance(call.args[0], ast.Constant) and not others:
+                yield ast.unparse(call)
+
+
 class WorkedRows(unittest.TestCase):
     def test_of_definitions(self):
         files = [path for path in base.TOP.glob("crates/*/proofs/*.antt")
@@ -60,6 +70,15 @@ class WorkedRows(unittest.TestCase):
         for path in files:
             self.assertEqual(in_code(path.read_text()), [], path)
             self.assertEqual(loose(path.read_text()), [], path)
+
+    def test_of_tools(self):
+        files = list((base.TOP / "tests/tools").glob("*.py"))
+        self.assertGreater(len(files), 50)
+        for path in files:
+            self.assertEqual([*in_tests(path.read_text())], [], path)
+        wrong = ["self.assertEqual(a.b(2), a.b(2))", "self.assertTrue(True)", "self.assertIn(a, a)"]
+        right = "self.assertEqual(a.b(2), a.b(3))\nself.assertTrue(a)\nassertEqual(a, a)\n"
+        self.assertEqual([*in_tests(right + "\n".join(wrong))], wrong)
 
     def test_what_is_found(self):
         rows = ("good : (f 7 ≡ Some 7) × (f 8 ≡ None)\ngood = (refl, refl)\n"
