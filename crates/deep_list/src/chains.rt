@@ -10,7 +10,7 @@ use crate::slots::{Slots, Span};
 use std::alloc::{AllocError, Global};
 use std::marker::Model;
 
-/// How many slots of a chain are looked at. A chain is longer than that only if its blocks were
+/// How many slots of a chain are looked at. A chain is hardly ever longer, unless its blocks were
 /// chosen for it. Then the slots are searched in order, which is faster.
 const LONGEST: usize = 32;
 

@@ -226,7 +226,7 @@ fn put(slots: &mut Slots, place: usize, number: u64)
 /// A byte by which most numbers differ. Two bytes of the product are mixed: with one alone, sixteen
 /// numbers at a stride of 4,181 have few different marks. For each stride below 2^20, sixteen
 /// numbers were tried, from four first numbers each. At 4,181 all sixteen marks differ, at powers
-/// of two 14 or more, and at one stride in 200 fewer than 10. At a few strides all marks are the
+/// of two 14 or more, and in one trial of 250 fewer than 10. At a few strides all marks are the
 /// same; the least of these is 42,181.
 #[inline(always)]
 fn mark_of(number: u64) -> u8
