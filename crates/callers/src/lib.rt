@@ -1,6 +1,6 @@
 //! Short callers of the libraries, each proved from the contracts and laws alone: what a caller
-//! gets to know, and how it says so. Each library's page `CALLING.md` prints one, and names the
-//! others.
+//! gets to know, and how it says so. The pages `CALLING.md` of six libraries print one each, and
+//! name the others.
 #![tactic(auto)]
 
 pub mod doubling;
