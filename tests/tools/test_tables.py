@@ -195,6 +195,13 @@ class Speed(base.ToolTest):
         told = "takes {typical} of the time in the typical space, {large} in the large"
         self.assertIn(told.format(**plain), flat("docs/PERF.md"))
 
+    def test_gains(self):
+        """What PERF.md tells of a workload's gain is that of its times, by medians of each."""
+        rows = table((base.TOP / "docs/PERF.md").read_text(), "Workload")
+        self.assertEqual(len(rows), 6)
+        for name, before, now, gain in rows:
+            self.assertAlmostEqual(float(before) / float(now), float(gain), delta=0.03, msg=name)
+
 
 class Examples(unittest.TestCase):
     def test_what_they_hold(self):
