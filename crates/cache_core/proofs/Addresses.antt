@@ -7,7 +7,7 @@ use Rattle.std.proofs.lemmas.List.Sorted.{All-permutation}
 use Rattle.cache_core.specs.declared.outcome.Slot.{Slot}
 use Rattle.cache_core.specs.declared.design.Repl.{Repl}
 use Rattle.cache_core.specs.Order.{Touches, TakesIn, with_dirty_at}
-use Rattle.cache_core.specs.Slab.{Addressable}
+use Rattle.cache_core.specs.internal.Slab.{Addressable}
 use Rattle.cache_core.proofs.Lawful.{lawful_touch, lawful_place}
 
 -- the address of a slot's block fits

@@ -16,7 +16,7 @@ use Rattle.cache_core.specs.Outcomes.{is_allocated}
 use Rattle.cache_core.specs.Order.{Visits, VisitsAt, Hits, Fills, PassesOn, TakesIn, with_dirty_at}
 use Rattle.cache_core.specs.Order.{position_of, dirty_in, is_dirty, dirty_slots}
 use Rattle.cache_core.specs.internal.Order.{DirtiesByWrites}
-use Rattle.cache_core.specs.Slab.{IsCacheSlab, sets_of}
+use Rattle.cache_core.specs.internal.Slab.{IsCacheSlab, sets_of}
 use Rattle.cache_core.proofs.Slabs.{segment_slots, with_segment, IsWritten, set_read, sets_written}
 use Rattle.cache_core.proofs.Slabs.{length-sets_of}
 use Rattle.cache_core.proofs.Lawful.{marked_length, lawful_touch, lawful_insert, lawful_exchange}

@@ -14,15 +14,12 @@ use Rattle.cache_core.specs.declared.outcome.Outcome.{Outcome}
 use Rattle.cache_core.specs.declared.design.Design.{Design}
 use Rattle.cache_core.specs.declared.design.Repl.{Repl}
 use Rattle.cache_core.specs.Geometry.{block_of, set_of}
-use Rattle.cache_core.specs.Outcomes.{outcome_of, on_hit, is_dirtied}
-use Rattle.cache_core.specs.Outcomes.{two_options, through_writes}
+use Rattle.cache_core.specs.Outcomes.{outcome_of, on_hit, is_dirtied, two_options, through_writes}
 use Rattle.cache_core.specs.Order.{Moves, Touches, Hits, Visits, VisitsAt, Accesses, with_dirty_at}
 use Rattle.cache_core.specs.Order.{position_of}
-use Rattle.cache_core.specs.internal.Order.{DirtiesByWrites}
-use Rattle.cache_core.specs.internal.Order.{holds_first, hits_in_front}
+use Rattle.cache_core.specs.internal.Order.{DirtiesByWrites, holds_first, hits_in_front}
 use Rattle.cache_core.specs.Rules.{Place, InFront, InPlace, rules}
-use Rattle.cache_core.specs.Slab.{IsCacheSlab, Addressable, sets_of}
-use Rattle.cache_core.specs.internal.Slab.{slab_contents}
+use Rattle.cache_core.specs.internal.Slab.{IsCacheSlab, Addressable, sets_of, slab_contents}
 use Rattle.cache_core.proofs.Addresses.{marked_fits}
 use Rattle.cache_core.proofs.DirtyLaw.{slab_dirty}
 use Rattle.cache_core.proofs.Lawful.{marked_length}

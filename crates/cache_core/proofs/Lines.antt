@@ -10,10 +10,10 @@ use Rattle.cache_core.specs.Geometry.{GeometryValue, set_of_block}
 use Rattle.cache_core.proofs.Lists.{cases, filter_comm, find-filter}
 use Rattle.cache_core.specs.declared.design.Repl.{Repl}
 use Rattle.cache_core.specs.Machine.{Line, is_block, lines_of_set, lines_without, exchange}
-use Rattle.cache_core.specs.Machine.{least_line}
-use Rattle.cache_core.specs.Machine.{with_line_at, key_at}
+use Rattle.cache_core.specs.Machine.{least_line, with_line_at, key_at}
 use Rattle.cache_core.specs.Rules.{Place, InFront, InPlace, rules}
-use Rattle.cache_core.specs.Stands.{Falls, CountsUp, InOrder, Absent, Distinct}
+use Rattle.cache_core.specs.Stands.{Absent, Distinct}
+use Rattle.cache_core.specs.internal.Stands.{Falls, CountsUp, InOrder}
 
 pub ne-eqb : (a b : ℕ) → a ≢ b → eqb a b ≡ false
 ne-eqb a b h = ⊎_elim (λ t. absurd (h t.1)) (λ f. f.0) (eqb_tells a b)

@@ -21,10 +21,12 @@ use Rattle.cache_core.specs.declared.replacement.Lru.{Lru as LruPolicy}
 use Rattle.cache_core.specs.declared.simulation.Lookup.TheVariants.{Hit, Miss, MissEviction}
 use Rattle.cache_core.specs.internal.DeepSets.{DeepSetsValue, no_blocks}
 use Rattle.cache_core.specs.Geometry.{GeometryValue, block_of, set_of_block}
-use Rattle.cache_core.specs.LruLaws.{lru_machine, lru_contents, occurrence_after}
+use Rattle.cache_core.specs.LruLaws.{lru_machine, occurrence_after}
+use Rattle.cache_core.specs.internal.LruSets.{lru_contents}
 use Rattle.cache_core.specs.internal.LruSets.{near_ways, near_geometry, IsBehind, LruSetsStandFor}
 use Rattle.cache_core.specs.Machine.{run, step}
-use Rattle.cache_core.specs.Outcomes.{outcome_of, hit_in_front}
+use Rattle.cache_core.specs.Outcomes.{outcome_of}
+use Rattle.cache_core.specs.internal.Order.{hit_in_front}
 use Rattle.cache_core.specs.Order.{Accesses, FlushesCache, Visits, VisitsAt, position_of}
 use Rattle.cache_core.specs.Simulation.{lookup_at}
 use Rattle.cache_core.specs.Slab.{CacheValue}

@@ -20,7 +20,8 @@ use Rattle.cache_core.specs.declared.simulation.Lookup.TheVariants.{MissEviction
 use Rattle.cache_core.specs.internal.DeepSets.{DeepSetsValue, sets_after_touch, deep_lookup}
 use Rattle.deep_list.specs.Deep.{has_block}
 use Rattle.cache_core.specs.Geometry.{GeometryValue, block_of, set_of, set_of_block}
-use Rattle.cache_core.specs.LruLaws.{lru_machine, lru_contents, occurrence_after}
+use Rattle.cache_core.specs.LruLaws.{lru_machine, occurrence_after}
+use Rattle.cache_core.specs.internal.LruSets.{lru_contents}
 use Rattle.cache_core.specs.internal.LruSets.{near_geometry, IsBehind, LruSetsStandFor, far_lookup}
 use Rattle.cache_core.specs.internal.LruSets.{far_after_push}
 use Rattle.cache_core.specs.Machine.{run, lines_of_set}

@@ -13,8 +13,8 @@ use Rattle.cache_core.specs.Machine.{with_touch, with_block, key_at}
 use Rattle.cache_core.specs.Order.{Moves, Touches, Inserts, Exchanges, with_slot_at, victim_at}
 use Rattle.cache_core.specs.Order.{with_dirty_at, position_of}
 use Rattle.cache_core.specs.Rules.{Place, InFront, InPlace, Last, rules}
-use Rattle.cache_core.specs.Stands.{Falls, InOrder, Absent}
-use Rattle.cache_core.specs.internal.Stands.{IsGood}
+use Rattle.cache_core.specs.Stands.{Absent}
+use Rattle.cache_core.specs.internal.Stands.{Falls, InOrder, IsGood}
 use Rattle.cache_core.proofs.Lawful.{remove_split}
 use Rattle.cache_core.proofs.Lines.{ne-eqb, Found, found, absent_round, distinct_back}
 use Rattle.cache_core.proofs.Lines.{distinct_front, distinct_without, least_last, find_way, around}

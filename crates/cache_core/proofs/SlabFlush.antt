@@ -10,7 +10,7 @@ use Rattle.std.proofs.lemmas.List.Folds.{sum_by-replicate}
 use Rattle.std.proofs.lemmas.List.Sums.{sum_by-set, sum_by-cons, count_by-le-length}
 use Rattle.cache_core.specs.declared.outcome.Slot.{Slot}
 use Rattle.cache_core.specs.Order.{dirty_slots}
-use Rattle.cache_core.specs.Slab.{sets_of}
+use Rattle.cache_core.specs.internal.Slab.{sets_of}
 use Rattle.cache_core.specs.internal.Touched.{ListsFilled}
 use Rattle.cache_core.proofs.Slabs.{length-sets_of, get_or-sets_of, sets_of-empty}
 use Rattle.cache_core.proofs.TouchedSets.{no_count, next_listed, emptied}

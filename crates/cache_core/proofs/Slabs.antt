@@ -16,8 +16,7 @@ use Rattle.cache_core.specs.declared.outcome.Outcome.{Outcome}
 use Rattle.cache_core.specs.declared.design.Repl.{Repl}
 use Rattle.cache_core.specs.Geometry.{set_of, IsGeometry}
 use Rattle.cache_core.specs.Order.{Visits, Accesses}
-use Rattle.cache_core.specs.Slab.{sets_of, IsCacheSlab, Addressable}
-use Rattle.cache_core.specs.internal.Slab.{slab_contents}
+use Rattle.cache_core.specs.internal.Slab.{sets_of, IsCacheSlab, Addressable, slab_contents}
 
 pub length-sets_of : (ways : ℕ) (filled : List ℕ) (slots : List Slot) →
     length (sets_of ways slots filled) ≡ length filled

@@ -1,7 +1,7 @@
--- A new system, a step, a flush and a run of a system, as its caches see them and as their machines
--- see them.
+-- A new system, a step and a flush of a system, as its caches see them and as their machines see
+-- them.
 use Rattle.std.proofs.Common.{◌≡◌, ℕ, ◌+◌, not, Bool, List, [], ◌∷◌, ◌++◌, Option, Some, None, sym}
-use Rattle.std.proofs.Common.{◌∙◌, ap, subst, arith, length, length-append, refl}
+use Rattle.std.proofs.Common.{◌∙◌, ap, subst, arith, length, length-append}
 use Rattle.std.specs.Prelude.{sum, count_by, is_none, MatchOption}
 use Rattle.std.proofs.lemmas.List.Sums.{sum_by_push}
 use Rattle.trace_core.specs.declared.events.Ref.{Ref}
@@ -17,18 +17,15 @@ use Rattle.cache_core.specs.internal.CacheSteps.{system_cache_contents, Empties}
 use Rattle.cache_core.specs.Systems.{machine_of, events_for, first_level_references, lower_events}
 use Rattle.cache_core.specs.Systems.{flush_counts, flush_copybacks, is_taken}
 use Rattle.cache_core.specs.internal.SystemSteps.{SystemValue, present_refs, AccessesFirstLevel}
-use Rattle.cache_core.specs.internal.SystemSteps.{AllDescend, StepsSystem, FlushesSystem}
-use Rattle.cache_core.specs.internal.SystemSteps.{EmptiesCache, IsNewSystemCache, IsNewCache}
-use Rattle.cache_core.specs.internal.SystemSteps.{IsNewSystem, nothing_down}
-use Rattle.cache_core.specs.internal.SystemStands.{SystemStandsFor, NewSystemLaw, StepLaw}
-use Rattle.cache_core.specs.internal.SystemStands.{SystemFlushLaw}
+use Rattle.cache_core.specs.internal.SystemSteps.{AllDescend, EmptiesCache, IsNewSystemCache}
+use Rattle.cache_core.specs.internal.SystemSteps.{IsNewCache}
+use Rattle.cache_core.specs.internal.SystemStands.{SystemStandsFor}
 use Rattle.cache_core.proofs.RunLaw.{start_law, flush_run}
 use Rattle.cache_core.proofs.Pushes.{count_by_push}
 use Rattle.cache_core.proofs.SystemPushes.{counts_flush, flush_counts_flush, flush_counts_taken}
 use Rattle.cache_core.proofs.SystemPushes.{flush_counts_refs, events_flush, references_push}
 use Rattle.cache_core.proofs.SystemPushes.{references_flush, lower_events_push, lower_events_flush}
-use Rattle.cache_core.proofs.SystemPushes.{with_refs}
-use Rattle.cache_core.proofs.SystemPushes.{memory_flush}
+use Rattle.cache_core.proofs.SystemPushes.{with_refs, memory_flush}
 use Rattle.cache_core.proofs.FirstLevelLaw.{Kept, KeptIfPlanned, with_counts, stands_of, down_list}
 use Rattle.cache_core.proofs.FirstLevelLaw.{FirstKept, first_keeps}
 use Rattle.cache_core.proofs.LowerLaw.{Lower, lower_after}
@@ -74,12 +71,13 @@ new_cache seed (Some planned) cache n =
     new.policy new.random_numbers new.empty in
     (n.0, n.1, record { stands = stands; counts = new.counts })
 
-kept_new : (plan : PlannedCaches) (seed : ℕ) (v : SystemValue) → IsNewSystem plan seed v →
-    SystemKept plan seed [] v
-kept_new plan seed v n = grind (arith, new_cache)
-
-pub new_law : NewSystemLaw
-new_law plan seed v n = stands_kept plan seed [] v (kept_new plan seed v n) n.steps
+pub new_law : (plan : PlannedCaches) (seed : ℕ) (v : SystemValue) →
+    IsNewCache seed plan.i v.i → IsNewCache seed plan.d v.d → IsNewCache seed plan.u v.u →
+    IsNewCache seed plan.second v.second → v.memory ≡ record { reads = 0; writes = 0 } →
+    v.bypassed ≡ 0 → v.steps ≡ 0 → SystemStandsFor plan seed [] v
+new_law plan seed v i d u second memory bypassed steps =
+    let kept : SystemKept plan seed [] v = grind (arith, new_cache) in
+    stands_kept plan seed [] v kept steps
 
 -- a step
 module _ (plan : PlannedCaches) (seed : ℕ) (events : List Event) (ref : Ref) where
@@ -123,51 +121,37 @@ module _ (plan : PlannedCaches) (seed : ℕ) (events : List Event) (ref : Ref) w
       sym (lower_events_push plan seed events ref) in
       grind (arith, flushed_step)
 
-  kept_step : (old new : SystemValue) → IsPlan plan → SystemKept plan seed events old →
-      StepsSystem old ref new → SystemKept plan seed more new
-  kept_step old new p k t =
-      let f : FirstKept seed plan.i plan.d plan.u events ref t.down new.i new.d new.u =
-      first_keeps seed events ref t.down old.i old.d old.u new.i new.d new.u plan.i plan.d plan.u
-      p.i p.d p.u p.apart k.i k.d k.u t.first in
-      record {
-        i = f.i_kept;
-        d = f.d_kept;
-        u = f.u_kept;
-        lower = lower_step old new t.down p k f.all_sent t.lower;
-        bypassed = bypassed_step old.bypassed new.bypassed (is_none t.down) t.bypassed
-            f.untaken k.bypassed;
-      }
-
--- what a step sends down from the first level, and whether a cache of it takes the reference
-pub step_sends : (plan : PlannedCaches) (seed : ℕ) (events : List Event) (old : SystemValue)
+-- the first level after a reference
+pub first_after : (plan : PlannedCaches) (seed : ℕ) (events : List Event) (old : SystemValue)
     (ref : Ref) (down : Option (List (Option Ref)))
     (i d u : Option SystemCache) → IsPlan plan → SystemStandsFor plan seed events old →
     AccessesFirstLevel old.i old.d old.u ref down i d u →
-    (down_list down ≡ first_level_references plan seed events ref) ×
-    (is_none down ≡ is_untaken plan ref)
-step_sends plan seed events old ref down i d u p s f =
+    FirstKept seed plan.i plan.d plan.u events ref down i d u
+first_after plan seed events old ref down i d u p s f =
     let k = kept_of plan seed events old s in
-    let kept = first_keeps seed events ref down old.i old.d old.u i d u plan.i plan.d plan.u p.i p.d
-    p.u p.apart k.i k.d k.u f in
-    (kept.all_sent, kept.untaken)
+    first_keeps seed events ref down old.i old.d old.u i d u plan.i plan.d plan.u p.i p.d p.u
+    p.apart k.i k.d k.u f
 
-pub step_law : StepLaw
-step_law plan seed events old ref new p s t =
-    stands_kept plan seed (events ++ event.Reference ref ∷ []) new
-    (kept_step plan seed events ref old new p (kept_of plan seed events old s) t)
-    (omega (arith, t.steps, s.steps, length-append events (event.Reference ref ∷ [])))
-
--- the step of a reference that finds its block in front, which sends nothing down
-pub step_in_front : (old : SystemValue) (ref : Ref) (i d u : Option SystemCache) →
-    AccessesFirstLevel old.i old.d old.u ref (Some nothing_down) i d u →
-    StepsSystem old ref (record old { i = i; d = d; u = u; steps = old.steps + 1 })
-step_in_front old ref i d u first = record {
-  down = Some nothing_down;
-  first = first;
-  lower = (refl, refl);
-  bypassed = omega arith;
-  steps = refl;
-}
+pub step_law : (plan : PlannedCaches) (seed : ℕ) (events : List Event) (old : SystemValue)
+    (ref : Ref) (new : SystemValue) (down : Option (List (Option Ref))) →
+    IsPlan plan → SystemStandsFor plan seed events old →
+    AccessesFirstLevel old.i old.d old.u ref down new.i new.d new.u →
+    MatchOption down ((new.second ≡ old.second) × (new.memory ≡ old.memory))
+    (λ refs. AllDescend (present_refs refs) old.second old.memory new.second new.memory) →
+    new.bypassed ≡ old.bypassed + one_if (is_none down) → new.steps ≡ old.steps + 1 →
+    SystemStandsFor plan seed (events ++ event.Reference ref ∷ []) new
+step_law plan seed events old ref new down p s first lower bypassed steps =
+    let k = kept_of plan seed events old s in
+    let f = first_after plan seed events old ref down new.i new.d new.u p s first in
+    stands_kept plan seed (events ++ event.Reference ref ∷ []) new (record {
+      i = f.i_kept;
+      d = f.d_kept;
+      u = f.u_kept;
+      lower = lower_step plan seed events ref old new down p k f.all_sent lower;
+      bypassed = bypassed_step plan seed events ref old.bypassed new.bypassed (is_none down)
+          bypassed f.untaken k.bypassed;
+    })
+    (omega (arith, steps, s.steps, length-append events (event.Reference ref ∷ [])))
 
 -- a flush
 record Emptied (m : Machine) (events : List Event) (dirty : ℕ) (new : SystemCache) : Type 0 where
@@ -209,28 +193,30 @@ emptied_if_planned seed (Some planned) events after cache dirty new is k e =
           ∙ ap (λ n. flush_copybacks seed (Some planned) events + n) (sym r.found);
     }
 
-module _ (plan : PlannedCaches) (seed : ℕ) (events : List Event) where
-  kept_flush : (old new : SystemValue) → SystemKept plan seed events old → FlushesSystem old new →
-      SystemKept plan seed (events ++ event.Flush ∷ []) new
-  kept_flush old new k t =
-      let lower = lower_events plan seed events in
-      grind (
-        arith,
-        emptied_if_planned seed plan.i (events_for L1I events) _ old.i t.dirty_i new.i
-            (events_flush L1I events) k.i t.i,
-        emptied_if_planned seed plan.d (events_for L1D events) _ old.d t.dirty_d new.d
-            (events_flush L1D events) k.d t.d,
-        emptied_if_planned seed plan.u (events_for L1U events) _ old.u t.dirty_u new.u
-            (events_flush L1U events) k.u t.u,
-        emptied_if_planned seed plan.second lower _ old.second t.dirty_second new.second
-            (lower_events_flush plan seed events) k.lower.kept t.second,
-        lower_events_flush,
-        memory_flush,
-        references_flush,
-      )
-
-pub system_flush_law : SystemFlushLaw
-system_flush_law plan seed events old new s t =
-    stands_kept plan seed (events ++ event.Flush ∷ []) new (kept_flush plan seed events old new
-    (kept_of plan seed events old s) t)
-    (omega (arith, t.steps, s.steps, length-append events (event.Flush ∷ [])))
+pub system_flush_law : (plan : PlannedCaches) (seed : ℕ) (events : List Event)
+    (old new : SystemValue) (i d u second : ℕ) → SystemStandsFor plan seed events old →
+    EmptiesCache old.i i new.i → EmptiesCache old.d d new.d → EmptiesCache old.u u new.u →
+    EmptiesCache old.second second new.second →
+    new.memory ≡ record old.memory { writes = old.memory.writes + (i + d + u + second) } →
+    new.bypassed ≡ old.bypassed → new.steps ≡ old.steps + 1 →
+    SystemStandsFor plan seed (events ++ event.Flush ∷ []) new
+system_flush_law plan seed events old new i d u second s of_i of_d of_u of_second memory
+    bypassed steps =
+    let k = kept_of plan seed events old s in
+    let lower = lower_events plan seed events in
+    let kept : SystemKept plan seed (events ++ event.Flush ∷ []) new = grind (
+      arith,
+      emptied_if_planned seed plan.i (events_for L1I events) _ old.i i new.i
+          (events_flush L1I events) k.i of_i,
+      emptied_if_planned seed plan.d (events_for L1D events) _ old.d d new.d
+          (events_flush L1D events) k.d of_d,
+      emptied_if_planned seed plan.u (events_for L1U events) _ old.u u new.u
+          (events_flush L1U events) k.u of_u,
+      emptied_if_planned seed plan.second lower _ old.second second new.second
+          (lower_events_flush plan seed events) k.lower.kept of_second,
+      lower_events_flush,
+      memory_flush,
+      references_flush,
+    ) in
+    stands_kept plan seed (events ++ event.Flush ∷ []) new kept
+    (omega (arith, steps, s.steps, length-append events (event.Flush ∷ [])))

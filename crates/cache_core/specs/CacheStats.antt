@@ -1,5 +1,5 @@
 -- The statistics of a cache, and the events that each of them counts.
-use Rattle.std.specs.Prelude.{◌≤◌, ℕ, ◌+◌, ◌^◌, Bool, false, ◌&&◌, not, List, [], Option, is_some}
+use Rattle.std.specs.Prelude.{ℕ, ◌+◌, Bool, false, ◌&&◌, not, List, [], Option, is_some}
 use Rattle.std.specs.Prelude.{unwrap_or, count_by}
 use Rattle.trace_core.specs.declared.events.Access.{Access}
 use Rattle.trace_core.specs.declared.events.Ref.{Ref}
@@ -41,16 +41,3 @@ stats_after_access access hit evicted s = record {
 -- a flush more, which finds so many dirty blocks
 abbrev pub stats_after_flush : ℕ → CacheStats → CacheStats
 stats_after_flush dirty s = record s { copybacks = s.copybacks + dirty }
-
--- how many accesses are counted
-abbrev pub accesses : CacheStats → ℕ
-accesses s = s.fetches + s.reads + s.writes
-
--- The invariant of the counts of a cache: there are at most 2^62 accesses, misses are accesses of
--- their kind, and an eviction is an access.
-pub record IsCounted (s : CacheStats) : Type 0 where
-  pub few : accesses s ≤ 2 ^ 62
-  pub fetch_misses : s.fetch_misses ≤ s.fetches
-  pub read_misses : s.read_misses ≤ s.reads
-  pub write_misses : s.write_misses ≤ s.writes
-  pub evictions : s.evictions ≤ accesses s

@@ -1,16 +1,13 @@
 -- The LRU machine with write-allocate, and what look-back windows say of it.
-use Rattle.std.specs.Prelude.{ℕ, ◌≡◌, ◌≤◌, ◌+◌, Bool, List, map, is_some, IsTrue, Some}
+use Rattle.std.specs.Prelude.{ℕ, ◌≡◌, ◌≤◌, ◌+◌, Bool, List, map, is_some, IsTrue}
 use Rattle.std.specs.List.{list_any}
 use Rattle.trace_core.specs.declared.events.Ref.{Ref}
 use Rattle.trace_core.specs.declared.events.Event.{Event}
 use Rattle.cache_core.specs.declared.design.WriteMode.{WriteMode}
 use Rattle.cache_core.specs.declared.design.AllocMode.TheVariants.{Always}
 use Rattle.cache_core.specs.declared.design.Repl.TheVariants.{Lru}
-use Rattle.cache_core.specs.declared.replacement.Lru.{Lru as LruPolicy}
 use Rattle.cache_core.specs.Geometry.{GeometryValue, block_of}
 use Rattle.cache_core.specs.Machine.{Machine, MachineState, run, step, effects, counts_in, is_block}
-use Rattle.cache_core.specs.Order.{Contents}
-use Rattle.cache_core.specs.Slab.{CacheValue, contents_of}
 use Rattle.cache_core.specs.Windows.{Occurrence, window, occurrences, is_hit, is_evict, counts}
 
 -- the machine of an LRU cache with write-allocate
@@ -20,10 +17,6 @@ lru_machine g write = record {
   policy = Lru;
   random_numbers = λ n. 0;
 }
-
--- the contents of a cache under LRU
-abbrev pub lru_contents : CacheValue LruPolicy → Contents
-lru_contents cache = contents_of (λ _. Some Lru) (λ _ _. 0) cache
 
 -- whether a block is held
 abbrev pub is_held : MachineState → ℕ → Bool

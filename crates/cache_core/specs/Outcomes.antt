@@ -91,7 +91,3 @@ outcome_of a = record {
   down =
       two_options a.down;
 }
-
--- the outcome of a hit that sends nothing down
-abbrev pub hit_in_front : Outcome
-hit_in_front = record { hit = true; evicted = None; placed = false; down = None ∷ None ∷ [] }

@@ -1,29 +1,9 @@
--- A cache's sets in one array of slots: each has a segment of as many slots as it has ways, and the
--- first of them are filled.
-use Rattle.std.specs.Prelude.{◌≡◌, ◌<◌, ◌≤◌, ℕ, ◌*◌, ◌^◌, List, [], ◌∷◌, Option, length, take, drop}
-use Rattle.std.specs.Prelude.{All}
-use Rattle.cache_core.specs.Geometry.{IsGeometry}
+-- A cache as its callers see it: its design, its policy and its sets.
+use Rattle.std.specs.Prelude.{ℕ, List, Option}
 use Rattle.cache_core.specs.declared.outcome.Slot.{Slot}
 use Rattle.cache_core.specs.declared.design.Design.{Design}
 use Rattle.cache_core.specs.declared.design.Repl.{Repl}
 use Rattle.cache_core.specs.Order.{Contents}
-
--- the filled slots of each segment
-abbrev pub sets_of : ℕ → List Slot → List ℕ → List (List Slot)
-sets_of ways slots [] = []
-sets_of ways slots (n ∷ filled) = take n slots ∷ sets_of ways (drop ways slots) filled
-
--- the address of each slot's block is below 2^64
-abbrev pub Addressable : ℕ → List Slot → Type 0
-Addressable b slots = All (λ slot. slot.block * 2 ^ b < 2 ^ 64) slots
-
--- the invariant of a cache's arrays
-pub record IsCacheSlab (d : Design) (slots : List Slot) (filled : List ℕ) : Type 0 where
-  pub geometry : IsGeometry d.geometry
-  pub segments : length slots ≡ d.geometry.e * 2 ^ d.geometry.s
-  pub sets : length filled ≡ 2 ^ d.geometry.s
-  pub within : All (λ n. n ≤ d.geometry.e) filled
-  pub addresses : All (Addressable d.geometry.b) (sets_of d.geometry.e slots filled)
 
 -- a cache: its design, its policy and its sets
 pub record CacheValue (P : Type 0) : Type 0 where

@@ -7,6 +7,7 @@ pub mod DeepSets
 pub mod LruSets
 pub mod Simulation
 pub mod SystemCaches
+pub mod Counted
 pub mod CacheSteps
 pub mod SystemSteps
 pub mod SystemFields

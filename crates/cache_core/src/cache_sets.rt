@@ -4,11 +4,10 @@ ghost use Rattle.std.specs.Prelude.{◌≡◌, ◌≤◌, ◌<◌, ◌*◌, ◌^
 ghost use Rattle.std.specs.Prelude.{replicate, is_some};
 ghost use Rattle.cache_core.specs.declared.design.Repl.{Repl};
 ghost use Rattle.cache_core.specs.Geometry.{IsGeometry, block_of, set_of};
-ghost use Rattle.cache_core.specs.Outcomes.{hit_in_front};
+ghost use Rattle.cache_core.specs.internal.Order.{hit_in_front};
 ghost use Rattle.cache_core.specs.Order.{position_of, Accesses, FlushesCache, slots_of};
 ghost use Rattle.cache_core.specs.internal.Order.{DirtiesByWrites, HoldsPlaced, hits_in_front};
-ghost use Rattle.cache_core.specs.Slab.{IsCacheSlab, sets_of};
-ghost use Rattle.cache_core.specs.internal.Slab.{slab_contents};
+ghost use Rattle.cache_core.specs.internal.Slab.{IsCacheSlab, sets_of, slab_contents};
 ghost use Rattle.cache_core.specs.internal.Touched.{Covers};
 
 use crate::design::{AllocMode, Design, WriteMode};
@@ -40,7 +39,7 @@ impl<P> Model for CacheSets<P> {
 
     ghost Value = { CacheValue P };
 
-    ghost use Rattle.cache_core.specs.Slab.{sets_of, IsCacheSlab};
+    ghost use Rattle.cache_core.specs.internal.Slab.{sets_of, IsCacheSlab};
     ghost use Rattle.cache_core.specs.internal.Touched.{Covers};
 
     ghost view = { λ c. record {

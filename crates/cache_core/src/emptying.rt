@@ -1,7 +1,7 @@
 //! All sets of a cache are emptied, and their dirty slots counted.
 ghost use Rattle.std.specs.Prelude.{◌≡◌, ◌≤◌, ◌*◌, ◌^◌, length, All, count_by, replicate};
 ghost use Rattle.cache_core.specs.Order.{dirty_slots};
-ghost use Rattle.cache_core.specs.Slab.{sets_of};
+ghost use Rattle.cache_core.specs.internal.Slab.{sets_of};
 ghost use Rattle.cache_core.specs.internal.Touched.{Covers, ListsFilled, no_sets};
 
 use crate::outcome::Slot;

@@ -4,7 +4,7 @@ ghost use Rattle.std.specs.Prelude.{IsTrue, ◌↔◌};
 ghost use Rattle.cache_core.specs.Geometry.{block_of};
 ghost use Rattle.cache_core.specs.Order.{Touches, Visits, position_of, with_dirty_at};
 ghost use Rattle.cache_core.specs.internal.Order.{HoldsPlaced};
-ghost use Rattle.cache_core.specs.Slab.{Addressable};
+ghost use Rattle.cache_core.specs.internal.Slab.{Addressable};
 
 use crate::design::Design;
 use crate::effects::{allocates_line, dirties_line, hit_outcome, passing_outcome, placing_outcome};

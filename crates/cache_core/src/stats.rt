@@ -19,8 +19,8 @@ pub struct CacheStats {
 impl CacheStats {
     ghost use Rattle.std.specs.Prelude.{◌≡◌, ◌≤◌, ◌<◌, ◌+◌, ◌^◌};
     ghost use Rattle.std.specs.Option.{option_map};
-    ghost use Rattle.cache_core.specs.CacheStats.{accesses, stats_after_access, stats_after_flush};
-    ghost use Rattle.cache_core.specs.CacheStats.{IsCounted};
+    ghost use Rattle.cache_core.specs.CacheStats.{stats_after_access, stats_after_flush};
+    ghost use Rattle.cache_core.specs.internal.Counted.{accesses, IsCounted};
 
     /// Counts an access of this kind, and what it did.
     #[inline(always)]

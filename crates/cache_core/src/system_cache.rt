@@ -2,9 +2,8 @@
 ghost use Rattle.std.specs.Prelude.{◌≡◌, ◌≤◌, ◌<◌, ◌+◌, ◌^◌, ◌∷◌, [], Some, IfOk, MatchBool};
 ghost use Rattle.cache_core.specs.Arrivals.{Saw, arrival_at};
 ghost use Rattle.cache_core.specs.Order.{dirty_slots};
-ghost use Rattle.cache_core.specs.internal.Order.{hits_in_front};
-ghost use Rattle.cache_core.specs.Outcomes.{hit_in_front};
-ghost use Rattle.cache_core.specs.CacheStats.{accesses, IsCounted};
+ghost use Rattle.cache_core.specs.internal.Order.{hits_in_front, hit_in_front};
+ghost use Rattle.cache_core.specs.internal.Counted.{accesses, IsCounted};
 ghost use Rattle.cache_core.specs.internal.SystemCaches.{policy_of, random_numbers_of};
 ghost use Rattle.cache_core.specs.Systems.{random_numbers_for};
 

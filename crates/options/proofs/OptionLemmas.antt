@@ -11,7 +11,9 @@ use Rattle.cache_core.specs.declared.plan.CacheName.{CacheName}
 use Rattle.clap.specs.declared.builder.arg.Arg.{Arg}
 use Rattle.clap.specs.declared.builder.command.Command.{Command}
 use Rattle.clap.specs.declared.builder.command.Command.TheViews.{out-Command}
-use Rattle.options.specs.Options.{app_and_global, leaf, own_leaf, own_rule, rule_and_global}
+use Rattle.options.specs.Options.{leaf}
+use Rattle.options.specs.internal.OptionsInCode.{app_and_global, own_leaf, own_rule}
+use Rattle.options.specs.internal.OptionsInCode.{rule_and_global}
 use Rattle.options.specs.Options.{cache_rules}
 
 -- what has no global argument adds none

@@ -2,10 +2,10 @@
 ghost use Rattle.std.specs.Prelude.{◌≡◌, ◌++◌, IfOk, OnOk, Some, false, map};
 ghost use Rattle.clap.specs.Words.{app_of, new_rule, rule_of};
 ghost use Rattle.clap.specs.declared.builder.command.Command.TheViews.{out-Command as fields_of};
-ghost use Rattle.options.specs.Options.{app_and_global, cachesim_app, csim_rules, din_rules};
-ghost use Rattle.options.specs.Options.{leaf_of, own_leaf, own_rule};
-ghost use Rattle.options.specs.Options.{rule_and_global, rule_of_option, rules_of, sweep_rules};
-ghost use Rattle.options.specs.Options.{with_spelling};
+ghost use Rattle.options.specs.Options.{cachesim_app, csim_rules, din_rules, sweep_rules};
+ghost use Rattle.options.specs.internal.OptionsInCode.{app_and_global, leaf_of, own_leaf};
+ghost use Rattle.options.specs.internal.OptionsInCode.{own_rule, rule_and_global, rule_of_option};
+ghost use Rattle.options.specs.internal.OptionsInCode.{rules_of, with_spelling};
 
 use crate::caches::cache_options;
 use crate::help;

@@ -1,5 +1,5 @@
 //! The options of the caches of `din` and `log`: seven for each.
-ghost use Rattle.options.specs.Options.{IsOptionsOf};
+ghost use Rattle.options.specs.internal.OptionsInCode.{IsOptionsOf};
 
 use crate::table::CommandOption;
 use crate::table::Presence::Optional;

@@ -3,16 +3,22 @@ use Rattle.std.specs.Prelude.{ℕ, ◌≡◌, ◌≤◌, ◌<◌, ◌-◌, ◌^�
 use Rattle.std.specs.Prelude.{slice_index_or, Option, Some, None, IfSome}
 use Rattle.std.specs.Option.{option_map}
 use Rattle.trace_core.specs.declared.events.Event.{Event}
+use Rattle.cache_core.specs.declared.design.Repl.TheVariants.{Lru}
 use Rattle.cache_core.specs.declared.design.WriteMode.TheVariants.{Back}
 use Rattle.cache_core.specs.declared.replacement.Lru.{Lru as LruPolicy}
 use Rattle.cache_core.specs.declared.simulation.Lookup.{Lookup}
 use Rattle.cache_core.specs.declared.simulation.Lookup.TheVariants.{MissEviction}
 use Rattle.cache_core.specs.internal.DeepSets.{DeepSetsValue, sets_after_touch, deep_lookup}
 use Rattle.cache_core.specs.Geometry.{GeometryValue}
-use Rattle.cache_core.specs.LruLaws.{lru_machine, lru_contents}
-use Rattle.cache_core.specs.Slab.{CacheValue}
+use Rattle.cache_core.specs.LruLaws.{lru_machine}
+use Rattle.cache_core.specs.Order.{Contents}
+use Rattle.cache_core.specs.Slab.{CacheValue, contents_of}
 use Rattle.cache_core.specs.internal.Stands.{CacheStandsFor}
 use Rattle.cache_core.specs.Windows.{window, distinct_of_set}
+
+-- the contents of a cache under LRU
+abbrev pub lru_contents : CacheValue LruPolicy → Contents
+lru_contents cache = contents_of (λ _. Some Lru) (λ _ _. 0) cache
 
 -- how many of the ways are in front: all, or those that are not in the deep lists
 abbrev pub near_ways : ℕ → Option DeepSetsValue → ℕ

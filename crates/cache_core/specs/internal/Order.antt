@@ -1,7 +1,7 @@
 -- The contents of a cache, each set in its policy's order, and one access to it.
 -- Only the proofs need these definitions.
-use Rattle.std.specs.Prelude.{◌≡◌, ◌<◌, ◌≤◌, ℕ, ◌+◌, Bool, false, List, []}
-use Rattle.std.specs.Prelude.{◌∷◌, Option, Some, if◌then◌else◌, ◌==◌, length}
+use Rattle.std.specs.Prelude.{◌≡◌, ◌<◌, ◌≤◌, ℕ, ◌+◌, Bool, true, false, List, []}
+use Rattle.std.specs.Prelude.{◌∷◌, Option, None, Some, if◌then◌else◌, ◌==◌, length}
 use Rattle.std.specs.Prelude.{IfSome, is_some, slice_get, slice_index_or}
 use Rattle.std.specs.Option.{option_map}
 use Rattle.trace_core.specs.declared.events.Ref.{Ref}
@@ -12,6 +12,10 @@ use Rattle.cache_core.specs.declared.design.Design.{Design}
 use Rattle.cache_core.specs.Geometry.{block_of, set_of}
 use Rattle.cache_core.specs.Outcomes.{through_writes}
 use Rattle.cache_core.specs.Order.{slots_of, dirty_slots, is_dirty}
+
+-- the outcome of a hit that sends nothing down
+abbrev pub hit_in_front : Outcome
+hit_in_front = record { hit = true; evicted = None; placed = false; down = None ∷ None ∷ [] }
 
 -- whether the first of these slots holds a block
 abbrev pub holds_first : ℕ → List Slot → Bool

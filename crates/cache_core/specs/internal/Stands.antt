@@ -1,6 +1,6 @@
 -- The contents of a cache as those of a machine after a list of events.
 -- Only the proofs need these definitions.
-use Rattle.std.specs.Prelude.{◌≡◌, ◌≤◌, ℕ, ◌+◌, List, [], ◌∷◌, ◌++◌, Some, map, length}
+use Rattle.std.specs.Prelude.{◌≡◌, ◌<◌, ◌≤◌, ℕ, ◌+◌, List, [], ◌∷◌, ◌++◌, Some, map, length}
 use Rattle.std.specs.Prelude.{replicate, ◌^◌}
 use Rattle.trace_core.specs.declared.events.Ref.{Ref}
 use Rattle.trace_core.specs.declared.events.Event.{Event}
@@ -10,8 +10,24 @@ use Rattle.cache_core.specs.Machine.{Machine, MachineState, Line, run, slot_of, 
 use Rattle.cache_core.specs.Machine.{dirty_count}
 use Rattle.cache_core.specs.Order.{Contents, Accesses, FlushesCache, slots_of}
 use Rattle.cache_core.specs.Outcomes.{outcome_of}
-use Rattle.cache_core.specs.Rules.{Place, rules}
-use Rattle.cache_core.specs.Stands.{InOrder, Distinct}
+use Rattle.cache_core.specs.Rules.{Place, InFront, InPlace, rules}
+use Rattle.cache_core.specs.Stands.{Distinct}
+
+-- keys that fall from one line to the next, the first below a number
+abbrev pub Falls : ℕ → List Line → Type 0
+Falls n [] = Unit {0}
+Falls n (line ∷ lines) = (line.key < n) × Falls line.key lines
+
+-- keys that count up by one from a number
+abbrev pub CountsUp : ℕ → List Line → Type 0
+CountsUp n [] = Unit {0}
+CountsUp n (line ∷ lines) = (line.key ≡ n) × CountsUp (n + 1) lines
+
+-- the lines of a set are in order: the newest key first if a new block goes in front, and else way
+-- after way
+abbrev pub InOrder : Place → ℕ → List Line → Type 0
+InOrder InFront clock lines = Falls (clock + 1) lines
+InOrder InPlace clock lines = CountsUp 0 lines
 
 -- Each set holds the slots of the machine's lines of it, in their order, and the random numbers
 -- still to come are those that the machine hasn't drawn.

@@ -1,17 +1,14 @@
 -- The contents of a system as those of its machines after a list of events.
-use Rattle.std.specs.Prelude.{◌≡◌, ℕ, List, [], ◌∷◌, ◌++◌, length, Option, Some, None}
-use Rattle.trace_core.specs.declared.events.Ref.{Ref}
+use Rattle.std.specs.Prelude.{◌≡◌, ℕ, List, length, Option, Some, None}
 use Rattle.trace_core.specs.declared.events.Event.{Event}
-use Rattle.trace_core.specs.declared.events.Event.TheVariants as event
 use Rattle.cache_core.specs.declared.plan.PlannedCache.{PlannedCache}
 use Rattle.cache_core.specs.declared.plan.CacheName.TheVariants.{L1I, L1D, L1U}
 use Rattle.cache_core.specs.declared.system_cache.SystemCache.{SystemCache}
-use Rattle.cache_core.specs.Plans.{PlannedCaches, IsPlan}
+use Rattle.cache_core.specs.Plans.{PlannedCaches}
 use Rattle.cache_core.specs.internal.Stands.{CacheStandsFor}
 use Rattle.cache_core.specs.internal.CacheSteps.{system_cache_contents}
 use Rattle.cache_core.specs.Systems.{machine_of, events_for, lower_events, system_run}
-use Rattle.cache_core.specs.internal.SystemSteps.{SystemValue, IsNewSystem, StepsSystem}
-use Rattle.cache_core.specs.internal.SystemSteps.{FlushesSystem, stats_of}
+use Rattle.cache_core.specs.internal.SystemSteps.{SystemValue, stats_of}
 
 -- a cache of a system stands for the events that come to it
 abbrev pub PlannedCacheStandsFor : ℕ → Option PlannedCache → List Event →
@@ -30,21 +27,3 @@ pub record SystemStandsFor (plan : PlannedCaches) (seed : ℕ) (events : List Ev
   pub second : PlannedCacheStandsFor seed plan.second (lower_events plan seed events) v.second
   pub stats : stats_of v ≡ system_run plan seed events
   pub steps : v.steps ≡ length events
-
--- a new system stands for no event
-abbrev pub NewSystemLaw : Type 0
-NewSystemLaw = (plan : PlannedCaches) (seed : ℕ) (v : SystemValue) → IsNewSystem plan seed v →
-    SystemStandsFor plan seed [] v
-
--- a step adds its reference to the list
-abbrev pub StepLaw : Type 0
-StepLaw = (plan : PlannedCaches) (seed : ℕ) (events : List Event) (old : SystemValue) (ref : Ref)
-    (new : SystemValue) →
-    IsPlan plan → SystemStandsFor plan seed events old → StepsSystem old ref new →
-    SystemStandsFor plan seed (events ++ event.Reference ref ∷ []) new
-
--- a flush adds itself
-abbrev pub SystemFlushLaw : Type 0
-SystemFlushLaw = (plan : PlannedCaches) (seed : ℕ) (events : List Event) (old new : SystemValue) →
-    SystemStandsFor plan seed events old → FlushesSystem old new →
-    SystemStandsFor plan seed (events ++ event.Flush ∷ []) new

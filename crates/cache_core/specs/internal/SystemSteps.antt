@@ -1,8 +1,8 @@
 -- One step of a system, over its contents. Only the proofs need these definitions.
 use Rattle.std.specs.Prelude.{◌≡◌, ◌≤◌, ℕ, ◌+◌, ◌*◌, ◌^◌, Bool, false, List, [], ◌∷◌, Option, Some}
-use Rattle.std.specs.Prelude.{None, if◌then◌else◌, MatchOption, MatchBool, is_some, is_none}
+use Rattle.std.specs.Prelude.{None, if◌then◌else◌, MatchBool, is_some}
 use Rattle.trace_core.specs.declared.events.Ref.{Ref}
-use Rattle.trace_core.specs.Events.{is_fetch, is_write, one_if}
+use Rattle.trace_core.specs.Events.{is_fetch, is_write}
 use Rattle.cache_core.specs.declared.outcome.Outcome.{Outcome}
 use Rattle.cache_core.specs.declared.stats.CacheStats.{CacheStats}
 use Rattle.cache_core.specs.declared.stats.Stats.{Stats}
@@ -13,9 +13,9 @@ use Rattle.cache_core.specs.Systems.{random_numbers_for}
 use Rattle.cache_core.specs.declared.plan.CacheName.{CacheName}
 use Rattle.cache_core.specs.declared.plan.CacheName.TheVariants.{L1I, L1D, L1U}
 use Rattle.cache_core.specs.declared.plan.PlannedCache.{PlannedCache}
-use Rattle.cache_core.specs.Plans.{PlannedCaches}
 use Rattle.cache_core.specs.internal.Slab.{empty_sets}
-use Rattle.cache_core.specs.CacheStats.{no_counts, accesses}
+use Rattle.cache_core.specs.CacheStats.{no_counts}
+use Rattle.cache_core.specs.internal.Counted.{accesses}
 use Rattle.cache_core.specs.internal.SystemCaches.{policy_of, random_numbers_of}
 use Rattle.cache_core.specs.internal.CacheSteps.{Enters, Empties}
 
@@ -117,15 +117,6 @@ abbrev pub copybacks_of : Option SystemCache → ℕ
 copybacks_of None = 0
 copybacks_of (Some cache) = cache.stats.copybacks
 
--- one reference at a system
-pub record StepsSystem (old : SystemValue) (ref : Ref) (new : SystemValue) : Type 0 where
-  pub down : Option (List (Option Ref))
-  pub first : AccessesFirstLevel old.i old.d old.u ref down new.i new.d new.u
-  pub lower : MatchOption down ((new.second ≡ old.second) × (new.memory ≡ old.memory))
-      (λ refs. AllDescend (present_refs refs) old.second old.memory new.second new.memory)
-  pub bypassed : new.bypassed ≡ old.bypassed + one_if (is_none down)
-  pub steps : new.steps ≡ old.steps + 1
-
 -- how many references a cache counted, none if it isn't there
 abbrev pub accesses_of : Option SystemCache → ℕ
 accesses_of None = 0
@@ -150,23 +141,6 @@ abbrev pub EmptiesCache : Option SystemCache → ℕ → Option SystemCache → 
 EmptiesCache None dirty new = (new ≡ None) × (dirty ≡ 0)
 EmptiesCache (Some old) dirty new = (next : SystemCache) × (new ≡ Some next) ×
     Empties old dirty next
-
--- one flush of a system: each dirty line is a memory write
-pub record FlushesSystem (old new : SystemValue) : Type 0 where
-  pub dirty_i : ℕ
-  pub dirty_d : ℕ
-  pub dirty_u : ℕ
-  pub dirty_second : ℕ
-  pub i : EmptiesCache old.i dirty_i new.i
-  pub d : EmptiesCache old.d dirty_d new.d
-  pub u : EmptiesCache old.u dirty_u new.u
-  pub second : EmptiesCache old.second dirty_second new.second
-  pub memory : new.memory ≡ record old.memory {
-    writes =
-        old.memory.writes + (dirty_i + dirty_d + dirty_u + dirty_second);
-  }
-  pub bypassed : new.bypassed ≡ old.bypassed
-  pub steps : new.steps ≡ old.steps + 1
 
 -- the counts of a cache, if there is one
 abbrev pub stats_held : Option SystemCache → Option CacheStats
@@ -198,13 +172,3 @@ abbrev pub IsNewCache : ℕ → Option PlannedCache → Option SystemCache → T
 IsNewCache seed None cache = cache ≡ None
 IsNewCache seed (Some planned) cache = (new : SystemCache) × (cache ≡ Some new) ×
     IsNewSystemCache seed planned new
-
--- a new system: new caches, and nothing counted
-pub record IsNewSystem (plan : PlannedCaches) (seed : ℕ) (v : SystemValue) : Type 0 where
-  pub i : IsNewCache seed plan.i v.i
-  pub d : IsNewCache seed plan.d v.d
-  pub u : IsNewCache seed plan.u v.u
-  pub second : IsNewCache seed plan.second v.second
-  pub memory : v.memory ≡ record { reads = 0; writes = 0 }
-  pub bypassed : v.bypassed ≡ 0
-  pub steps : v.steps ≡ 0

@@ -6,7 +6,7 @@ use Rattle.cache_core.proofs.cache_sets.visit_front.Goals.{then-is_some-via-then
 use Rattle.cache_core.proofs.cache_sets.visit_front.Goals.{
   then-is_some-via-else-is_some+then-not-is_in_front,
 }
-use Rattle.cache_core.specs.Slab.{sets_of}
+use Rattle.cache_core.specs.internal.Slab.{sets_of}
 use Rattle.cache_core.proofs.cache_sets.visit_front.Goals as goal
 
 pub returns-clause-slab : goal.returns-clause-slab

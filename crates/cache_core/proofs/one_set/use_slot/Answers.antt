@@ -1,6 +1,6 @@
 -- The addresses of the slots fit after a use, since it keeps the slots but for a mark.
 use Rattle.std.proofs.Common.{true, arith, sym, subst}
-use Rattle.cache_core.specs.Slab.{Addressable}
+use Rattle.cache_core.specs.internal.Slab.{Addressable}
 use Rattle.cache_core.proofs.Addresses.{marked_fits, touched_fits}
 use Rattle.cache_core.proofs.one_set.use_slot.Goals as goal
 use Rattle.cache_core.proofs.one_set.use_slot.Goals.{then-dirty, else-dirty}

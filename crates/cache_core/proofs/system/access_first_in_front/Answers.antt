@@ -1,7 +1,6 @@
 -- The cache that is there is accessed, or stays.
 use Rattle.std.proofs.Common.{◌≡◌, ℕ, List, [], ◌∷◌, Bool, true, false, Option, Some, None, refl}
-use Rattle.std.proofs.Common.{sym}
-use Rattle.std.proofs.Common.{ap, ◌∙◌, subst}
+use Rattle.std.proofs.Common.{sym, ap, ◌∙◌, subst}
 use Rattle.std.proofs.lemmas.Bool.{true≢false}
 use Rattle.trace_core.specs.declared.events.Event.{Event}
 use Rattle.cache_core.specs.declared.arrival.Arrival.TheVariants.{Cache}
@@ -15,7 +14,7 @@ use Rattle.std.specs.Prelude.{MatchBool}
 use Rattle.trace_core.specs.declared.events.Ref.{Ref}
 use Rattle.cache_core.specs.declared.system_cache.SystemCache.{SystemCache}
 use Rattle.cache_core.specs.internal.CacheSteps.{Enters}
-use Rattle.cache_core.specs.Outcomes.{hit_in_front}
+use Rattle.cache_core.specs.internal.Order.{hit_in_front}
 use Rattle.cache_core.specs.internal.SystemSteps.{AccessesFirst, nothing_down}
 use Rattle.cache_core.proofs.system.access_first_in_front.Goals as goal
 

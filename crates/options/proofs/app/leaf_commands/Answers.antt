@@ -1,7 +1,7 @@
 -- The commands so far and the next one.
 use Rattle.std.proofs.Common.{rules, ◌∙◌, ◌++◌, [], ◌∷◌, ap, ap₂, map, sym}
 use Rattle.std.proofs.lemmas.List.{map_more, map-append}
-use Rattle.options.specs.Options.{app_and_global, leaf_of, own_leaf}
+use Rattle.options.specs.internal.OptionsInCode.{app_and_global, leaf_of, own_leaf}
 use Rattle.options.proofs.app.leaf_commands.Goals as goal
 
 pub loop-text-preserved : goal.loop-text-preserved

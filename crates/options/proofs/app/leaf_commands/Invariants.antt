@@ -1,6 +1,6 @@
 -- The commands so far are made.
 use Rattle.std.proofs.Common.{◌≡◌, map, take}
-use Rattle.options.specs.Options.{app_and_global, leaf_of, own_leaf}
+use Rattle.options.specs.internal.OptionsInCode.{app_and_global, leaf_of, own_leaf}
 use Rattle.options.proofs.app.leaf_commands.Given as goal
 
 abbrev pub invariant-loop-text : goal.invariant-loop-text

@@ -1,6 +1,6 @@
 -- The options so far are added.
 use Rattle.std.proofs.Common.{◌≡◌, ◌++◌, map, take}
-use Rattle.options.specs.Options.{own_rule, rule_and_global, rule_of_option}
+use Rattle.options.specs.internal.OptionsInCode.{own_rule, rule_and_global, rule_of_option}
 use Rattle.options.proofs.app.push_options.Given as goal
 
 abbrev pub invariant-loop-option : goal.invariant-loop-option

@@ -1,8 +1,7 @@
 -- A hit in the first slot of a set is one of the part in front.
 use Rattle.std.proofs.Common.{◌∙◌, ◌++◌, ◌∷◌, [], sym, subst}
 use Rattle.trace_core.specs.declared.events.Event.TheVariants as event
-use Rattle.cache_core.specs.LruLaws.{lru_contents}
-use Rattle.cache_core.specs.internal.LruSets.{LruSetsStandFor}
+use Rattle.cache_core.specs.internal.LruSets.{lru_contents, LruSetsStandFor}
 use Rattle.cache_core.specs.Order.{Accesses}
 use Rattle.cache_core.proofs.LruSetsLaw.{hit_in_first, follows_hit}
 use Rattle.cache_core.proofs.lru_sets.LruSets.access.Goals as goal

@@ -6,20 +6,11 @@ use Rattle.cache_core.proofs.SystemLaw.{system_flush_law}
 use Rattle.cache_core.proofs.system.System.flush_observed.Goals as goal
 
 pub returns-clause-stands : goal.returns-clause-stands
-returns-clause-stands g c = λ plan seed events stands. system_flush_law plan seed events _ _ stands
-    (rw (← c.self.view_is) record {
-      dirty_i = c.empty-i.result;
-      dirty_d = c.empty-d.result;
-      dirty_u = c.empty-u.result;
-      dirty_second = c.empty-second.result;
-      i = c.empty-i.ensures.value;
-      d = c.empty-d.ensures.value;
-      u = c.empty-u.ensures.value;
-      second = c.empty-second.ensures.value;
-      memory = refl;
-      bypassed = refl;
-      steps = refl;
-    })
+returns-clause-stands g c = λ plan seed events stands. system_flush_law plan seed events _ _
+    c.empty-i.result c.empty-d.result c.empty-u.result c.empty-second.result
+    (subst (SystemStandsFor plan seed events) (sym c.self.view_is) stands)
+    c.empty-i.ensures.value c.empty-d.ensures.value c.empty-u.ensures.value
+    c.empty-second.ensures.value refl refl refl
 
 pub returns-clause-seen : goal.returns-clause-seen
 returns-clause-seen g c = λ plan seed events stands.

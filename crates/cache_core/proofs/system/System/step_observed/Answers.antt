@@ -1,7 +1,7 @@
 -- A reference that finds its block in the first slot of its set is a step that sends nothing down,
 -- and is seen once.
 use Rattle.std.proofs.Common.{◌≡◌, List, [], ◌∷◌, ◌++◌, Some, None, true, arith, sym, ap, ◌∙◌}
-use Rattle.std.proofs.Common.{subst, append-nil}
+use Rattle.std.proofs.Common.{subst, refl, append-nil}
 use Rattle.cache_core.specs.declared.arrival.Arrival.{Arrival}
 use Rattle.cache_core.specs.declared.arrival.Arrival.TheVariants.{Cache}
 use Rattle.cache_core.specs.Arrivals.{Saw, first_arrivals, lower_arrivals}
@@ -9,7 +9,7 @@ use Rattle.cache_core.specs.internal.SystemStands.{SystemStandsFor}
 use Rattle.cache_core.specs.internal.SystemSteps.{nothing_down}
 use Rattle.cache_core.proofs.Counters.{first_level_grows}
 use Rattle.cache_core.proofs.Observed.{seen_below}
-use Rattle.cache_core.proofs.SystemLaw.{step_in_front, step_law, step_sends}
+use Rattle.cache_core.proofs.SystemLaw.{first_after, step_law}
 use Rattle.cache_core.proofs.system.System.step_observed.Goals as goal
 
 pub invariant_of-self : goal.invariant_of-self
@@ -21,9 +21,10 @@ invariant_of-self g c =
 pub returns-then-access_first_level_in_front-clause-stands
     : goal.returns-then-access_first_level_in_front-clause-stands
 returns-then-access_first_level_in_front-clause-stands g c = λ plan seed events good stands.
-    step_law plan seed events _ c.args.reference _ good stands (rw (← c.self.view_is)
-    (step_in_front _ c.args.reference _ _ _ (rw c.if-access_first_level_in_front.true
-    at c.access_first_level_in_front.ensures.value)))
+    step_law plan seed events _ c.args.reference _ (Some nothing_down) good
+    (subst (SystemStandsFor plan seed events) (sym c.self.view_is) stands)
+    (rw c.if-access_first_level_in_front.true at c.access_first_level_in_front.ensures.value)
+    (refl, refl) (omega arith) refl
 
 pub returns-then-access_first_level_in_front-clause-seen
     : goal.returns-then-access_first_level_in_front-clause-seen
@@ -33,9 +34,9 @@ returns-then-access_first_level_in_front-clause-seen g c = λ plan seed events g
     let hit = c.if-access_first_level_in_front.true in
     let value = rw hit at c.access_first_level_in_front.ensures.value in
     let first = c.access_first_level_in_front.ensures.seen hit plan seed events good s.i s.d s.u in
-    let sends = step_sends plan seed events _ ref (Some nothing_down) _ _ _ good s value in
+    let after = first_after plan seed events _ ref (Some nothing_down) _ _ _ good s value in
     let lower : [] ≡ lower_arrivals plan seed events ref =
-    seen_below plan seed events ref [] sends.0 sends.1 in
+    seen_below plan seed events ref [] after.all_sent after.untaken in
     let once : Cache c.first_name-cache.result ref true None ∷ [] ≡
     first_arrivals plan seed events ref ++ lower_arrivals plan seed events ref =
     ap (λ name. Cache name ref true None ∷ []) c.first_name-cache.ensures ∙ sym first ∙
