@@ -51,6 +51,9 @@ OF_ROWS = (
     (FAR, "--within 47.6999", "32,4,1"), (FAR, "--within 47.7", "32,2,1"), (NEAR, "", "32,2,1"),
     (NEAR, "--within 0.00001", "32,1,1"), ("16,1,1,16,0,0,0\n", "--below 0", "16,1,1"),
     (THIRD, "--below 33.33333333333333333334", "16,1,1"),
+    # alike in size and misses: the fewest ways, and then the smallest blocks
+    (base.rows_of(1000, {(16, 2, 2): 9, (32, 2, 1): 9, (64, 1, 1): 9}), "", "32,2,1 64,1,1 16,2,2"),
+    (base.rows_of(1000, {(16, 2, 2): 9, (64, 1, 1): 9, (32, 2, 1): 9}), "--front", "32,2,1"),
 )
 
 

@@ -92,6 +92,11 @@ class Costs(ToolTest):
         self.assertEqual([(row["bsize"], row["size"]) for row in rows],
                          [("32", "4096"), ("64", "16384"), ("64", "65536"), ("64", "262144")])
 
+    def test_small_blocks(self):
+        """One of 8 bytes takes half as long as one of 16: 1 + (80 + 1) * 50 / 100."""
+        self.write("t.csv", "8,1,1,8,50,50,49\n")
+        self.assertEqual(self.best("t.csv", *BOOK)[1][0]["AMAT"], "41.500")
+
     def test_no_references(self):
         self.write("t.csv", "16,1,1,16,0,0,0\n")
         self.assertEqual(self.best("t.csv", *BOOK)[1][0]["AMAT"], "1")

@@ -11,7 +11,7 @@ import subprocess
 import time
 
 import reading_base
-from base import EXAMPLES, TOOLS, TOP, ToolTest, ended, needs
+from base import EXAMPLES, PROGRAM, TOOLS, TOP, ToolTest, ended, needs
 from lib import paging
 
 HEADER = "bsize,sets,assoc,size,hits,misses,evictions\n"
@@ -151,6 +151,21 @@ class Growing(ParallelTest):
             ran = self.grown(tool, *words, change=change)
             (self.folder / "first").rmdir()
             self.refused(ran, 1, f"{tool}: {told}\n")
+
+    def test_a_change_that_only_the_counts_tell(self):
+        """In place, and with the time of before: of the other runs one reference is skipped."""
+        body = (f'if mkdir first 2> /dev/null; then {PROGRAM} "$@"; ended=$?; cp -p t.din old; '
+                "printf 3 | dd of=t.din conv=notrunc 2> /dev/null; touch -r old t.din; touch done; "
+                "exit $ended; fi; until [ -e done ]; do sleep 0.01; done")
+        for told, tool, *words in (
+            ("t.din", "sweep-parallel", 2, "t.din", *SPACE),
+            ("the trace", "din-table", 2, "t.din", *"-l1-dsize 1k-4k -l1-dbsize 16".split()),
+        ):
+            self.write("t.din", DIN.read_bytes())
+            ran = self.run_tool(tool, *words, env=self.program(body))
+            (self.folder / "first").rmdir()
+            (self.folder / "done").unlink()
+            self.refused(ran, 1, f"{tool}: {told} has changed while it was read: ")
 
     def test_what_is_read_once(self):
         """It may change: all runs get the same bytes."""

@@ -1,5 +1,5 @@
 -- An LRU cache with its counts, and the lists of events that it stands for.
--- Only the proofs need these definitions.
+-- Few clauses cite these definitions, which need not be judged.
 use Rattle.std.specs.Prelude.{◌≡◌, ◌≤◌, ℕ, ◌+◌, List}
 use Rattle.trace_core.specs.declared.events.Event.{Event}
 use Rattle.cache_core.specs.declared.outcome.Counts.{Counts}

@@ -1,5 +1,5 @@
 -- A cache's sets in one array of slots: each has a segment of as many slots as it has ways, and the
--- first of them are filled. Only the proofs need these definitions.
+-- first of them are filled. Few clauses cite these definitions, which need not be judged.
 use Rattle.std.specs.Prelude.{◌≡◌, ◌<◌, ◌≤◌, ℕ, ◌*◌, ◌^◌, List, [], ◌∷◌, Option, length, take, drop}
 use Rattle.std.specs.Prelude.{All, replicate, None, IfSome, is_some}
 use Rattle.cache_core.specs.Geometry.{GeometryValue, IsGeometry}

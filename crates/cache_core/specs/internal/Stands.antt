@@ -1,5 +1,5 @@
 -- The contents of a cache as those of a machine after a list of events.
--- Only the proofs need these definitions.
+-- Only the proofs need these definitions, but for the laws.
 use Rattle.std.specs.Prelude.{◌≡◌, ◌<◌, ◌≤◌, ℕ, ◌+◌, List, [], ◌∷◌, ◌++◌, Some, map, length}
 use Rattle.std.specs.Prelude.{replicate, ◌^◌}
 use Rattle.trace_core.specs.declared.events.Ref.{Ref}
