@@ -99,7 +99,7 @@ pub struct SpaceFault {
 const MAX_POWER: u64 = 1 << MAX_BITS;
 
 /// The configurations of a sweep: a lowest and a greatest value for each number, and for the size
-/// in bytes. The clause `limits` of `configs` says that they are within the limits.
+/// in bytes. The clauses `limits` of `has` and `configs` say that they are within the limits.
 #[derive(Clone, Copy, Debug)]
 pub struct Space {
     bsize: (u64, u64),
@@ -161,7 +161,8 @@ impl Space {
 
     /// Whether a configuration is in the space. Its numbers may be any.
     pub fn has(&self, config: &Config) -> bool
-        ensures { result ≡ is_valid self.now config.now }
+        ensures value { result ≡ is_valid self.now config.now }
+        ensures limits { space_fault self.now ≡ None }
     {
         let Config { bsize, sets, assoc } = *config;
         if !is_in_range(self.bsize, bsize)

@@ -2,11 +2,11 @@
 use Rattle.std.proofs.Common.{◌<◌, ◌∙◌, sym, length, arith}
 use Rattle.profile_core.proofs.Batches.{both_front, next_front, both_behind}
 use Rattle.profile_core.proofs.feed.feed_each_to_two.Goals as goal
-use Rattle.profile_core.proofs.feed.feed_each_to_two.Goals.{else-not-feed_in_batch}
-use
-    Rattle.profile_core.proofs.feed.feed_each_to_two.Goals.{then-not-feed_in_batch+then-not-feed_in_batch-2}
-use
-    Rattle.profile_core.proofs.feed.feed_each_to_two.Goals.{then-not-feed_in_batch+else-not-feed_in_batch-2}
+use Rattle.profile_core.proofs.feed.feed_each_to_two.Goals.{
+  else-not-feed_in_batch,
+  then-not-feed_in_batch+then-not-feed_in_batch-2,
+  then-not-feed_in_batch+else-not-feed_in_batch-2,
+}
 
 pub loop-at-preserved : goal.loop-at-preserved
 loop-at-preserved g c =

@@ -13,9 +13,11 @@ use Rattle.sweep_core.proofs.BatchLoops.{unfed, IsFedUpTo, each_rest, next-withi
 use Rattle.sweep_core.proofs.BatchLoops.{given_serves, given_within, given_reaches}
 use Rattle.sweep_core.proofs.Lists.{Each-weaker}
 use Rattle.sweep_core.proofs.batch.feed_each.Goals as goal
-use Rattle.sweep_core.proofs.batch.feed_each.Goals.{then-at-end+then-implied-later+then-not-is_followed}
-use Rattle.sweep_core.proofs.batch.feed_each.Goals.{else-at-end+then-at-until}
-use Rattle.sweep_core.proofs.batch.feed_each.Goals.{else-at-end+else-at-until}
+use Rattle.sweep_core.proofs.batch.feed_each.Goals.{
+  then-at-end+then-implied-later+then-not-is_followed,
+  else-at-end+then-at-until,
+  else-at-end+else-at-until,
+}
 
 -- how many the profile at the index implies, whatever stands for one that is not there
 implied_is : (xs : List PairProfile) (at : ℕ) (d e : PairProfile) → at < length xs →

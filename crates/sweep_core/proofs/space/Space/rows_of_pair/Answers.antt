@@ -6,8 +6,10 @@ use Rattle.sweep_core.specs.internal.Walk.{NoWays, AreWays}
 use Rattle.sweep_core.proofs.Validity.{valid_of, is_in_range-from, space-limited}
 use Rattle.sweep_core.proofs.Ways.{pair-none, rows-none, rows-some}
 use Rattle.sweep_core.proofs.space.Space.rows_of_pair.Goals as goal
-use Rattle.sweep_core.proofs.space.Space.rows_of_pair.Goals.{then-not-is_in_range-via-then-not-is_in_range}
-use Rattle.sweep_core.proofs.space.Space.rows_of_pair.Goals.{then-not-is_in_range-via-else-not-is_in_range+then-not-is_in_range-2}
+use Rattle.sweep_core.proofs.space.Space.rows_of_pair.Goals.{
+  then-not-is_in_range-via-then-not-is_in_range,
+  then-not-is_in_range-via-else-not-is_in_range+then-not-is_in_range-2,
+}
 
 pub returns-then-not-is_in_range : goal.returns-then-not-is_in_range
 returns-then-not-is_in_range c =
