@@ -13,7 +13,7 @@ BEGINNING = re.compile(r"# [^\n]*\n\n(?P<first>.*?)\n\n(?: {4}[^\n]*\n)+\n"
 SHORT = re.compile(r"T\{\n((?:(?:\\f.)*(?:\\\(..|\\?.)){0,24}(?:\\f.)*)\nT\}")
 # how a help begins: with the call and behind blanks what it does, also below argparse's usage; with
 # that usage and a sentence; or with a sentence and an indented call
-FORMS = (r"(?:usage: (?s:.*?)\n\n)?(?P<call>NAME .*?) {3,}(?P<what>(?s:.*?))(?:\n\n|$)",
+FORMS = (r"(?:usage: (?:.+\n)+\n)?(?P<call>NAME .*?) {3,}(?P<what>(?s:.*?))(?:\n\n|$)",
          r"usage: (?P<call>NAME (?s:.*?))\n\n(?=(?P<what>(?s:.*)))",
          r"(?P<what>(?:\S.*\n)+)\n +(?P<call>NAME (?s:.*?))\n\n")
 # how a list of options, or of words with their meanings, begins
