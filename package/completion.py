@@ -6,89 +6,51 @@ meanings, as 'u all, d data'. A tool that takes the options of `cachesim sweep` 
 as its help says, has these too, but for the trace. Each argument of a tool may be a file.
 """
 
-import itertools
 import re
 import shlex
-from typing import NamedTuple
+from collections import namedtuple
 
 from shared import words_in
 
-OPTION = re.compile(r"( +)(?=-)(?:(-\w)(?:, )?)?(--[\w-]+)?(?: (\S+))?(?: {2,}(.*))?")
+# an option: blanks, its spellings, its value, and its text with what stands further right below
+OPTION = re.compile(r"^( +)(?=-)(?:(-\w)(?:, )?)?(--[\w-]+)?(?: (\S+))?"
+                    r"((?: {2,}.*)?(?:\n\1 {2,}(?![ -]).*)*)$", re.M)
 LETTER = re.compile(r"([a-z]) (.+)")
 ONE_DASH = re.compile(r"--(?:l\d-\w+|informat)")  # as in Dinero IV
 PASSED_ON = re.compile(r"(?:those of|what|options? of)\s+`(cachesim (?:sweep|din))`")
 ANOTHER_NAME = re.compile(r"(--[\w-]+)\s+is\s+another\s+name\s+for\s+(-[\w-]+)")
 
 
-class Option(NamedTuple):
-    """An option: its spellings, what its value is called if it has one, the beginning of its help,
-    the words that the value is one of, each with its meaning, whether the value is else a file, and
-    whether the option may be given again."""
-
-    names: tuple
-    value: str
-    text: str
-    words: list
-    is_file: bool
-    repeats: bool
-
-
-class Command(NamedTuple):
-    """What a command takes: options; words for the first argument, each with its meaning; files."""
-
-    options: list
-    words: list
-    files: bool
-
-
+# its spellings, what its value is called if it has one, the beginning of its help, the words that
+# the value is one of, each with its meaning, and whether it is else a file and may be given again
+Option = namedtuple("Option", "names value text words is_file repeats")
+# what a command takes: options; words for the first argument, each with its meaning; files
+Command = namedtuple("Command", "options words files")
 HELP = Option(("-h", "--help"), "", "show the help", [], False, False)
 
 
 def words_of(value, text):
     """The words that a value is one of, each with its meaning."""
-    found = re.split("[|,]", value.strip("{}"))
-    if len(found) > 1 and (value.startswith("{") or "|" in value):
-        return [(word, "") for word in found]
+    if re.search("[|{]", value):
+        return [(word, "") for word in re.split("[|,]", value.strip("{}"))]
     letters = [LETTER.fullmatch(part) for part in text.rpartition(": ")[2].split(", ")]
     is_list = value and len(letters) > 1 and all(letters)
     return [match.groups() for match in letters] if is_list else []
 
 
-def options_in(text, is_file):
-    """The options that a help tells of: the lines that begin with one, with what stands further
-    right below. `is_file` says of the name of a value whether it is a file."""
-    lines = re.sub(r"\\\n *", "", text).splitlines()  # an example may go on in a further line
-    for number, line in enumerate(lines, 1):
-        if match := OPTION.fullmatch(line):
-            below = itertools.takewhile(lambda line: line.startswith(f"{match[1]}  ")
-                                        and not OPTION.fullmatch(line), lines[number:])
-            # a line may end within a word that has a hyphen
-            meaning = " ".join(filter(None, [match[5], *map(str.strip, below)]))
-            meaning = re.sub(r"(?<=\w-) ", "", meaning)
-            beginning = re.sub(r" \[default: .*\]$", "", meaning).partition(". ")[0]
-            words = words_of(match[4] or "", beginning)
-            value = "value" if re.search("[|{]", match[4] or "") else (match[4] or "").strip("<>")
-            names = tuple(name for name in match.group(2, 3) if name)
-            repeats = "may be repeated" in meaning
-            yield Option(names, value, beginning, words, is_file(value), repeats)
-
-
-def of_program(text):
-    found = options_in(text, "FILE".__eq__)
-    options = [option._replace(names=(name[1:], name)) if ONE_DASH.fullmatch(name) else option
-               for option in found for name in option.names[-1:]]
-    return Command(options, words_in(text), False)
-
-
-def of_tool(text, commands):
-    passed_on = PASSED_ON.search(text)
-    taken = commands[passed_on[1]].options if passed_on else ()
-    other = {known: name for name, known in ANOTHER_NAME.findall(text)}
-    found = [option._replace(names=(*option.names, *filter(None, map(other.get, option.names))))
-             for option in taken if "-t" not in option.names]
-    options = {option.names[-1]: option for option in [HELP, *found, *options_in(text, bool)]}
-    words = [(word, re.split(r"[:.] ", meaning)[0]) for word, meaning in words_in(text)]
-    return Command(list(options.values()), words, True)
+def options_in(text, is_tool):
+    """The options that a help tells of. Each value of a tool's option may be a file."""
+    # an example may go on in a further line
+    for match in OPTION.finditer(re.sub(r"\\\n *", "", text)):
+        *names, value, meaning = (part or "" for part in match.groups()[1:])
+        # a line may end within a word that has a hyphen
+        meaning = re.sub(r"(?<=\w-) ", "", " ".join(meaning.split()))
+        beginning = re.sub(r" \[default: .*\]$", "", meaning).partition(". ")[0]
+        if ONE_DASH.fullmatch(names[-1]):
+            names[0] = names[-1][1:]
+        called = "value" if re.search("[|{]", value) else value.strip("<>")
+        yield Option(tuple(filter(None, names)), called, beginning, words_of(value, beginning),
+                     is_tool or called == "FILE", "may be repeated" in meaning)
 
 
 def commands_of(texts):
@@ -96,8 +58,26 @@ def commands_of(texts):
     commands = {}
     for name, text in texts.items():
         is_tool = name.startswith("cachesim-")
-        commands[name] = of_tool(text, commands) if is_tool else of_program(text)
+        passed_on = PASSED_ON.search(text) if is_tool else None
+        taken = commands[passed_on[1]].options if passed_on else []
+        other = {known: another for another, known in ANOTHER_NAME.findall(text)}
+        given = [option._replace(names=(*option.names, *filter(None, map(other.get, option.names))))
+                 for option in taken if "-t" not in option.names]
+        found = [*([HELP] if is_tool else []), *given, *options_in(text, is_tool)]
+        words = [(word, re.split(r"[:.] ", meaning)[0]) for word, meaning in words_in(text)]
+        options = {option.names[-1]: option for option in found}
+        commands[name] = Command([*options.values()], words, is_tool)
     return commands
+
+
+def signs(name):
+    """What stands behind a name for zsh, if it has a value, and before it for fish."""
+    return ("=", "-l") if name.startswith("--") else ("+", "-s") if len(name) == 2 else ("", "-o")
+
+
+def listed(words, between):
+    """Words with their meanings, in quotes."""
+    return " ".join(f'{word}{between}"{text}"' if text else word for word, text in words)
 
 
 BASH = """\
@@ -105,59 +85,65 @@ BASH = """\
 _cachesim() {
     local word=${COMP_WORDS[COMP_CWORD]} before=${COMP_WORDS[COMP_CWORD - 1]}
     local given=" ${COMP_WORDS[*]:1:COMP_CWORD - 1} " line=${COMP_WORDS[0]##*/}
-    local words='' names='' files='' name other
+    local first='' options='' files='' words='' dashes=- option name
     COMPREPLY=()
     # an option and its value may be one word, which bash cuts at the '='
     [[ $word != = ]] || word=''
     [[ $before != = ]] || before=${COMP_WORDS[COMP_CWORD - 2]}
-    [[ $COMP_CWORD != 1 ]] || before=''
     [[ $COMP_CWORD = 1 || $line != cachesim ]] || line+=" ${COMP_WORDS[1]}"
+    # an option has its name, without dashes where it may have one or two, a plus if it may be
+    # repeated, and behind '=' the words of its value, or FILE
     case $line in
-NAMES
+CASES
     esac
-    case "$line $before" in
-VALUES
-    *)
-        [[ -z $files ]] || compopt -o default
-        [[ -z $files || $word = -* ]] || names=''
-        for name in $names; do
-            other=-${name%+}
-            [[ $name != --* ]] || other=${other#--}
-            # what may have one dash is shown with one, unless the word has two; and each at most
-            # once, however many dashes it was given, unless it may be repeated
-            if [[ $word = --* ]]; then [[ $name = --* ]]; else [[ " $names " != *" $other "* ||
-                $name != --* ]]; fi &&
-                [[ $name = *+ || $given != *" $name "* && $given != *" $other "* ]] &&
-                words+=" ${name%+}"
-        done
-        ;;
-    esac
-    [[ $words != FILE ]] || compopt -o default
-    mapfile -t COMPREPLY < <(compgen -W "${words#FILE}" -- "$word")
+    [[ $COMP_CWORD != 1 || -z $first ]] || words=$first files=''
+    # what may have one dash is shown with one, unless the word has two
+    [[ $word != --* ]] || dashes=--
+    for option in $options; do
+        name=${option%%[+=]*}
+        if [[ $option = *=* && $before = ?(-)?(-)"$name" ]]; then
+            words=${option#*=} files=''
+            [[ $words != FILE ]] || words='' files=1
+            break
+        fi
+        [[ $files && $word != -* ]] && continue
+        [[ $option != *+* && $given = *" "?(-)?(-)"$name "* ]] && continue
+        [[ $name = -* ]] || name=$dashes$name
+        words+=" $name"
+    done
+    [[ -z $files ]] || compopt -o default
+    mapfile -t COMPREPLY < <(compgen -W "${words//,/ }" -- "$word")
 }
-complete -F _cachesim COMMANDS
+complete -F _cachesim NAMES
 """
+
+
+def filled(form, cases, commands):
+    """The text of a shell, with its cases and the names of the program and the tools."""
+    names = " ".join(name for name in commands if " " not in name)
+    return form.replace("CASES", "\n".join(cases)).replace("NAMES", names)
 
 
 def bash(commands):
     """A function that is called for each word: it gives words, files or nothing for the value of an
-    option, else options. One that may be repeated has a plus in the list of names."""
-    names, values = [], {}
-    for line, command in commands.items():
-        known = [name + "+" * option.repeats for option in command.options for name in option.names]
-        for option in filter(lambda option: option.value, command.options):
-            words = " ".join(dict(option.words)) or "FILE" * option.is_file
-            values.setdefault(words, []).extend(f"'{line} {name}'" for name in option.names)
-        if command.words:
-            values[" ".join([*dict(command.words), *known])] = [f"'{line} '"]
-        names.append(f"    '{line}') names='{' '.join(known)}' files={'1' * command.files} ;;")
-    cases = (f"    {' | '.join(lines)}) words='{words}' ;;" for words, lines in values.items())
-    text = BASH.replace("NAMES", "\n".join(names)).replace("VALUES", "\n".join(cases))
-    return text.replace("COMMANDS", " ".join(name for name in commands if " " not in name))
+    option, else options."""
+
+    def entries(option):
+        value = "=" + (",".join(dict(option.words)) or "FILE" * option.is_file)
+        names = {name.lstrip("-") if {f"-{name}", name[1:]} & {*option.names} else name: None
+                 for name in option.names}
+        return (f"{name}{'+' * option.repeats}{value * bool(option.value)}" for name in names)
+
+    cases = []
+    for line, takes in commands.items():
+        options = " ".join(each for option in takes.options for each in entries(option))
+        cases.append(f"    '{line}') first='{' '.join(dict(takes.words))}'"
+                     f" files={'1' * takes.files} options='{options}' ;;")
+    return filled(BASH, cases, commands)
 
 
 ZSH = """\
-#compdef COMMANDS
+#compdef NAMES
 # completion of cachesim and its tools, made from their help
 
 local line=$service
@@ -178,55 +164,39 @@ def zsh(commands):
     def bare(text):
         return re.sub(r"([][\\:])", r"\\\1", text)
 
-    def one_of(words):
-        texts = (f'{word}\\:"{bare(meaning)}"' if meaning else word for word, meaning in words)
-        return f"(({' '.join(texts)}))" if any(dict(words).values()) else f"({' '.join(texts)})"
-
-    def specs(command):
-        for option in command.options:
-            action = one_of(option.words) if option.words else "_files" if option.is_file else " "
+    def specs(takes):
+        for option in takes.options:
+            words = f"(({bare(listed(option.words, ':'))}))" if option.words else ""
+            action = words or "_files" * option.is_file or " "
             value = f":{bare(option.value)}:{action}" if option.value else ""
-            apart = "(- *)" if "--help" in option.names else f"({' '.join(option.names)})"
+            start = "*" if option.repeats else f"({' '.join(option.names)})"
             for name in option.names:
-                sign = "=" if name.startswith("--") else "+" if len(name) == 2 else ""
-                start = "*" if option.repeats else apart
-                yield f"{start}{name}{sign if value else ''}[{bare(option.text)}]{value}"
-        yield from [f"1:word:{one_of(command.words)}"] if command.words else []
-        yield from ["*:file:_files"] if command.files else []
+                yield f"{start}{name}{signs(name)[0] if value else ''}[{bare(option.text)}]{value}"
+        if takes.words:
+            yield f"1:word:(({bare(listed(takes.words, ':'))}))"
+        if takes.files:
+            yield "*:file:_files"
 
-    cases = (" \\\n    ".join([f"'{line}') _arguments", *map(shlex.quote, specs(command))]) + " ;;"
-             for line, command in commands.items())
-    text = ZSH.replace("CASES", "\n".join(cases))
-    return text.replace("COMMANDS", " ".join(name for name in commands if " " not in name))
+    cases = (" \\\n    ".join([f"'{line}') _arguments", *map(shlex.quote, specs(takes))]) + " ;;"
+             for line, takes in commands.items())
+    return filled(ZSH, cases, commands)
 
 
 def fish(commands):
     """A line for each first word, and for each option of each command."""
-
-    def quoted(text):
-        return "'" + text.replace("\\", "\\\\").replace("'", "\\'") + "'"
-
-    def rest_of(option):
-        for name in option.names:
-            short = f"-s {name[1:]}" if len(name) == 2 else f"-o {name[1:]}"
-            yield f"-l {name[2:]}" if name.startswith("--") else short
-        texts = (f'{word}\\t"{meaning}"' if meaning else word for word, meaning in option.words)
-        if option.words:
-            yield f"-x -a {quoted(' '.join(texts))}"
-        elif option.value:
-            yield "-r -F" if option.is_file else "-x"
-        yield f"-d {quoted(option.text)}"
-
     lines = ["# completion of cachesim and its tools, made from their help",
              "complete -c cachesim -f"]
-    for line, command in commands.items():
+    for line, takes in commands.items():
         name, _, word = line.partition(" ")
         start = f"complete -c {name}"
         first = f"{start} -n __fish_use_subcommand"
-        if word:
-            start += f" -n '__fish_seen_subcommand_from {word}'"
-        elif not command.files:
-            start = first
-        lines += [" ".join([start, *rest_of(option)]) for option in command.options]
-        lines += [f"{first} -f -a {each} -d {quoted(text)}" for each, text in command.words]
+        if not takes.files:
+            start = f"{start} -n '__fish_seen_subcommand_from {word}'" if word else first
+        for option in takes.options:
+            names = (f"{signs(name)[1]} {name.lstrip('-')}" for name in option.names)
+            values = shlex.quote(listed(option.words, "\\t"))
+            value = f"-x -a {values}" if option.words else "-r -F" if option.is_file else "-x"
+            lines.append(" ".join([start, *names, *[value] * bool(option.value), "-d",
+                                   shlex.quote(option.text)]))
+        lines += [f"{first} -f -a {each} -d {shlex.quote(text)}" for each, text in takes.words]
     return "\n".join([*lines, ""])

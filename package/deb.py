@@ -9,8 +9,8 @@ import subprocess
 import tempfile
 import textwrap
 
-from shared import TOP, changes, tool
-from stage import stage
+from install import stage
+from shared import TOP, changes, tool, tools
 
 
 def commit(form):
@@ -33,18 +33,19 @@ def changelog(maintainer):
 
 
 def make(folder):
-    """Makes the package in a folder, and returns its path."""
-    stage(folder / "usr", is_whole=True)
-    (folder / "usr/share/zsh/site-functions").rename(folder / "usr/share/zsh/vendor-completions")
-    shutil.copytree(TOP / "package/debian", folder / "debian")
+    """Has debhelper make the package in a folder, where it leaves it beside what it is made of."""
+    own = folder / "cachesim"
+    if len(stage(own / "usr")) < len(tools()):
+        tool.fail("a package is made whole, or not at all")
+    (own / "usr/share/zsh/site-functions").rename(own / "usr/share/zsh/vendor-completions")
+    shutil.copytree(TOP / "package/debian", own / "debian")
     known = {**os.environ, "DEB_RULES_REQUIRES_ROOT": "no"}
     if epoch := known.get("SOURCE_DATE_EPOCH") or commit("%ct"):
         known["SOURCE_DATE_EPOCH"] = epoch  # debhelper takes the day of the version else
     mail, maintainer = known.get("DEBEMAIL"), commit("%an <%ae>") or "nobody <nobody@localhost>"
     maintainer = f"{known.get('DEBFULLNAME') or mail} <{mail}>" if mail else maintainer
-    lines = "\n".join(changelog(maintainer))
-    (folder / "debian/changelog").write_text(lines, encoding="utf-8")
-    ran = subprocess.run(["debian/rules", "binary"], cwd=folder, env=known, text=True, check=False,
+    (own / "debian/changelog").write_text("\n".join(changelog(maintainer)), encoding="utf-8")
+    ran = subprocess.run(["debian/rules", "binary"], cwd=own, env=known, text=True, check=False,
                          stdin=subprocess.DEVNULL, stdout=subprocess.PIPE, stderr=subprocess.STDOUT)
     if ran.returncode:
         tool.fail(f"debhelper failed:\n{ran.stdout}")

@@ -2,6 +2,7 @@
 tool is its help, whose blocks become paragraphs, lists of words with their meanings, and code."""
 
 import re
+import textwrap
 
 from shared import TOP, changes, said, tool
 
@@ -10,8 +11,13 @@ BEGINNING = re.compile(r"# [^\n]*\n\n(?P<first>.*?)\n\n(?: {4}[^\n]*\n)+\n"
                        r"Contents: .*?\n\n(?=## )", re.S)
 # a cell of tbl(1) that shows at most so many characters
 SHORT = re.compile(r"T\{\n((?:(?:\\f.)*(?:\\\(..|\\?.)){0,24}(?:\\f.)*)\nT\}")
-# a word and its meaning, or an option whose meaning is in the lines below
-MEANING = re.compile(r"( *)(\S.*?)(?: {2,}([^ #].*))?")
+# how a help begins: with the call and behind blanks what it does, also below argparse's usage; with
+# that usage and a sentence; or with a sentence and an indented call
+FORMS = (r"(?:usage: (?:.+\n)+\n)?(?P<call>NAME .*?) {3,}(?P<what>(?s:.*?))(?:\n\n|$)",
+         r"usage: (?P<call>NAME (?s:.*?))\n\n(?=(?P<what>(?s:.*)))",
+         r"(?P<what>(?:\S.*\n)+)\n +(?P<call>NAME (?s:.*?))\n\n")
+# how a list of options, or of words with their meanings, begins
+LIST = re.compile(r" *(?:-|\S+ {3,}\S)")
 WHERE = ("The folders examples and tests are in share/doc/cachesim, beside the share/man of this "
          "page.")
 
@@ -70,75 +76,37 @@ def flowing(text):
     return re.sub(r"`([^`]+)`", r"\\fB\1\\fR", plain(text))
 
 
-def depth(line):
-    return len(line) - len(line.lstrip())
-
-
-def listed(lines):
-    """The words with their meanings, as pairs, if the lines are such a list, else None."""
-    found = []
-    for number, line in enumerate(lines):
-        match = MEANING.fullmatch(line)
-        deeper = number + 1 < len(lines) and depth(lines[number + 1]) > depth(line)
-        if depth(line) == depth(lines[0]) and (match[3] or match[2].startswith("-") and deeper):
-            found.append([match[2], match[3] or ""])
-        elif found and depth(line) > depth(lines[0]):
-            found[-1][1] += "\n" + line.strip()
-        else:
-            return None
-    return [(word, meaning.strip()) for word, meaning in found]
-
-
 def block_of(block, names):
-    """A block of lines in roff: a list, a paragraph with what is indented below it, or code."""
-    lines = block.split("\n")
-    if pairs := listed(lines):
-        rows = (f".TP\n\\fB{plain(word)}\\fR\n{flowing(meaning)}" for word, meaning in pairs)
-        return "\n".join(rows)
-    flat = next((at for at, line in enumerate(lines) if line.startswith(" ")), len(lines))
-    if flat:
-        rest = ["\n".join(lines[flat:])] if flat < len(lines) else []
-        return "\n".join([".PP", flowing("\n".join(lines[:flat])),
-                          *(block_of(each, names) for each in rest)])
-    margin = min(map(depth, lines))
-    code = "\n".join(line[margin:] for line in lines)
-    code = re.sub(rf"(^ *(?:\$ )?|[|;&(] *)({names})(?= )", r"\1cachesim-\2", code, flags=re.M)
+    """A block of a help in roff: a list of words with their meanings, a paragraph, or code."""
+    text = textwrap.dedent(block)
+    if LIST.match(block):
+        entries = (re.split(r" {2,}|\n *|$", entry, maxsplit=1)
+                   for entry in re.split(r"\n(?=\S)", text))
+        return "\n".join(f".TP\n\\fB{plain(word)}\\fR\n" + flowing(re.sub(r"\n +", "\n", meaning))
+                         for word, meaning in entries)
+    if not block.startswith(" "):
+        return f".PP\n{flowing(text)}"
+    code = re.sub(rf"(^ *(?:\$ )?|[|;&(] *)({names})(?= )", r"\1cachesim-\2", text, flags=re.M)
     return f".PP\n.RS 4\n.EX\n{plain(code)}\n.EE\n.RE"
 
 
-def parts_of(name, text):
-    """How a tool is called, what it does, and the blocks of lines that say more. A help begins with
-    the call, and behind blanks what it does, also below argparse's usage; or with that usage and a
-    sentence; or with a sentence and an indented call."""
-    text = re.sub(rf"^{name} .*(?:\n {{9,}}.*)+", lambda lines: re.sub(r"\n +", " ", lines[0]),
-                  text, count=1, flags=re.M)
-    calls = what = ""
-    first, second, *rest = blocks = [*re.split(r"\n{2,}", text.strip("\n")), ""]
-    if first.startswith("usage: "):
-        calls, what, blocks = first[len("usage: "):], second, blocks[1:]
-    elif second.startswith(f"    {name}"):
-        calls, what, blocks = second, first, rest
-    if blocks[0].startswith(f"{name} "):
-        head, _, blocks[0] = blocks[0].partition("\n")
-        call, _, what = head.partition("  ")
-        calls = calls or call
-    # of several sentences the first; '..' ends none
-    what = re.split(r"(?<!\.)\.(?:\s|$)", what.strip())[0].replace("`", "").replace("\n", " ")
-    calls = " ".join(calls.split())
-    if not what or not calls.startswith(name):
-        tool.fail(f"{name}: the help begins with no call of {name} and what it does")
-    return calls, what, filter(None, blocks)
-
-
 def of_tool(name, text, names):
-    calls, what, blocks = parts_of(name, installed(text, names))
+    text = installed(text.strip("\n"), names)
+    found = next(filter(None, (re.match(form.replace("NAME", name), text) for form in FORMS)), None)
+    if not found:
+        tool.fail(f"{name}: the help begins with no call of {name} and what it does")
+    call = re.sub(r"\s+", " ", found["call"][len(name):])
+    # of several sentences the first; '..' ends none
+    what = re.sub(r"\s+", " ", re.split(r"(?<!\.)\.(?:\s|$)", found["what"])[0]).replace("`", "")
+    # what is indented below a paragraph is a block of its own
+    rest = re.sub(r"^(?!\S.* {2})(\S.*\n)(?= )", r"\1\n", text[found.end():], flags=re.M)
     version, day, _ = changes()[0]
-    where = [".PP", WHERE] if re.search(r"\b(?:examples|tests)/", text) else []
     return "\n".join([
         ".nr HY 0",
         f'.TH CACHESIM-{name.upper()} 1 {day.date()} "cachesim {version}" "User Commands"',
         ".ad l",
         ".SH NAME", f"cachesim\\-{plain(name)} \\- {plain(what[0].lower() + what[1:])}",
-        ".SH SYNOPSIS", f"\\fBcachesim\\-{plain(name)}\\fR{plain(calls[len(name):])}",
-        ".SH DESCRIPTION", *(block_of(block, names) for block in blocks),
-        ".SH SEE ALSO", "\\fBcachesim\\fR(1)", *where, ""])
+        ".SH SYNOPSIS", f"\\fBcachesim\\-{plain(name)}\\fR{plain(call)}",
+        ".SH DESCRIPTION", *(block_of(block, names) for block in re.split(r"\n{2,}", rest)),
+        ".SH SEE ALSO", "\\fBcachesim\\fR(1)",
+        *([".PP", WHERE] if re.search(r"\b(?:examples|tests)/", text) else []), ""])

@@ -18,7 +18,8 @@ import signal
 import socket
 import subprocess
 import sys
-import time
+
+from base import comes
 
 CONFIGURATION = """\
 ClusterName=one
@@ -51,15 +52,6 @@ KillWait=2
 NodeName={host} NodeAddr=127.0.0.1 CPUs={processors} RealMemory={memory} State=UNKNOWN
 PartitionName=main Nodes=ALL Default=YES MaxTime=INFINITE State=UP
 """
-
-
-def comes(condition, seconds):
-    """Whether a condition comes true within some time."""
-    for _ in range(10 * seconds):
-        if condition():
-            return True
-        time.sleep(0.1)
-    return False
 
 
 def free_ports():

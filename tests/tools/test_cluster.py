@@ -1,6 +1,5 @@
 """A sweep by a cluster: with a stand-in for its scheduler, and with a Slurm of one node."""
 
-import ast
 import gzip
 import os
 import pathlib
@@ -55,6 +54,7 @@ class Submitting(ToolTest):
         self.note.mkdir()
         self.command("sbatch", SBATCH)
         self.command("scancel", f'#!/bin/sh\necho "$@" >> {self.note}/cancelled\n')
+        self.command("squeue", "#!/bin/sh\nexit 1\n")
 
     def command(self, name, text):
         (self.note / name).write_text(text)
@@ -150,7 +150,6 @@ class Submitting(ToolTest):
     def test_a_trace_that_is_rewritten_before_again(self):
         """The pages that are there are of another one: nothing is submitted."""
         trace, rewrites = self.rewriting()
-        self.command("squeue", "#!/bin/sh\nexit 1\n")
         (self.note / "spoil-2").touch()
         self.good(self.submit("run", 3, trace, *SPACE))
         self.good(self.run_command("bash", "-c", rewrites))
@@ -186,8 +185,7 @@ class Submitting(ToolTest):
 
     def test_again(self):
         """What failed or is missing, and no other page, by one command."""
-        self.good(self.submit("all", 3, TRACE, *SPACE))
-        self.command("squeue", "#!/bin/sh\nexit 1\n")
+        table = self.sweep(*SPACE, "-t", TRACE)
         for spoiled in (2,), (1, 3), (1, 2, 3):
             for number in spoiled:
                 (self.note / f"spoil-{number}").touch()
@@ -205,27 +203,21 @@ class Submitting(ToolTest):
             array = ",".join(map(str, spoiled))
             self.assertIn(f"--array={array}", self.options(first))
             self.assertIn(f"--dependency=afterok:{first}", self.options(first + 1))
-            table = (self.folder / "all/table.csv").read_text()
             self.assertEqual((made / "table.csv").read_text(), table)
             shutil.rmtree(made)
 
     def test_again_where_only_the_join_failed(self):
-        self.command("squeue", "#!/bin/sh\nexit 1\n")
+        (self.note / "spoil-0").touch()
         self.good(self.submit("run", 2, TRACE, *THREE))
-        lines = (self.folder / "run/table.csv").read_text().splitlines(keepends=True)
-        (self.folder / "run/table.csv").unlink()
-        self.write("run/part-1", "".join(lines[:2]))
-        self.write("run/part-2", "".join(lines[2:]))
-        for number in (1, 2):
-            state = self.run_command("stat", "-L", "-c", "%s %.9Y", TRACE).stdout
-            self.write(f"run/trace-{number}", state)
+        (self.note / "spoil-0").unlink()
+        self.assertFalse((self.folder / "run/table.csv").exists())
         said = self.good(self.submit("--again", "run"))
         self.assertEqual(said, f"job 9: {self.folder}/run/table.csv\n")
         self.assertEqual(self.options(9), ["--parsable", f"--chdir={self.folder}/run", ""])
-        self.assertEqual((self.folder / "run/table.csv").read_text(), "".join(lines))
+        table = (self.folder / "run/table.csv").read_text()
+        self.assertEqual(table, self.sweep(*THREE, "-t", TRACE))
 
     def test_again_is_refused(self):
-        self.command("squeue", "#!/bin/sh\n[ $* = '-h -j 7,8' ] || exit 1\n")
         self.refused(self.submit("--again", "none"), 1, "none is no folder that submit has made\n")
         for words in ["--again"], ["--again", "run", "2"]:
             self.refused(self.submit(*words), 2, "submit: ")
@@ -239,14 +231,6 @@ class Submitting(ToolTest):
         told = "sbatch: error: refused\nsubmit: no job was submitted\n"
         self.refused(self.submit("--again", "run"), 1, told)
         self.assertTrue((self.folder / "run/pages").exists())
-
-    def test_an_older_python(self):
-        """Its words are those of Python 3.6, and it ends in one line with one below 3.9."""
-        for path in CLUSTER / "submit", TOOLS / "lib/__init__.py":
-            ast.parse(path.read_text(), feature_version=(3, 6))
-        older = "import runpy, sys; sys.version_info = (3, 8, 10); sys.argv = ['submit']; "
-        ran = self.run_command("python3", "-c", f"{older}runpy.run_path('{CLUSTER / 'submit'}')")
-        self.refused(ran, 1, "submit: Python 3.9 or later is needed, and ", " is 3.8\n")
 
     def test_refused(self):
         (self.folder / "there").mkdir()

@@ -42,20 +42,28 @@ class Installing(MakeTest):
     def below(self):
         return sorted(str(path.relative_to(self.to)) for path in self.to.rglob("*"))
 
-    def install(self, *arguments):
-        ran = self.make("install", f"DESTDIR={self.to}", "PREFIX=/usr", *arguments, env=self.path)
-        self.assertEqual(ran.returncode, 0, ran.stderr)
-        return ran
-
-    def uninstall(self, status=0):
-        ran = self.make("uninstall", f"DESTDIR={self.to}", "PREFIX=/usr", env=self.path)
+    def target(self, name, status):
+        ran = self.make(name, f"DESTDIR={self.to}", "PREFIX=/usr", env=self.path)
         self.assertEqual(ran.returncode, status, ran.stderr)
         return ran
 
+    def install(self, status=0):
+        return self.target("install", status)
+
+    def uninstall(self, status=0):
+        return self.target("uninstall", status)
+
     def test_install_and_uninstall_leave_nothing(self):
+        """A later version takes the place of an earlier one, which had another tool."""
         self.few_tools()
+        lines = "# old    does what was once needed", "sed -n '2s/# //p' \"$0\""
+        old = self.executable(self.top / "tools/old", *lines)
+        self.install()
+        self.assertTrue((self.to / "usr/bin/cachesim-old").exists())
+        old.unlink()
         ran = self.install()
         self.assertIn("lowdown is missing (apt-get install lowdown)", ran.stderr)
+        self.assertEqual([path for path in self.below() if "old" in path], [])
         program = self.to / "usr/bin/cachesim"
         got = program.read_bytes(), program.stat().st_mode & 0o777
         self.assertEqual(got, (PROGRAM.read_bytes(), 0o755))
@@ -82,11 +90,10 @@ class Installing(MakeTest):
     def test_a_prefix_in_the_home_folder(self):
         self.few_tools()
         env = {**self.path, "HOME": str(self.to)}
-        ran = self.make("install", "PREFIX=~/.local", env=env)
-        self.assertEqual(ran.returncode, 0, ran.stderr)
-        self.assertEqual(ran.stdout.splitlines()[-1], f"installed: {self.to}/.local/bin/cachesim")
-        self.assertTrue((self.to / ".local/bin/cachesim").exists())
-        self.assertEqual(self.make("uninstall", "PREFIX=~/.local", env=env).returncode, 0)
+        for target, told in ("install", f"installed: {self.to}/.local/bin/cachesim"), (
+                "uninstall", f"removed from {self.to}/.local"):
+            ran = self.make(target, "PREFIX=~/.local", env=env)
+            self.assertEqual((ran.returncode, ran.stdout.splitlines()[-1]), (0, told), ran.stderr)
         self.assertEqual(self.below(), [])
 
     def test_what_was_there_stays(self):
@@ -104,18 +111,6 @@ class Installing(MakeTest):
         added = ["usr/share/man/man1", "usr/share/man/man1/other.1"]
         self.assertEqual(self.below(), sorted([*before, *added]))
 
-    def test_a_later_version_takes_the_place_of_an_earlier_one(self):
-        self.few_tools()
-        lines = "# old    does what was once needed", "sed -n '2s/# //p' \"$0\""
-        old = self.executable(self.top / "tools/old", *lines)
-        self.install()
-        self.assertTrue((self.to / "usr/bin/cachesim-old").exists())
-        old.unlink()
-        self.install()
-        self.assertEqual([path for path in self.below() if "old" in path], [])
-        self.uninstall()
-        self.assertEqual(self.below(), [])
-
     def test_a_fault_on_the_way_harms_nothing_else(self):
         """After it, as where files grow too large or one is in the way, both can be done again."""
         self.few_tools()
@@ -126,9 +121,7 @@ class Installing(MakeTest):
         ran = self.run_command("bash", "-c", line, env=self.known(self.path))
         self.assertIn("install: ", ran.stderr.decode())
         self.assertEqual((ran.returncode, self.below()), (2, before))
-        ran = self.make("install", f"DESTDIR={self.to}", "PREFIX=/usr", env=self.path)
-        self.assertEqual(ran.returncode, 2)
-        self.assertIn("File exists", ran.stderr)
+        self.assertIn("File exists", self.install(2).stderr)
         self.assertTrue((self.to / "usr/bin/cachesim").exists())
         self.uninstall()
         self.assertEqual(self.below(), before)
@@ -151,35 +144,35 @@ class Installing(MakeTest):
             self.assertEqual(list(temporary.iterdir()), [])
 
     def test_each_c_part_is_compiled(self):
-        parts, called = set(), re.compile(r"\bcompiled\(\"([\w.-]+)\"")
+        """And without a compiler the tools that have one are left out."""
+        parts = set()
         for path in (TOP / "tools").rglob("*"):
             if path.is_file() and os.access(path, os.X_OK) and path.parent.name != "out":
-                parts |= set(called.findall(path.read_text(errors="replace")))
+                text = path.read_text(errors="replace")
+                parts |= set(re.findall(r"\bcompiled\(\"([\w.-]+)\"", text))
         self.assertIn("to-din", parts)
         ran = self.make("tools")
         self.assertEqual((ran.returncode, ran.stderr), (0, ""))
         self.assertEqual(parts - {path.name for path in self.top.glob("tools/out/*")}, set())
-
-    def test_without_a_compiler_tools_are_left_out(self):
         self.few_tools()
+        shutil.rmtree(self.top / "tools/out")
         shutil.copy(TOP / "tools/to-din", self.top / "tools")
         self.path["CC"] = "absent-cc"
         ran = self.install()
-        self.assertIn("absent-cc is missing: apt-get install absent-cc\n", ran.stderr)
-        told = "install: left out, since their C parts are not compiled: to-din\n"
-        self.assertIn(told, ran.stderr)
+        for told in ("absent-cc is missing: apt-get install absent-cc\n",
+                     "install: left out, since their C parts are not compiled: to-din\n"):
+            self.assertIn(told, ran.stderr)
         self.assertFalse([path for path in self.below() if "to-din" in path])
 
-    def test_no_program_is_built(self):
-        (self.top / "crates/cachesim/out/cachesim").unlink()
-        ran = self.run_command(self.top / "package/target", "install", self.to)
-        self.refused(ran, 1, "install: no program ", "crates/cachesim/out/cachesim: make builds it")
-
-    def test_a_place_that_cannot_be_written(self):
+    def test_what_cannot_be_installed(self):
+        """A place that can't be written; a program that is not built."""
         self.few_tools()
         ran = self.make("install", "PREFIX=/proc/cachesim", env=self.path)
         self.assertEqual(ran.returncode, 2)
         self.assertIn("install: /proc/cachesim: No such file or directory", ran.stderr)
+        (self.top / "crates/cachesim/out/cachesim").unlink()
+        ran = self.run_command(self.top / "package/target", "install", self.to)
+        self.refused(ran, 1, "install: no program ", "crates/cachesim/out/cachesim: make builds it")
 
 
 class Installed(ToolTest):
@@ -193,14 +186,13 @@ class Installed(ToolTest):
         for path in there:
             self.assertNotRegex(str(path), r"\.[ch]$|/package(/|$)|\.md$|Makefile")
         paths = [*(TOP / "tools").glob("*"), *(TOP / "tools/lab").glob("*")]
-        wanted = [path for path in paths if path.is_file() and os.access(path, os.X_OK)]
-        for path in wanted:
-            # a tool with a C part may be left out where there is no C compiler
-            link = installed() / "bin" / f"cachesim-{path.name}"
-            self.assertTrue(link.resolve().is_file(), link)
-            for completion in (f"bash-completion/completions/{link.name}",
-                               f"fish/vendor_completions.d/{link.name}.fish"):
-                self.assertIn(link.name, (installed() / "share" / completion).read_text())
+        for path in paths:
+            if path.is_file() and os.access(path, os.X_OK):
+                link = installed() / "bin" / f"cachesim-{path.name}"
+                self.assertTrue(link.resolve().is_file(), link)
+                for completion in (f"bash-completion/completions/{link.name}",
+                                   f"fish/vendor_completions.d/{link.name}.fish"):
+                    self.assertIn(link.name, (installed() / "share" / completion).read_text())
         for link in (installed() / "bin").glob("cachesim-*"):
             env = {"PATH": f"{link.parent}:{os.environ['PATH']}", "PYTHONDONTWRITEBYTECODE": ""}
             ran = self.run_command(link, "--help", env=env)
@@ -217,12 +209,11 @@ class Installed(ToolTest):
         env = {"CACHESIM": "", "PATH": f"{self.folder}:/usr/bin:/bin"}
         replayed = ("-s", 1, "-E", 2, "-b", 4, "-t", TOP / "tests/cases/inputs/handout.lackey")
         one = "--pow2 --bsize 16 --sets 1 --assoc 1-4 --size 0-1k".split()
-        swept = self.run_command(PROGRAM, "sweep", *space, "-t", din).stdout.decode()
         shown = self.run_tool("lab/replay", *replayed).stdout.decode()
         csim, judged = TOP / "tests/tools/lab/csim.py", "15 of 15 right\n"
         note = "note: no .csim_results was written; the lab's printSummary would have done so\n"
         for arguments, text in (
-            (("bin/cachesim-sweep-parallel", 2, din, *space), swept),
+            (("bin/cachesim-sweep-parallel", 2, din, *space), self.sweep(*space, "-t", din)),
             (("bin/cachesim-sweep-parallel", "--pages", 1, *one), f"{' '.join(one)} --rows 3\n"),
             (("bin/cachesim-replay", *replayed), shown),
             (("bin/cachesim-grade", csim, lackey), note + judged),

@@ -81,67 +81,54 @@ class Page(ToolTest):
         self.assertIn("docs/manual.md doesn't begin with", fail.call_args[0][0])
 
 
+# helps, with parts of their pages, in which roff has a backslash before each dash
+HELPS = {
+    # a list, a paragraph and code, in which each tool has the name that it is installed with
+    "some-tool [--fast] FILE    does `this` and that\n\n"
+    "A text in\ntwo lines.\n.5 is no request.\n\n"
+    "  --fast   runs\n           away\n  --slow   walks\n\nAn example:\n\n"
+    "    cachesim sweep -t x | best - --front\n      tools/best it \\\n        -- on\n": (
+        ".SH NAME\ncachesim-some-tool - does this and that\n",
+        ".SH SYNOPSIS\n\\fBcachesim-some-tool\\fR [--fast] FILE\n",
+        ".PP\nA text in\ntwo lines.\n\\&.5 is no request.\n.TP\n\\fB--fast\\fR\nruns\naway\n",
+        ".TP\n\\fB--slow\\fR\nwalks\n.PP\nAn example:\n",
+        ".EX\ncachesim sweep -t x | cachesim-best - --front\n",
+        "\n  cachesim-best it \\e\n    -- on\n.EE\n"),
+    # argparse's usage, and its list of options
+    "usage: some-tool [-h]\n                 TABLE\n\nChooses the best. Well.\n\n"
+    "options:\n  -h, --help  shows this\n  --long NAME\n              a name\n": (
+        ".SH NAME\ncachesim-some-tool - chooses the best\n",
+        "\\fBcachesim-some-tool\\fR [-h] TABLE\n",
+        ".PP\noptions:\n.TP\n\\fB-h, --help\\fR\nshows this\n.TP\n"
+        "\\fB--long NAME\\fR\na name\n"),
+    # that usage before the call
+    "usage: some-tool [-h] TABLE\n\nsome-tool TABLE    chooses the best. Well.\n\n"
+    "It writes a line.\n\n    plot it; trace --map x sort | tools/best - && (best x)\n": (
+        ".SH NAME\ncachesim-some-tool - chooses the best\n",
+        "\\fBcachesim-some-tool\\fR TABLE\n.SH DESCRIPTION\n.PP\nIt writes a line.\n",
+        "\ncachesim-plot it; cachesim-trace --map x sort | cachesim-best - && (cachesim-best x)\n",
+        ".EE\n.RE\n.SH SEE ALSO\n\\fBcachesim\\fR(1)\n"),
+    # a sentence before the call; what has two blanks and is no list
+    "Cuts a\ntable X.. well. Well.\n\n    some-tool [--even] JOBS\n              MORE\n\n"
+    "It writes a line.\n\n    I  0400,8\n     L 04,8\n": (
+        ".SH NAME\ncachesim-some-tool - cuts a table X.. well\n",
+        "\\fBcachesim-some-tool\\fR [--even] JOBS MORE\n.SH DESCRIPTION\n.PP\nIt writes a line.\n",
+        ".EX\nI  0400,8\n L 04,8\n.EE\n"),
+    # where the examples are
+    **{f"some-tool FILE    does it\n\n    some-tool {name}\n": (
+        "\n.PP\nThe folders examples and tests are in share/doc/cachesim, beside the share/man of "
+        "this page.\n",) for name in ("examples/sort.din", "tests/cases/inputs/handout.lackey")},
+}
+
+
 class ToolPages(ToolTest):
     """The pages of the tools."""
 
-    def judge(self, text, *parts, end=""):
-        """The page of a tool with this help has some parts, in which roff has a backslash before
-        each dash, and an end."""
-        page = pages.of_tool("some-tool", text, "best|plot|trace")
-        for part in parts:
-            self.assertIn(part.replace("-", "\\-"), page)
-        self.assertTrue(page.endswith(end), page)
-
-    def test_blocks(self):
-        self.judge(
-            "some-tool [--fast] FILE    does `this` and that\n\n"
-            "A text in\ntwo lines.\n.5 is no request.\n\n"
-            "  --fast   runs\n           away\n  --slow   walks\n\nAn example:\n\n"
-            "    cachesim sweep -t x | best - --front\n      tools/best it \\\n        -- on\n",
-            ".SH NAME\ncachesim-some-tool - does this and that\n",
-            ".SH SYNOPSIS\n\\fBcachesim-some-tool\\fR [--fast] FILE\n",
-            ".PP\nA text in\ntwo lines.\n\\&.5 is no request.\n.TP\n\\fB--fast\\fR\nruns\naway\n",
-            ".TP\n\\fB--slow\\fR\nwalks\n.PP\nAn example:\n",
-            ".EX\ncachesim sweep -t x | cachesim-best - --front\n",
-            "\n  cachesim-best it \\e\n    -- on\n.EE\n",
-        )
-
-    def test_usage_of_argparse(self):
-        self.judge(
-            "usage: some-tool [-h]\n                 TABLE\n\nChooses the best. Well.\n\n"
-            "options:\n  -h, --help  shows this\n  --long NAME\n              a name\n",
-            ".SH NAME\ncachesim-some-tool - chooses the best\n",
-            "\\fBcachesim-some-tool\\fR [-h] TABLE\n",
-            ".PP\noptions:\n.TP\n\\fB-h, --help\\fR\nshows this\n.TP\n"
-            "\\fB--long NAME\\fR\na name\n",
-        )
-
-    def test_usage_of_argparse_before_the_call(self):
-        self.judge(
-            "usage: some-tool [-h] TABLE\n\nsome-tool TABLE    chooses the best. Well.\n\n"
-            "It writes a line.\n\n    plot it; trace --map x sort | tools/best - && (best x)\n",
-            ".SH NAME\ncachesim-some-tool - chooses the best\n",
-            "\\fBcachesim-some-tool\\fR [-h] TABLE\n.SH DESCRIPTION\n.PP\nIt writes a line.\n",
-            # each tool of an example has the name that it is installed with
-            "\ncachesim-plot it; cachesim-trace --map x sort | cachesim-best - && "
-            "(cachesim-best x)\n",
-            end="\n.SH SEE ALSO\n\\fBcachesim\\fR(1)\n",
-        )
-
-    def test_a_sentence_before_the_call(self):
-        self.judge(
-            "Cuts a\ntable X.. well. Well.\n\n    some-tool [--even] JOBS\n              MORE\n\n"
-            "It writes a line.\n",
-            ".SH NAME\ncachesim-some-tool - cuts a table X.. well\n",
-            "\\fBcachesim-some-tool\\fR [--even] JOBS MORE\n.SH DESCRIPTION\n.PP\n"
-            "It writes a line.\n",
-        )
-
-    def test_where_the_examples_are(self):
-        for name in "examples/sort.din", "tests/cases/inputs/handout.lackey":
-            self.judge(f"some-tool FILE    does it\n\n    some-tool {name}\n",
-                       end="\nThe folders examples and tests are in share/doc/cachesim, beside the "
-                       "share/man of this page.\n")
+    def test_parts(self):
+        for text, parts in HELPS.items():
+            page = pages.of_tool("some-tool", text, "best|plot|trace")
+            for part in parts:
+                self.assertIn(part.replace("-", "\\-"), page)
 
     def test_a_help_that_tells_nothing(self):
         for text in ("", "another-tool    does it\n", "some-tool\n"):
@@ -157,10 +144,6 @@ class ToolPages(ToolTest):
         for tool in tools:
             with self.subTest(tool.name):
                 self.write("page.1", page_of(f"cachesim-{tool.name}"))
-                if tool.is_symlink():
-                    page = f".so man1/cachesim-{tool.resolve().name}.1\n"
-                    self.assertEqual(page_of(f"cachesim-{tool.name}"), page)
-                    continue
                 named = self.good(self.run_command("lexgrog", "page.1"))
                 self.assertIn(f'"cachesim-{tool.name} - ', named)
                 self.good(self.run_command("man", "--warnings", "-l", "page.1", env=SHOWN))
