@@ -115,11 +115,6 @@ class Totals(ByLineTest):
                     rows = self.rows(trace, *words)
                     self.assertEqual(self.sums(rows)[1:], [int(wanted[at]) for at in (5, 7, 8, 9)])
 
-    def test_more_lines_than_a_set_may_have(self):
-        rows = self.rows(SORT, *cache("8m", 64))
-        self.assertEqual({(row["capacity"], row["conflict"]) for row in rows}, {("", "")})
-        self.assertEqual(rows[0]["misses"], rows[0]["compulsory"])
-
 
 @base.needs("binutils", "gcc", "llvm")
 class Rows(ByLineTest):
@@ -321,25 +316,17 @@ class Programs(ByLineTest):
             self.assertEqual(counts[line], [2048, misses, 256, capacity])
             self.assertNotIn(1, counts)
 
-    def test_two_threads(self):
-        source = trace_base.TRACED / "words.cpp"
-        program = built(source, "-fpie", "-pie", compiler="g++")
-        given = *self.traced(program), *cache("4k", 64, "-l1-dassoc", "4")
-        rows = self.rows(*given, "--by", "line,function,object")
-        own = [row for row in rows if row["function"] == "count(int)"]
-        # a word is read by each of 16,384 rounds of the loop, of which each thread has half
-        heap = sum(row["references"] for row in own if row["object"] == "(heap)")
-        self.assertGreaterEqual(heap, 3 * 16384)
-        of_tree = [row["line"] for row in own if "stl_tree.h:" in row["inlined"]]
-        self.assertTrue(any(line.startswith("words.cpp:") for line in of_tree))
-        self.assertIn("libc.so.6", " ".join(row["object"] for row in rows))
-        lines = source.read_text().splitlines()
-        number, = (number for number, line in enumerate(lines, 1) if "found[words[i]" in line)
-        self.assertGreaterEqual(self.by_source(source.name, *given)[number][0], 3 * 16384)
-
     def test_data_of_a_thread_follow_its_own_fetches(self):
-        given = self.traced(built(trace_base.TRACED / "own_arrays.c", "-fpie", "-pie"))
-        rows = self.rows(*given, *cache("1k", 32), "--by", "function,object")
+        self.arrays("cc")
+
+    @base.needs(*base.CROSS)
+    def test_another_machine(self):
+        self.arrays("aarch64-linux-gnu-gcc")
+
+    def arrays(self, compiler):
+        """Of three threads, each with one of its own."""
+        program = built(trace_base.TRACED / "own_arrays.c", "-fpie", "-pie", compiler=compiler)
+        rows = self.rows(*self.traced(program), *cache("1k", 32), "--by", "function,object")
         found = sorted(row for row in self.values(rows, "function", "object", "references")
                        if row[1].endswith("_array"))
         self.assertEqual(found, [(name, f"{name}_array", 2 * 120 * 1000) for name in ARRAYS])
@@ -351,21 +338,6 @@ class Programs(ByLineTest):
             given = self.traced(program, env={"QEMU_GUEST_BASE": place})
             found = self.references(self.rows(*given, *cache("1k", 32), "--by", "object"))
             self.assertEqual((found["a"], found["b"]), (1024, 1024))
-
-    def test_a_map_that_can_not_be_had(self):
-        none, lackey = ["--map", "none/map"], ["--map=map", "--with=lackey"]
-        for words, fault in ((none, "none/map can't be written"), (lackey, "--map are for QEMU")):
-            ran = self.run_tool("trace", *words, "true")
-            self.assertEqual(ran.returncode, 125)
-            self.assertIn(fault, ran.stderr.decode())
-
-    @base.needs(*base.CROSS)
-    def test_another_machine(self):
-        source = trace_base.TRACED / "own_arrays.c"
-        program = built(source, "-fpie", "-pie", compiler="aarch64-linux-gnu-gcc")
-        rows = self.rows(*self.traced(program), *cache("1k", 32), "--by", "line,object")
-        found = self.references(row for row in rows if row["line"].startswith("own_arrays.c:"))
-        self.assertEqual([found[f"{name}_array"] for name in ARRAYS], [2 * 120 * 1000] * 3)
 
 
 class Traces(reading_base.Reading, ByLineTest):
@@ -410,19 +382,16 @@ class Faults(ByLineTest):
             ran = self.run_tool(*given, stdin=f"{start}2 {'0' * 600_000}".encode())
             self.refused(ran, 1, f"cachesim: line {fetches + 1}: ")
 
-    def test_no_fetch_before(self):
+    def test_few_lines(self):
+        """None, and a reference without a fetch."""
+        self.assertEqual(self.rows("-", *cache(64, 16), stdin=b""), [])
         rows = self.rows("-", *cache(64, 16), stdin=b"0 10\n")
         self.assertEqual([row["line"] for row in rows], ["(no fetch before it)"])
 
-    def test_nothing(self):
-        self.assertEqual(self.rows("-", *cache(64, 16), stdin=b""), [])
-
-    def test_no_room_for_the_table(self):
-        """It is told in a line."""
-        words = f"by-line - {CACHE}".split()
-        self.on_full_device(*words)
+    def test_half_an_answer(self):
+        """Of the part in C: it is no table."""
         base.copy_tools(self.folder, "by-line")
         self.good(self.run_command(self.folder / "by-line", "--build"))
         self.executable("out/by-line", "echo cell - -1 1 1 1 0")
-        ran = self.run_command(self.folder / words[0], *words[1:])
+        ran = self.run_command(self.folder / "by-line", "-", *CACHE.split())
         self.ends(ran, 1, "by-line: the references can't be counted\n")

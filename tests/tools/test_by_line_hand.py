@@ -21,7 +21,7 @@ static inline __attribute__((always_inline)) void set(int at) {
 }
 int main(void) {
     set(1);
-    return numbers[0];
+    for (int at = 1; at < 4; at++) numbers[0] += at; return numbers[0];
 }
 """
 # most of what this runs without optimization is code of headers, in functions of their own
@@ -72,32 +72,33 @@ class Hand(ByLineTest):
 
 
 class Misses(Hand):
-    def test_fully_associative_fifo(self):
-        """Capacity misses are those of LRU: it keeps block 1 where FIFO evicts it for block 3."""
-        text = b"0 10\n0 20\n0 10\n0 30\n0 10\n"
-        for more in (("-l1-dassoc", "2", "-l1-drepl", "f"), ("-l1-dassoc=2", "--l1-drepl=f")):
-            self.assertEqual(self.counts(text, *cache(32, 16), *more), [5, 4, 3, 0, 1])
-
-    def test_most_lines_that_a_set_may_have(self):
-        """Two blocks share a set, of the 65,536 ones; a fully associative cache holds both."""
-        self.assertEqual(self.counts(b"0 0\n0 10000\n0 0\n", *cache("64k", 1)), [3, 3, 2, 0, 1])
+    def test_counts(self):
+        two = cache(32, 16, "-l1-dassoc", "2")
+        different = (f"0 10\n0 {0x10 + (1 << bits):x}\n0 10\n" for bits in (32, 36, 48, 60, 63))
+        fifo = b"0 10\n0 20\n0 10\n0 30\n0 10\n"
+        for text, options, *counts in (
+            # LRU keeps block 1 where FIFO evicts it for block 3, which is no capacity miss
+            (fifo, (*two, "-l1-drepl", "f"), 5, 4, 3, 0, 1),
+            (fifo, (*cache(32, 16), "-l1-dassoc=2", "--l1-drepl=f"), 5, 4, 3, 0, 1),
+            # two blocks share one of 65,536 sets, which are the most lines that a set may have
+            (b"0 0\n0 10000\n0 0\n", cache("64k", 1), 3, 3, 2, 0, 1),
+            # blocks whose addresses differ in a high bit alone
+            *((text.encode(), two, 3, 2, 2, 0, 0) for text in different),
+        ):
+            with self.subTest(text, options=options):
+                self.assertEqual(self.counts(text, *options), counts)
         rows = self.rows("-", *cache("128k", 1), stdin=b"0 0\n0 20000\n0 0\n")
         self.assertEqual(self.values(rows, *COUNTS), [(3, 3, 2, "", "")])
 
-    def test_blocks_alike_in_their_lowest_bits(self):
-        """Those whose addresses differ above 32, 36 or 60 bits are different ones."""
-        for bits in (32, 36, 48, 60, 63):
-            text = f"0 10\n0 {0x10 + (1 << bits):x}\n0 10\n".encode()
-            self.assertEqual(self.counts(text, *cache(32, 16, "-l1-dassoc", "2")), [3, 2, 2, 0, 0])
-
     def test_the_cache_that_counts(self):
         """Without --at it is the first of l1-d, l1-i, l1-u and l2-u."""
-        text = b"2 40\n0 10\n0 20\n2 40\n"
         first, second = cache(64, 16, place="l1-i"), cache(256, 16, place="l2-u")
-        self.assertEqual(self.counts(text, *first, *ONE_LINE, *second)[:2], [2, 2])
-        self.assertEqual(self.counts(text, *second, *first)[:2], [2, 1])
-        self.assertEqual(self.counts(text, *second, *cache(64, 16, place="l1-u"))[:2], [4, 3])
-        self.assertEqual(self.counts(text, *first, *ONE_LINE, *second, "--at", "l2-u")[:2], [3, 3])
+        for options, *counts in (
+            ((*first, *ONE_LINE, *second), 2, 2), ((*second, *first), 2, 1),
+            ((*second, *cache(64, 16, place="l1-u")), 4, 3),
+            ((*first, *ONE_LINE, *second, "--at", "l2-u"), 3, 3),
+        ):
+            self.assertEqual(self.counts(b"2 40\n0 10\n0 20\n2 40\n", *options)[:2], counts)
 
 
 class Objects(Hand):
@@ -116,17 +117,18 @@ class Objects(Hand):
             rows = self.rows("-", "--by", "object", *ONE_LINE, stdin=reads(places))
             self.assertEqual(self.values(rows, "object", "references"), [(name, len(places))])
 
-    def test_share(self):
-        """Of five references four miss, of which one is to the stack; so 25 per cent are."""
-        rows = self.by_object(b"0 10\n0 10\n0 1010\n0 10\n0 20\n", *ONE_LINE)
-        got = self.values(rows, "object", "references", "misses", "share")
-        self.assertEqual(got, [("(heap)", 4, 3, "75.000"), ("(stack)", 1, 1, "25.000")])
-
-    def test_the_most_misses_first(self):
-        """Also where they are in another order as texts."""
-        text = b"0 10\n0 20\n" * 4 + b"0 10\n" + b"0 1010\n0 1020\n" * 5
-        got = self.values(self.by_object(text, *ONE_LINE), "object", "misses")
-        self.assertEqual(got, [("(stack)", 10), ("(heap)", 9)])
+    def test_rows(self):
+        """The most misses first, also where they are in another order as texts. Of four misses one,
+        which is to the stack, is 25 per cent."""
+        for text, *rows in (
+            (b"0 10\n0 10\n0 1010\n0 10\n0 20\n",
+             ("(heap)", 4, 3, "75.000"), ("(stack)", 1, 1, "25.000")),
+            (b"0 10\n0 20\n" * 4 + b"0 10\n" + b"0 1010\n0 1020\n" * 5,
+             ("(stack)", 10, 10, "52.632"), ("(heap)", 9, 9, "47.368")),
+        ):
+            found = self.by_object(text, *ONE_LINE)
+            names = "object", "references", "misses", "share"
+            self.assertEqual(self.values(found, *names), rows)
 
     def test_a_fetch_is_of_its_own_instruction(self):
         for place, text in (("l1-u", b"2 40\n0 10\n2 44\n"), ("l1-i", b"2 40\n2 44\n")):
@@ -142,22 +144,19 @@ class Evictions(Hand):
         got = self.values(rows, "object", "evicted-by-object", "misses", "share")
         self.assertEqual(got, list(wanted))
 
-    def test_share(self):
-        """The stack's block evicts that of the heap, and this the stack's: 25 per cent each."""
-        text = b"0 10\n0 1010\n0 10\n0 1010\n"
-        self.evict(text, ("(heap)", "(stack)", 1, "25.000"), ("(stack)", "(heap)", 1, "25.000"))
-
-    def test_the_most_misses_first(self):
-        """Of 12 misses two are compulsory, as of 11; 10 of all 23 are 43.478 per cent."""
-        text = b"0 1010\n0 1020\n" * 5 + b"0 1010\n" + b"0 10\n0 20\n" * 6
-        first, second = ("(heap)", "(heap)", 10, "43.478"), ("(stack)", "(stack)", 9, "39.130")
-        self.evict(text, first, second)
-
-    def test_after_a_flush(self):
-        """The next miss is compulsory, whoever had evicted the block; then it is told again."""
-        text = b"0 10\n0 1010\n4 0\n0 10\n"
-        self.evict(text)
-        self.evict(text + b"0 1010\n0 10\n", ("(heap)", "(stack)", 1, "20.000"))
+    def test_evictions(self):
+        """The stack's block evicts that of the heap, and this the stack's. Of 12 misses two are
+        compulsory, as of 11, and 10 of all 23 are 43.478 per cent. After a flush the next miss is
+        compulsory, whoever had evicted the block; then it is told again."""
+        flushed = b"0 10\n0 1010\n4 0\n0 10\n"
+        for text, *wanted in (
+            (b"0 10\n0 1010\n0 10\n0 1010\n",
+             ("(heap)", "(stack)", 1, "25.000"), ("(stack)", "(heap)", 1, "25.000")),
+            (b"0 1010\n0 1020\n" * 5 + b"0 1010\n" + b"0 10\n0 20\n" * 6,
+             ("(heap)", "(heap)", 10, "43.478"), ("(stack)", "(stack)", 9, "39.130")),
+            (flushed,), (flushed + b"0 1010\n0 10\n", ("(heap)", "(stack)", 1, "20.000")),
+        ):
+            self.evict(text, *wanted)
 
     def test_a_write_that_brings_no_block_in(self):
         """The block stays away by the same eviction, so the next miss is told if it was ever in."""
@@ -201,7 +200,6 @@ class Sources(Hand):
         return ("-", "--program", program, *cache("1k", 16, "-l1-dassoc", "64")), text
 
     def test_inlined(self):
-        """In callgrind's format a count stands at the innermost line."""
         given, text = self.inlined()
         text = f"{text}0 3000\n0 4000\n0 5000\n0 6000\n".encode()
         names = "line", "inlined", "function", "references", "misses", "share"
@@ -210,8 +208,6 @@ class Sources(Hand):
             ("inlined.c:6", "inlined.c:3", "main", 2, 1, "16.667"),
             ("inlined.c:7", "", "main", 2, 1, "16.667"),
         ])
-        counts = self.by_source("inlined.c", *given, stdin=text)
-        self.assertEqual(counts, {3: [2, 1, 1, 0], 7: [2, 1, 1, 0]})
 
     @base.needs("valgrind")
     def test_callgrind(self):
@@ -247,19 +243,6 @@ class Sources(Hand):
         told = rf"\A(\rby-line: 0\.0 million lines )+\r\x1b\[K{table}\Z"
         self.assertRegex(ran.stdout.decode(), told)
         self.good(self.run_command("bash", "-c", f"({feed}) | {words}"))
-
-    def test_files_of_one_name(self):
-        """They are called by as much of their paths as tells them apart; each keeps its counts."""
-        for folder, function in (("a", "int main(void)"), ("b", "int other(void)")):
-            (self.folder / folder).mkdir()
-            self.write(f"{folder}/same.c", f"/*\f*/ {function} {{ return 1; }}\n")
-        program = self.compiled("a/same.c", "b/same.c")
-        first, other = (trace_base.symbols_of(program)[name][0] for name in ("main", "other"))
-        text = f"2 {first:x}\n0 10\n0 10\n2 {other:x}\n0 20\n".encode()
-        given = "-", "--program", program, *ONE_LINE
-        rows = self.rows(*given, "--by", "line", stdin=text)
-        self.assertEqual(self.references(rows, "line"), {"a/same.c:1": 2, "b/same.c:1": 1})
-        self.assertEqual(self.by_source("b/same.c", *given, stdin=text), {1: [1, 1, 1, 0]})
 
     @base.needs("g++")
     def test_code_of_headers(self):
@@ -322,15 +305,17 @@ class Sources(Hand):
         self.assertIn(re.sub(r"(\d+)", r"w.cc:\1", "32 29 26 23 .. 14 11 8 5"), inlined)
 
     def test_without_llvm(self):
-        """Binutils' own command names lines too. A warning tells of it, and of absent lines."""
+        """Binutils' own command names lines too, and tells the parts of a loop in one line apart. A
+        warning tells of it, and of absent lines."""
         program = self.compiled("inlined.c", text=INLINED)
         (self.folder / "bin").mkdir()
         for path in pathlib.Path("/usr/bin").iterdir():
             if not path.name.startswith("llvm-"):
                 (self.folder / "bin" / path.name).symlink_to(path)
-        text = fetches([self.address_of(program, 7)]) + b"0 10\n"
+        text = fetches([self.address_of(program, "7 .discriminator")]) + b"0 10\n"
         given = "by-line", "-", "--program", program, *ONE_LINE
         expected = self.good(self.run_tool(*given, stdin=text))
+        self.assertIn("inlined.c:7,,main,2,", expected)
         ran = self.run_tool(*given, stdin=text, env={"PATH": str(self.folder / "bin")})
         self.ends(ran, 0, "by-line: llvm-addr2line is missing: apt-get install llvm; addr2line may "
                           "name a wrong file for code of headers\n", expected)
@@ -358,14 +343,6 @@ class Sources(Hand):
         self.ends(self.run_tool(*given, stdin=text), 0,
                   f"by-line: {program} is newer than map: if it was built again since, its names "
                   "and lines are wrong; then trace it again\n", table)
-
-    def test_a_loop_in_one_line(self):
-        """Of such a line binutils tell the parts apart, by a number behind the line's own."""
-        lines = "int main(void) {", "int sum = 0;", "for (int i = 0; i < 4; i++) sum += i;"
-        program = self.compiled("loop.c", text="\n".join([*lines, "return sum;", "}", ""]))
-        part = self.address_of(program, "3 .discriminator")
-        rows = self.rows("-", "--program", program, *ONE_LINE, stdin=fetches([part]))
-        self.assertEqual(self.values(rows, "line", "function"), [("loop.c:3", "main")])
 
     def test_data_without_a_name(self):
         """Between two variables and behind the last one they are those of the program."""

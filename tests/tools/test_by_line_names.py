@@ -83,27 +83,31 @@ class Functions(Names):
     def test_of_one_name(self):
         """They are apart, with and without lines, optimized at link time or not; others keep their
         names."""
-        for flags in (["-g"], ["-g0"], ["-g", "-flto"]):
+        for flags, *lines in (
+            (["-g"], "a.c:3", "b.c:3"), (["-g", "-flto"], "a.c:3", "b.c:3"),
+            (["-g0"], "(help (a.c))", "(help (b.c))"),
+        ):
             with self.subTest(flags=flags):
                 self.compiled(*flags, *self.statics())
                 found = [*self.places(r"help(?:\.lto_priv\.\d)?"), *self.places("main")]
                 wanted = {"help (a.c)": 1, "help (b.c)": 2, "main": 3}
                 self.assertEqual(self.counted(found), wanted)
+                wanted = dict(zip(lines, (1, 2)))
+                self.assertEqual(self.counted(found[:2], by="line"), wanted)
+                variables = self.objects(self.places(r"own(?:\.lto_priv\.\d)?"))
+                self.assertEqual(variables, {"own (a.c)": 1, "own (b.c)": 1})
         self.assertEqual(self.counted(self.places(r"help.*")[:1]), {"help": 1})
 
-    def test_without_lines_in_the_column_of_lines(self):
-        self.compiled(*self.statics())
-        wanted = {"(help (a.c))": 1, "(help (b.c))": 2}
-        self.assertEqual(self.counted(self.places("help"), by="line"), wanted)
-
     def test_files_of_one_name(self):
+        """They are called by as much of their paths as tells them apart; each keeps its counts."""
         main, *_ = self.statics()
         for name in "ab":
             os.mkdir(self.folder / name)
             os.rename(self.folder / f"{name}.c", self.folder / name / "own.c")
         self.compiled("-g", main, "a/own.c", "b/own.c")
-        wanted = {"help (a/own.c)": 1, "help (b/own.c)": 2}
-        self.assertEqual(self.counted(self.places("help")), wanted)
+        for by, *names in (("function", "help (a/own.c)", "help (b/own.c)"),
+                           ("line", "a/own.c:3", "b/own.c:3")):
+            self.assertEqual(self.counted(self.places("help"), by=by), dict(zip(names, (1, 2))))
 
     def test_of_a_header(self):
         """The copies of a header's function are one function."""

@@ -222,7 +222,6 @@ class Faults(HeapTest):
 
     def test_files_that_can_not_be_written(self):
         program = blocks()
-        self.fault(self.trace("--heap", "none/heap", program), 125, "none/heap can't be written")
         self.fault(self.trace("--heap", "/dev/full", program), 125, "can't be written")
         copy = shutil.copy(program, self.folder / "copy")
         for words, told in ((("-o", "heap", "--heap", "heap", program), b"are one file"),

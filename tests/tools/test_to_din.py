@@ -14,7 +14,7 @@ import subprocess
 import tempfile
 from itertools import chain
 
-from base import EXAMPLES, PROGRAM, TOOLS, ToolTest, copy_tools, needs
+from base import EXAMPLES, PROGRAM, TOOLS, ToolTest, needs
 
 SAMPLES = EXAMPLES / "formats"
 SPACE = "--bsize 16-64 --sets 1-16 --assoc 1-4 --size 64-4k".split()
@@ -234,6 +234,9 @@ class Formats(ToDin):
                 self.assertIn(f"`{sample}`", (SAMPLES / "README.md").read_text())
 
     def test_bad_lines(self):
+        """NUL, which ends the list of Dinero's labels in C, is none of them."""
+        told = "line 1: not a line of Dinero IV's extended din format: ? 0x10 8"
+        self.faulty("dinero", told, stdin=b"\0 0x10 8\n")
         for form, cases in BAD.items():
             good, told = next(iter(GOOD[form].items()))
             lines = {case.replace("{}", at) for case in cases.split("|") for at in NOT_HEXADECIMAL}
@@ -268,11 +271,6 @@ class Formats(ToDin):
         for at in (8, 9):
             bad = third[:at] + b"\2" + third[at + 1:]
             self.faulty("champsim", "record 3: not a record of ChampSim", stdin=whole + bad)
-
-    def test_dinero_label(self):
-        """NUL, which ends the list of the labels in C, is none."""
-        told = "line 1: not a line of Dinero IV's extended din format: ? 0x10 8"
-        self.faulty("dinero", told, stdin=b"\0 0x10 8\n")
 
     def test_lackey_as_the_program_reads_it(self):
         for name in ("transpose.lackey", "blocks.lackey", "formats/lackey.txt"):
@@ -335,24 +333,21 @@ class Streams(ToDin):
         disassembled = re.sub(b"(?m)^.*: 3 .*\n", b"", (SAMPLES / "spike.txt").read_bytes())
         self.faulty("spike", "no access", stdin=disassembled)
 
-    def test_names(self):
-        text = (SAMPLES / "pin.txt").read_bytes()
-        for name in ("a trace", "-t", "--help", "a trace.gz", "-t.gz"):
-            (self.folder / name).write_bytes(gzip.compress(text) if name.endswith(".gz") else text)
-            self.assertEqual(self.din("pin", name), COPY_DATA)
-        self.assertEqual(self.din("pin", "-", stdin=text), COPY_DATA)
-
     @needs("xz-utils", "zstd")
-    def test_packed(self):
-        for packer, ending in (("xz", ".xz"), ("zstd", ".zst")):
-            name = f"-a trace{ending}"
-            packed = self.run_command(packer, "-c", SAMPLES / "champsim.bin").stdout
+    def test_names_and_packed_traces(self):
+        text = (SAMPLES / "champsim.bin").read_bytes()
+        packers = {".gz": "gzip", ".xz": "xz", ".zst": "zstd"}
+        for name in ("a trace", "-t", "--help", "a trace.gz", "-t.gz", "-a trace.xz", "-a.zst"):
+            packer = packers.get(pathlib.Path(name).suffix)
+            packed = self.run_command(packer, "-c", stdin=text).stdout if packer else text
             self.write(name, packed)
             self.assertEqual(self.din("champsim", name), COPY)
-            self.write(name, packed[:-9])
-            ran = self.run_tool("to-din", "champsim", name)
-            self.assertTrue(ran.stderr.endswith(f"to-din: {name} can't be unpacked\n".encode()))
-            self.assertEqual((ran.returncode, ran.stdout.endswith(SPOILED)), (1, True))
+            if packer:
+                self.write(name, packed[:-9])
+                ran = self.run_tool("to-din", "champsim", name)
+                self.assertTrue(ran.stderr.endswith(f"to-din: {name} can't be unpacked\n".encode()))
+                self.assertEqual((ran.returncode, ran.stdout.endswith(SPOILED)), (1, True))
+        self.assertEqual(self.din("champsim", "-", stdin=text), COPY)
 
 
 class Faults(ToDin):
@@ -386,21 +381,6 @@ class Faults(ToDin):
         told = re.findall(r"(?m)^  ([a-z0-9]+) {2,}", self.good(self.run_tool("to-din", "--help")))
         formats = re.findall(r'(?m)^    \{"(\w+)"', (TOOLS / "lib/to-din.c").read_text())
         self.assertEqual(sorted(told), formats)
-
-    def test_missing_packages(self):
-        """A copy that was not compiled yet, and a path with next to nothing."""
-        copy_tools(self.folder, "to-din")
-        path = self.folder / "bin"
-        path.mkdir()
-        few = {"tool": self.folder / "to-din", "env": {"PATH": str(path)}}
-        self.faulty("pin", "to-din: make is missing: apt-get install make", **few)
-        for name in "cat make mkdir mv rm sh".split():
-            (path / name).symlink_to(shutil.which(name))
-        self.faulty("pin", "to-din: cc is missing: apt-get install gcc", **few)
-        din = self.good(self.run_command(few["tool"], "pin", SAMPLES / "pin.txt"))
-        self.assertEqual(din.splitlines(), COPY_DATA)
-        (self.folder / "trace.xz").touch()
-        self.faulty("pin trace.xz", "to-din: xz is missing: apt-get install xz-utils", **few)
 
     def test_an_interrupt(self):
         pipes = dict.fromkeys(("stdin", "stdout", "stderr"), subprocess.PIPE)

@@ -10,7 +10,7 @@ import shutil
 import signal
 import subprocess
 
-from base import PROGRAM, TOOLS, copy_tools
+from base import PROGRAM, TOOLS, comes, copy_tools
 from trace_base import SPACE, TRACED, TraceTest, program_of
 
 QEMU = f"qemu-{platform.machine()}"
@@ -56,17 +56,6 @@ class StandIn(TraceTest):
         lines = [f"{label} {at:x}\n" for label, at in pairs]
         self.writes("".join(lines), *(f"{label}:{at:x}" for label, at in pairs))
 
-    def test_an_access_in_both_ways_is_a_read_and_a_write(self):
-        self.writes("2 40\n0 1000\n1 1000\n2 44\n1 18\n", "2:40", "3:1000", "2:44", "1:18")
-
-    def test_kinds(self):
-        steps = ("2:40", "0:8", "2:44", "3:10", "1:18")
-        for kind, lines in (("u", "2 40\n0 8\n2 44\n0 10\n1 10\n1 18\n"),
-                            ("d", "0 8\n0 10\n1 10\n1 18\n"), ("i", "2 40\n2 44\n")):
-            self.writes(lines, *steps, options=("--kind", kind))
-            ran = self.in_shell(f'trace --kind={kind} "$PROGRAM" {" ".join(steps)} | head -20')
-            self.assertEqual(self.good(ran), lines + "0 0\n")
-
     def has_symbols(self, *lines, start="401000"):
         """Has nm tell these lines of a program, and readelf where its code starts; in the run that
         is at 7000000000."""
@@ -102,20 +91,22 @@ class StandIn(TraceTest):
     def test_a_part_that_never_begins(self):
         self.has_symbols("401100 T first")
         for step in ("call", "exit:9", "kill", "exec:exit 3"):
+            told = "trace: first was never called, or only inlined\n"
             ran = self.steps("2:10", "0:20", step, options=("--from", "first"))
-            self.fault(ran, 125, "first was never called, or only inlined")
-            self.assertEqual(ran.stdout, b"trace: first was never called, or only inlined\n")
+            self.ends(ran, 125, told, told)
 
     def test_names_of_functions(self):
         self.has_symbols(
             "401100 T twice", "401200 t twice", "401300 T same@A", "401300 T same@@B",
-            "401400 i chosen", "401500 W walk(int)", "401600 T a(int)", "401700 T a(char)")
+            "401400 i chosen", "401500 W walk(int)", "401600 T a(int)", "401700 T a(char)",
+            "402100 D numbers")
         steps = ("2:7000000300", "2:7000000500", "2:7000000600")
         for name, at in (("same", 300), ("walk", 500), ("walk(int)", 500), ("a(int)", 600)):
             self.writes(f"2 7000000{at}\n", *steps, options=("--from", name, "--count", "1"))
         for name, fault in (
             ("twice", "2 functions twice"), ("a", "2 functions a"),
-            ("none", "no function none: those of shared"),
+            *((name, f"no function {name}: those of shared libraries can't be named")
+              for name in ("none", "sam", "ame", "walk()", ".*", "numbers")),
             ("chosen", "several functions chosen, of which one is chosen when it is loaded"),
         ):
             self.fails(f"{self.program} has {fault}", steps=steps, options=("--from", name))
@@ -133,49 +124,29 @@ class StandIn(TraceTest):
     def test_more_than_all_blocks_hold(self):
         count = 64 * 4096 * 3 + 5
         for end, status in (((), 0), (("kill",), 137), (("exit:9",), 9)):
-            ran = self.steps(f"many:{count}", *end)
-            self.assertEqual((ran.returncode, ran.stderr), (status, b""))
-            self.assertEqual(ran.stdout.decode(), "".join(f"0 {at:x}\n" for at in range(count)))
+            lines = "".join(f"0 {at:x}\n" for at in range(count))
+            self.ends(self.steps(f"many:{count}", *end), status, "", lines)
 
     def test_skip_and_count(self):
-        ended_by_count = (0, 1), (4095, 3), (4096, 4096), (1, 19999), (0, 20000)
+        """Also next to the ends of what QEMU hands over at once."""
+        ended_by_count = (0, 1), (4095, 3), (4096, 3), (4097, 4096), (1, 19999), (0, 20000)
         for skip, count in ended_by_count + ((5, 20000), (19999, 7), (0, "00020001")):
-            end = 0 if (skip, count) in ended_by_count else 9
+            status = 0 if (skip, count) in ended_by_count else 9
             ran = self.steps("many:20000", "exit:9", options=("--skip", skip, "--count", count))
-            self.assertEqual((ran.returncode, ran.stderr), (end, b""))
             lines = "".join(f"0 {at:x}\n" for at in range(20000)[skip:][:int(count)])
-            self.assertEqual(ran.stdout.decode(), lines)
-
-    def test_where_a_trace_begins_after_a_skip(self):
-        """At each of some thousand references, also at the ends of what QEMU hands over at once."""
-        for skip in (999, 1000, 1001, 4095, 4096, 4097, 8192, 12345):
-            ran = self.steps("many:20000", options=("--skip", skip, "--count", 3))
-            lines = "".join(f"0 {at:x}\n" for at in range(skip, skip + 3))
-            self.ends(ran, 0, "", lines)
+            self.ends(ran, status, "", lines)
 
     def test_nothing_is_left_by_skip(self):
         """A trace of nothing would give a table of zeros."""
         for skip, steps in (20000, "many:20000"), (999999, "many:20000 exit:9"), (1, "0:1 kill"):
-            ran = self.steps(*steps.split(), options=("--skip", skip))
-            self.fault(ran, 125, "trace: --skip omits all references of the program\n")
-            self.assertEqual(ran.stdout, ran.stderr)
+            told = "trace: --skip omits all references of the program\n"
+            self.ends(self.steps(*steps.split(), options=("--skip", skip)), 125, told, told)
 
     def test_count_ends_the_program(self):
         for steps in ("loop", "call wait", "call ignore wait"):
             ran = self.steps("many:5000", *steps.split(), options=("--count", "4000"))
             self.assertEqual(self.good(ran).count("\n"), 4000)
             self.no_process_is_left()
-
-    def test_statuses(self):
-        for steps, status, did in (
-            (["exit:0"], 0, ""), (["exit:250"], 250, ""), (["kill"], 137, ""),
-            (["fork", "exit:4"], 4, "forked, and what its children"),
-            (["exec:exit 3"], 3, "became another by exec, and what that"),
-        ):
-            ran = self.steps("0:1", *steps)
-            message = f"trace: the program {did} did is not in the trace\n" if did else ""
-            self.assertEqual((ran.returncode, ran.stdout), (status, b"0 1\n"))
-            self.assertEqual(ran.stderr.decode(), message)
 
     def test_the_programs_own_output(self):
         steps = ("2:1", "say:own words")
@@ -187,9 +158,7 @@ class StandIn(TraceTest):
             (("--program-output", "-o ut"), "2 1\n", "", {"-o ut": "own words\n"}),
             (("--program-output=o", "--output", "t"), "", "", {"t": "2 1\n", "o": "own words\n"}),
         ):
-            ran = self.steps(*steps, options=options)
-            wrote = ran.stdout.decode(), ran.stderr.decode()
-            self.assertEqual((ran.returncode, *wrote), (0, out, err))
+            self.ends(self.steps(*steps, options=options), 0, err, out)
             for name, text in files.items():
                 self.assertEqual((self.folder / name).read_text(), text)
 
@@ -199,19 +168,6 @@ class StandIn(TraceTest):
         ran = self.steps("2:1", "exec:ls /proc/self/fd", options=options)
         self.assertEqual(ran.returncode, 0)
         self.assertEqual((self.folder / "out").read_bytes(), natively)
-
-    def test_a_pipe_into_a_sweep(self):
-        table = self.sweep(*SPACE, stdin="".join(f"0 {at:x}\n" for at in range(30000)).encode())
-        ran = self.in_shell(f'trace "$PROGRAM" many:30000 | cachesim sweep {" ".join(SPACE)}')
-        self.assertEqual(self.good(ran), table + "0 0\n")
-
-    def test_no_sweep_takes_a_failed_trace_for_a_whole_one(self):
-        for line in ("trace nosuch", "trace --kind x true", "trace --nosuch 1 true",
-                     "FAKE_VERSION=1.1 trace true"):
-            ran = self.in_shell(f'{line} | cachesim sweep {" ".join(SPACE)}')
-            self.assertEqual(ran.stdout.split(b" ")[-1], b"1\n", line)
-            self.assertNotIn(b"bsize", ran.stdout)
-            self.assertIn(b"line 1: bad label", ran.stderr)
 
     def test_a_reader_that_goes_away(self):
         for step in ("loop", "many:3000000 wait"):
@@ -261,12 +217,18 @@ class StandIn(TraceTest):
             self.assertEqual(started.wait(60), 128 + number)
             self.assertEqual((self.folder / "trace.din").read_text().count("\n"), 9000)
 
+    def test_the_program_ends_with_the_tool(self):
+        started = self.begin("many:9000", "say:begun", "loop")
+        started.kill()
+        self.assertEqual(started.wait(60), -9)
+        self.no_process_is_left()
+
     def test_a_signal_while_the_last_lines_wait_for_a_reader(self):
         given = {"stdout": subprocess.PIPE, "bufsize": 0, "env": {**os.environ, **self.told}}
         arguments = [TOOLS / "trace", self.program, "many:30000"]
         with subprocess.Popen(arguments, **given) as started:
             started.stdout.read(1)
-            self.wait_until(lambda: self.processes() == [started.pid], "the program doesn't end")
+            self.assertTrue(comes(lambda: self.processes() == [started.pid]))
             started.terminate()
             self.assertEqual(started.wait(60), 143)
 
@@ -276,22 +238,16 @@ class StandIn(TraceTest):
         children = pathlib.Path(f"/proc/{started.pid}/task/{started.pid}/children")
         program, = map(int, children.read_text().split())
         stat = pathlib.Path(f"/proc/{program}/stat")
-        self.wait_until(lambda: ") S " in stat.read_text(), "the program waits for no empty block")
+        self.assertTrue(comes(lambda: ") S " in stat.read_text()))  # for an empty block
         before = (self.folder / "trace.din").read_text().count("\n")
         started.send_signal(signal.SIGINT)
         os.kill(program, signal.SIGKILL)
-        self.wait_until(lambda: ") Z " in stat.read_text(), "the program doesn't end")
+        self.assertTrue(comes(lambda: ") Z " in stat.read_text()))
         started.send_signal(signal.SIGCONT)
         self.assertEqual(started.wait(60), 137)
         lines = self.lines((self.folder / "trace.din").read_text())
         self.assertGreaterEqual(len(lines), before + 63 * 4096)  # what the blocks held
         self.assertEqual(lines, [("0", at) for at in (*range(5000), *range(len(lines) - 5000))])
-
-    def test_the_program_ends_with_the_tool(self):
-        started = self.begin("many:9000", "say:begun", "loop")
-        started.kill()
-        self.assertEqual(started.wait(60), -9)
-        self.no_process_is_left()
 
     def test_versions_and_plugins(self):
         for version, told in (("8.2.1", "8.2"), ("7.20.1", "7.20"), ("17.2", "17.2"),
@@ -301,22 +257,19 @@ class StandIn(TraceTest):
             self.writes("2 1\n", "2:1", options=["--any-version"], env=env)
         self.fails(QEMU, "without plugins", "--with lackey", env={"FAKE_HELP": "-strace"})
 
-    def test_a_version_that_does_not_tell_the_start_of_the_code(self):
+    def test_a_plugin_that_is_not_taken(self):
+        """By a QEMU that does not tell the start of the code, and by none."""
         self.qemu.unlink()
         self.qemu.symlink_to(program_of(TRACED / "fake_qemu.c", "-rdynamic", "-DWITHOUT_START"))
         self.has_symbols("401100 T main")
         self.writes("2 1\n", "2:1")
-        ran = self.steps("2:1", options=("--from", "main"))
-        told = b"trace: QEMU didn't take the plugin: see its message\n"
-        self.assertEqual((ran.returncode, ran.stdout), (125, told))
-        told = b"trace-plugin.so: --from, --to and --during want QEMU 7.1 or later\n"
-        self.assertIn(told, ran.stderr)
-
-    def test_a_plugin_that_is_not_taken(self):
+        told = "trace: QEMU didn't take the plugin: see its message\n"
+        why = "trace-plugin.so: --from, --to and --during want QEMU 7.1 or later\n"
+        self.ends(self.steps("2:1", options=("--from", "main")), 125, why + told, told)
         self.qemu.unlink()
         self.executable(self.qemu, "case $1 in --version) echo qemu version 7.2.0 ;; "
                         "-h) echo -plugin ;; *) exit 1 ;; esac")
-        self.fails("QEMU didn't take the plugin", steps=())
+        self.ends(self.steps(), 125, told, told)
 
     def test_a_folder_with_a_comma(self):
         tools = self.folder / "a,b c"
@@ -334,9 +287,6 @@ class StandIn(TraceTest):
         os.symlink(self.qemu, few / QEMU)
         self.writes("2 1\n", "2:1", env=env)
         self.fails(f"nm {missing} binutils", options=("--to", "main"), env=env)
-        copy_tools(self.folder, "trace")
-        ran = self.run_command(self.folder / "trace", self.program, env=env)
-        self.fault(ran, 125, f"cc {missing} gcc")
 
     def test_programs_that_cannot_run(self):
         elf = self.program.read_bytes()
@@ -389,17 +339,13 @@ class StandIn(TraceTest):
             ("--count= true", "--count"), ("--count=00 true", "--count takes"),
             ("--count 0 true", "--count takes a number above 0"), ("--with pin true", "--with"),
             ("--with lackey --libraries / true", "for QEMU"),
-            ("--with lackey --to main true", "for QEMU"),
+            *((f"--with lackey {part} main true", "for QEMU")
+              for part in ("--from", "--to", "--during")),
             ("--from '' true", "--from takes a function's name"),
         ):
-            ran = self.run_tool("trace", *shlex.split(words))
-            self.assertEqual(ran.returncode, 125)
-            self.assertIn(text, ran.stderr.decode())
+            self.fault(self.run_tool("trace", *shlex.split(words)), 125, text)
         told = "nosuch/file can't be written"
         self.refused(self.steps("2:1", options=("-o", "nosuch/file")), 125, told)
-        self.fails(told, options=("--program-output", "nosuch/file"))
+        for option in ("--program-output", "--map", "--heap"):
+            self.fails(told, options=(option, "nosuch/file"))
         self.writes("2 1\n", "2:1", options=["--"])
-
-    def test_it_compiles_without_a_warning(self):
-        program_of(TOOLS / "lib/trace/trace-plugin.c", "-shared", "-fPIC")
-        program_of(TOOLS / "lib/trace/trace-run.c")

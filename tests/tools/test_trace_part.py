@@ -26,8 +26,10 @@ class Parts(TraceTest):
     def place(self, program, function, base=0):
         return symbols_of(program)[function][0] + base if function else None
 
-    def same_as_cut(self, program, base=0, **given):
+    def same_as_cut(self, *flags, compiler="cc", **given):
         """Parts of a run have the lines that are cut from its whole trace."""
+        program = program_of(TRACED / "parts.c", *flags, compiler=compiler)
+        base = self.base_of(program, **given) if "-fpie" in flags else 0
         whole, _ = self.traced_to_file(program, **given)
         for begin, end in (("main", None), ("enter", "leave"), (None, "leave"), ("leave", "enter"),
                            ("leave", "leave")):
@@ -43,38 +45,17 @@ class Parts(TraceTest):
         first = rf"(?m)^(\w+)-\w+ \S+ 0+ .*{re.escape(str(program))}$"
         return int(re.search(first, (self.folder / "map").read_text())[1], 16)
 
-    def test_a_static_program(self):
-        self.same_as_cut(traced("parts"))
-
-    def test_a_program_with_libraries(self):
-        self.same_as_cut(program_of(TRACED / "parts.c"))
-
-    def test_position_independent_programs(self):
-        for flags in (("-fpie", "-pie"), ("-fpie", "-static-pie")):
-            program = program_of(TRACED / "parts.c", *flags)
-            self.same_as_cut(program, self.base_of(program))
-
-    def test_programs_that_qemu_has_moved(self):
-        given = {"env": {"QEMU_GUEST_BASE": "0x100000000000"}}
-        self.same_as_cut(traced("parts"), **given)
-        program = program_of(TRACED / "parts.c", "-fpie", "-pie")
-        self.same_as_cut(program, self.base_of(program, **given), **given)
+    def test_programs(self):
+        """Static and others, at places of their own or not, also where QEMU has moved all."""
+        for flags in (["-static"], [], ["-fpie", "-pie"], ["-fpie", "-static-pie"]):
+            self.same_as_cut(*flags)
+        for flags in (["-static"], ["-fpie", "-pie"]):
+            self.same_as_cut(*flags, env={"QEMU_GUEST_BASE": "0x100000000000"})
 
     @needs(*CROSS)
     def test_another_machine(self):
-        compiler = "aarch64-linux-gnu-gcc"
-        self.same_as_cut(traced("parts", compiler=compiler))
-        program = program_of(TRACED / "parts.c", "-fpie", "-pie", compiler=compiler)
-        self.same_as_cut(program, self.base_of(program))
-
-    def test_kinds_skip_and_count(self):
-        program, part = traced("parts"), ("--from", "enter", "--to", "leave")
-        lines, _ = self.traced_to_file(*part, program)
-        for kind, labels in (("u", "012"), ("d", "01"), ("i", "2")):
-            expected = [line for line in lines if line[0] in labels]
-            self.same(self.traced_to_file(*part, "--kind", kind, program)[0], expected)
-            some = (*part, f"--kind={kind}", "--skip=70", "--count=80")
-            self.same(self.traced_to_file(*some, program)[0], expected[70:150])
+        for flags in (["-static"], ["-fpie", "-pie"]):
+            self.same_as_cut(*flags, compiler="aarch64-linux-gnu-gcc")
 
     def test_the_calls_of_one_thread_count_for_all(self):
         program, part = traced("parts"), ("--from", "enter", "--to", "leave")
@@ -120,27 +101,16 @@ class Parts(TraceTest):
         ran = self.trace("--from", "walk", program)
         self.fault(ran, 125, f"{program} has no function walk: ", "; there is Tree::walk(int)\n")
 
-    def test_names_that_are_refused(self):
-        program = program_of(TRACED / "parts.c", "-fpie", "-pie")
-        for name in ("exit", "inside", "ente", "nter", "enter()", ".*"):
-            ran = self.trace("--from", "main", "--to", name, program)
-            told = f"{program} has no function {name}: those of shared libraries can't be named"
-            self.fault(ran, 125, told)
-        subprocess.run(["strip", "-o", self.folder / "stripped", program], check=True)
+    def test_stripped_programs(self):
+        """They have those that libraries use, if any."""
+        plain, program = (program_of(TRACED / "parts.c", "-fpie", "-pie", *more)
+                          for more in ((), ("-rdynamic",)))
+        subprocess.run(["strip", "-o", self.folder / "stripped", plain], check=True)
         ran = self.trace("--from", "main", "./stripped")
         self.fault(ran, 125, "./stripped has no function main: it is stripped")
-
-    def test_without_symbols_but_those_for_libraries(self):
-        program = program_of(TRACED / "parts.c", "-fpie", "-pie", "-rdynamic")
         subprocess.run(["strip", "-o", self.folder / "stripped", program], check=True)
         lines, _ = self.traced_to_file("--from", "enter", "--kind", "i", "--count", 1, "./stripped")
         self.assertEqual(lines, [("2", self.place(program, "enter", self.base_of(program)))])
-
-    def test_with_lackey(self):
-        told = "--from, --to, --during, --libraries, --any-version and --map are for QEMU"
-        for option in ("--from", "--to", "--during"):
-            ran = self.run_tool("trace", "--with", "lackey", option, "main", traced("parts"))
-            self.fault(ran, 125, told)
 
 
 @needs("qemu-user", "binutils")

@@ -1,7 +1,6 @@
 """Tracing programs by QEMU and by lackey."""
 
 import fcntl
-import itertools
 import os
 import pty
 import shutil
@@ -53,18 +52,6 @@ class Both:
         self.assertEqual({label for label, _ in only_fetches}, {"2"})
         self.assertEqual([at for _, at in only_fetches if within(main, at)], fetches)
 
-    def test_a_transposed_matrix(self):
-        program = program_of(EXAMPLES / "transpose.c", "-static")
-        corners = list(itertools.product(range(0, 32, 8), repeat=2))
-        order = {
-            (): itertools.product(range(32), repeat=2),
-            ("blocks",): [(r + i, c + j) for r, c in corners for i in range(8) for j in range(8)],
-        }
-        for arguments, pairs in order.items():
-            expected = [access for i, j in pairs
-                        for access in (("0", "a", 4 * (32 * i + j)), ("1", "b", 4 * (32 * j + i)))]
-            self.assertEqual(self.of_data(program, "a", "b", arguments=arguments), expected)
-
     def test_four_threads(self):
         rows = [[], [], [], []]
         for label, _, offset in self.of_data(traced("threads"), "rows"):
@@ -73,8 +60,12 @@ class Both:
         for row in rows:
             self.assertEqual(row, list(range(20000)))
 
-    def test_threads_that_take_turns(self):
-        self.assertEqual(self.of_data(traced("turns"), "rows"), places("1", "rows", 1000))
+    def test_writes_in_their_order(self):
+        """Of threads that take turns, and of one that closes all that it does not know."""
+        for name, array, count in (("turns", "rows", 1000), ("closes", "numbers", 20000)):
+            written = self.of_data(traced(name), array, arguments=["own file"])
+            self.assertEqual(written, places("1", array, count))
+        self.assertEqual((self.folder / "own file").read_text(), "own\n" * 37)
 
     def test_ways_to_end(self):
         program = traced("ends")
@@ -95,11 +86,6 @@ class Both:
         self.assertEqual(out, "child\nanother\n")
         written = self.own_data(lines, program, "parents", "childs")
         self.assertEqual(written, places("1", "parents", 27003))
-
-    def test_a_program_that_closes_what_it_does_not_know(self):
-        written = self.of_data(traced("closes"), "numbers", arguments=["own file"])
-        self.assertEqual(written, places("1", "numbers", 20000))
-        self.assertEqual((self.folder / "own file").read_text(), "own\n" * 37)
 
     def test_input_and_output(self):
         lines, out = self.traced_to_file("cat", stdin=b"some words\n")
@@ -127,12 +113,6 @@ class Both:
         program = shutil.copy(traced("ends"), self.folder / "ends")
         ran = self.in_shell(f'trace --program-output /dev/null "{program}" spin | head -1')
         self.assertRegex(self.good(ran), r"^2 [0-9a-f]+\n141 0\n$")
-        self.no_process_is_left()
-
-    def test_a_full_device(self):
-        program = shutil.copy(traced("ends"), self.folder / "ends")
-        ran = self.trace("-o", "/dev/full", "--program-output", "own", program, "spin")
-        self.refused(ran, 125, "trace: /dev/full: No space left on device\n")
         self.no_process_is_left()
 
     def test_a_signal_to_all_processes(self):
@@ -249,19 +229,12 @@ class ByLackey(Both, TraceTest):
 
 @needs("qemu-user", "valgrind")
 class SameTrace(TraceTest):
-    def between_marks(self, tracer, program, *arguments):
+    def between_marks(self, tracer, program):
         self.with_ = tracer
-        lines, _ = self.traced_to_file(program, *arguments)
+        lines, _ = self.traced_to_file(program)
         mark = ("1", symbols_of(program)["mark"][0])
         first = lines.index(mark)
         return lines[first + 1:lines.index(mark, first + 1)]
-
-    def test_a_transposed_matrix(self):
-        program = program_of(EXAMPLES / "transpose.c", "-static")
-        for arguments in ((), ("blocks",)):
-            lines = self.between_marks("qemu", program, *arguments)
-            self.assertEqual(lines, self.between_marks("lackey", program, *arguments))
-            self.assertGreater(len(lines), 8000)
 
     def test_a_sort(self):
         """All is the same, but that the stack lies elsewhere."""

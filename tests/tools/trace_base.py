@@ -8,9 +8,8 @@ import re
 import shutil
 import subprocess
 import tempfile
-import time
 
-from base import TOOLS, ToolTest, all_processes
+from base import TOOLS, ToolTest, all_processes, comes
 
 TRACED = pathlib.Path(__file__).parent / "traced"
 LINE = re.compile(r"[012] (0|[1-9a-f][0-9a-f]{0,15})\n")
@@ -113,17 +112,10 @@ class TraceTest(ToolTest):
             started.stdout.readline()
         return started
 
-    def wait_until(self, found, what):
-        for _ in range(600):
-            if found():
-                return
-            time.sleep(0.05)
-        self.fail(what)
-
     def processes(self):
         """Those whose arguments name a file of this test's folder."""
         folder = str(self.folder).encode()
         return [number for number, words in all_processes("cmdline") if folder in words]
 
     def no_process_is_left(self):
-        self.wait_until(lambda: not self.processes(), "the program still runs")
+        self.assertTrue(comes(lambda: not self.processes(), 30), "the program still runs")

@@ -12,10 +12,11 @@
 #include <stdlib.h>
 #include <string.h>
 #include <unistd.h>
+#include "din-line.h"
+#include "hexadecimal.h"
 
 enum { PIECE = 1 << 18, LONGEST = 1 << 24, RECORD = 64, SHOWN = 60 };
-enum { ACCESS = sizeof "0 0123456789abcdef" };
-enum label { READ, WRITE, FETCH };
+enum label { READ = '0', WRITE = '1', FETCH = '2' };
 
 static const char *name = "to-din";
 static char input[LONGEST + 1];  // of this only what the longest line needs is ever touched
@@ -48,15 +49,8 @@ static _Noreturn void fail(const char *form, ...) {
 }
 
 static void put(enum label label, uint64_t address) {
-    if (used > sizeof output - ACCESS) drain();
-    size_t digits = 1;
-    while (digits < 16 && address >> 4 * digits) digits++;
-    char *at = output + used;
-    *at++ = (char)('0' + label);
-    *at++ = ' ';
-    for (size_t i = digits; i--; address >>= 4) at[i] = "0123456789abcdef"[address & 15];
-    at[digits] = '\n';
-    used += digits + 3;
+    if (used > sizeof output - LONGEST_LINE) drain();
+    used = (size_t)(put_line(output + used, (char)label, address) - output);
     accessed = true;
 }
 
@@ -65,17 +59,9 @@ static void put(enum label label, uint64_t address) {
 // What is left of a line. Its end is an LF, at which whatever is read ends: few compare with `end`.
 struct line { const char *at, *end; };
 
-// a hexadecimal digit's value plus 1; 0 for other bytes
-static const unsigned char digit_of[256] = {
-    ['0'] = 1, ['1'] = 2, ['2'] = 3, ['3'] = 4, ['4'] = 5, ['5'] = 6, ['6'] = 7, ['7'] = 8,
-    ['8'] = 9, ['9'] = 10, ['a'] = 11, ['b'] = 12, ['c'] = 13, ['d'] = 14, ['e'] = 15, ['f'] = 16,
-    ['A'] = 11, ['B'] = 12, ['C'] = 13, ['D'] = 14, ['E'] = 15, ['F'] = 16,
-};
-
 static bool is_blank(char c) { return c == ' ' || c == '\t'; }
 static bool is_digit(char c) { return c >= '0' && c <= '9'; }
 static bool is_letter(char c) { return c >= 'a' && c <= 'z'; }
-static unsigned hexadecimal_digit(char c) { return digit_of[(unsigned char)c]; }
 static bool ended(const struct line *line) { return line->at >= line->end; }
 static bool word_ended(const struct line *line) { return ended(line) || is_blank(*line->at); }
 
@@ -97,12 +83,9 @@ static bool blanks(struct line *line) {
 }
 
 static bool hexadecimal(struct line *line, uint64_t *value) {
-    const char *from = line->at, *at = from;
-    uint64_t sum = 0;
-    for (unsigned digit; (digit = hexadecimal_digit(*at)); at++) sum = sum << 4 | (digit - 1);
-    line->at = at;
-    *value = sum;
-    return at > from && at - from <= 16;
+    const char *from = line->at;
+    line->at = past_hexadecimal(from, value);
+    return line->at > from && line->at - from <= 16;
 }
 
 static bool address(struct line *line, uint64_t *value) {
@@ -125,25 +108,17 @@ static bool decimal(struct line *line, uint64_t *value) {
 
 // ---- The formats: each tells whether a line is one of its format, and puts the line's accesses
 
-// 7ffd1230
-static bool addresses(struct line line) {
+static bool numbers(struct line line, bool (*reads)(struct line *, uint64_t *)) {
     uint64_t data;
     blanks(&line);
     if (begins(line, "#")) return true;
-    if (!address(&line, &data) || !ended(&line)) return false;
+    if (!reads(&line, &data) || !ended(&line)) return false;
     put(READ, data);
     return true;
 }
 
-// 2147291696
-static bool decimal_addresses(struct line line) {
-    uint64_t data;
-    blanks(&line);
-    if (begins(line, "#")) return true;
-    if (!decimal(&line, &data) || !ended(&line)) return false;
-    put(READ, data);
-    return true;
-}
+static bool addresses(struct line line) { return numbers(line, address); }          // 7ffd1230
+static bool decimal_addresses(struct line line) { return numbers(line, decimal); }  // 2147291696
 
 static uint64_t little_endian(const char *bytes) {
     uint64_t value = 0;
@@ -438,6 +413,7 @@ int main(int count, char **words) {
     const char *asked = count == 2 ? words[1] : "that";
     if (count) name = words[0];
     setvbuf(stdout, NULL, _IONBF, 0);
+    make_digits();
     for (size_t i = 0; i < sizeof formats / sizeof *formats; i++)
         if (!strcmp(asked, formats[i].name)) return convert(&formats[i]);
     failure = 2;

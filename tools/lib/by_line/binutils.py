@@ -14,6 +14,10 @@ LLVM = "llvm-addr2line"
 DEBUG_FOLDER = "/usr/lib/debug"
 LINK = re.compile(r"\.gnu_debuglink .*\n\s*Separate debug info file: (.*)\n\s*CRC value: 0x(\w+)")
 BUILD_ID = re.compile(r"Build ID: (\w\w)(\w+)")
+# a variable in what llvm-dwarfdump tells; its file, the entry that has its file, and its address
+VARIABLE = re.compile(r"0x(\w+): DW_TAG_variable\n((?: .*\n)*)")
+TOLD = (r'decl_file\t\("(.*)"\)', r"abstract_origin\t\(0x(\w+)",
+        r"location\t\(DW_OP_addr 0x(\w+)\)")
 # what ThinLTO adds to a name, with which nm leaves Rust's names as they are
 THIN_LTO = re.compile(r"\.llvm\.\d+(?=\.|$)")
 
@@ -52,8 +56,9 @@ def output_of(command, path, *options, text=None):
     of an ELF file; nothing of another."""
     if not is_elf(path):
         return ""
-    prefix = "" if command == LLVM else prefix_of(path)
-    package = "llvm" if command == LLVM else f"binutils-{prefix}".rstrip("-")
+    is_llvm = command.startswith("llvm-")
+    prefix = "" if is_llvm else prefix_of(path)
+    package = "llvm" if is_llvm else f"binutils-{prefix}".rstrip("-")
     return run([f"{prefix}-{command}" if prefix else command, *options, path], package, path, text)
 
 
@@ -71,6 +76,22 @@ def mended(names, path):
     lines = "".join(f"{THIN_LTO.sub('', name)}\n" for name in left)
     told = dict(zip(left, run(["c++filt", "-i"], "binutils", path, lines).splitlines()))
     return [told.get(name, name) for name in names]
+
+
+def sources_of(path, names):
+    """By their addresses the source files of the variables that have one of these names, as the
+    debug information has them. After an optimization at link time nm tells none."""
+    if not names or not tool.which("llvm-dwarfdump"):
+        return {}
+    text = output_of("llvm-dwarfdump", path, *(f"--name={name}" for name in sorted(names)))
+    files, places = {}, {}
+    for at, rest in VARIABLE.findall(text):
+        file, origin, place = (re.search(pattern, rest) for pattern in TOLD)
+        if file:
+            files[int(at, 16)] = os.path.basename(file[1])
+        if place:
+            places[int(place[1], 16)] = int(origin[1] if origin else at, 16)
+    return {place: files[entry] for place, entry in places.items() if entry in files}
 
 
 def checksum_of(path):

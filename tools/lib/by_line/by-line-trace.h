@@ -45,7 +45,7 @@ static const char *take_references(const char *line, bool *is_left_out) {
     if (!is_fetch && !is_data) return rawmemchr(label, '\n');
     uint64_t address;
     if (!is_lackey && *from == '0' && (from[1] | ' ') == 'x') from += 2;
-    const char *at = hexadecimal(from, &address);
+    const char *at = past_hexadecimal(from, &address);
     if (is_fetch && address != fetched) fetched = address, counter_fetched = UNKNOWN;
     bool is_taken = is_fetch ? takes_fetches : takes_data;
     *is_left_out = !is_taken && from > label + 1 && is_plain(from, at);

@@ -29,6 +29,7 @@
 #include <string.h>
 #include <time.h>
 #include <unistd.h>
+#include "../hexadecimal.h"
 
 enum { FAILED = 1, ROOM = 1 << 18, PIPE = 1 << 20 };
 
@@ -36,17 +37,6 @@ static void *grown(void *memory, size_t size) {
     void *larger = realloc(memory, size);
     if (!larger) errx(FAILED, "too little memory");
     return larger;
-}
-
-static const char *hexadecimal(const char *at, uint64_t *number) {
-    static const signed char values[256] = {
-        ['0'] = 1, 2, 3, 4, 5, 6, 7, 8, 9, 10,
-        ['A'] = 11, 12, 13, 14, 15, 16, ['a'] = 11, 12, 13, 14, 15, 16};
-    uint64_t read = 0;
-    for (int value; (value = values[(unsigned char)*at]); at++)
-        read = read << 4 | (unsigned)(value - 1);
-    *number = read;
-    return at;
 }
 
 // ---- Numbers from 0 on for different keys, in the order in which the keys come
@@ -248,7 +238,7 @@ static void take_arrival(bool is_full, const char *outcome, uint64_t address) {
     cell_of(cell)->references++;
     if (misses) is_first = count_miss(cell, address >> shift);
     if (misses && outcome[4] == ' ') {
-        hexadecimal(outcome + sizeof "miss eviction", &evicted);
+        past_hexadecimal(outcome + sizeof "miss eviction", &evicted);
         block_at(evicted >> shift)->evicted = cell + 1;
     }
     // what misses in the fully associative cache counts there, also where this one hits
@@ -266,7 +256,7 @@ static const char *take_line(bool is_full, const char *line) {
     if (is_here && *at == 'f') {
         flushes += !is_full;
     } else if (is_here || (is_first_level && *at != 'f')) {
-        at = hexadecimal(at + 2, &address) + 1;
+        at = past_hexadecimal(at + 2, &address) + 1;
         if (is_first_level) {
             struct reference one = popped(&handed, address);
             counter = one.number;

@@ -9,7 +9,7 @@ import re
 from typing import NamedTuple
 
 from lib import tool
-from lib.by_line.binutils import debug_file, line_finder, mended, output_of
+from lib.by_line.binutils import debug_file, line_finder, mended, output_of, sources_of
 
 PAGE = 4096
 ANY_TEXT = {"encoding": "utf-8", "errors": "surrogateescape"}
@@ -20,6 +20,8 @@ SOURCE = re.compile(r"0+ a (.*)")
 THREAD_LOCAL = re.compile(r" *\d+: ([0-9a-f]+) +(\w+) TLS ")
 # what compilers add to the name of a function of which they make parts or special versions
 PART = re.compile(r"( ?\(?\.(cold|constprop|isra|llvm|lto_priv|part)[.\d]*\)?| \[clone [^]]*\])+$")
+# what an optimization at link time adds to the name of a variable
+LINK_TIME = re.compile(r"\.lto_priv\.\d+$| \[clone \.lto_priv\.\d+\]$")
 # the unit of a crate's code that rustc has for a source file
 UNIT = re.compile(r"\.\w+-cgu\.\d+$")
 # where Valgrind and Linux put the stack on x86-64, for a trace without a map
@@ -130,8 +132,16 @@ class Loaded:
 
     def objects(self):
         """The global and static variables, and the source file of each static one."""
-        return [(place, source) for place, kind, source in self.symbols if kind in "bBdDrRuVvgGsS"
-                and (place.start, place.end - place.start) not in self.thread_local]
+        found = [(place, source) for place, kind, source in self.symbols if kind in "bBdDrRuVvgGsS"
+                 and (place.start, place.end - place.start) not in self.thread_local]
+        changed = {place.start - self.base: LINK_TIME.sub("", place.name)
+                   for place, _ in found if LINK_TIME.search(place.name)}
+        sources = sources_of(self.paths[0], {name.rpartition("::")[2] for name in changed.values()})
+        for place, source in found:
+            at = place.start - self.base
+            if at in changed and at in sources:
+                place, source = place._replace(name=changed[at]), sources[at]
+            yield place, source
 
     @functools.cached_property
     def functions(self):

@@ -15,6 +15,7 @@
 #include <errno.h>
 #include <fcntl.h>
 #include <signal.h>
+#include <stdarg.h>
 #include <stdio.h>
 #include <stdlib.h>
 #include <string.h>
@@ -23,10 +24,10 @@
 #include <sys/stat.h>
 #include <sys/wait.h>
 #include <unistd.h>
+#include "../din-line.h"
 #include "trace-memory.h"
 
 enum { OWN_FAULT = 125, CANNOT_RUN = 126, TEXT = 1 << 20, PATIENCE = 2, LAST = 1 << 13 };
-enum { LONGEST = sizeof "0 0123456789abcdef" };
 
 static struct memory *memory;               // where QEMU is the tracer
 static volatile pid_t program, converter;   // each 0 after its end; QEMU needs no converter
@@ -87,7 +88,12 @@ static void mark_full_file(void) {
 }
 
 // Ends with a message, in which the trace ends too.
-static _Noreturn void fail(int own_status, const char *message) {
+static _Noreturn void fail(int own_status, const char *form, ...) {
+    static char message[TEXT / 2];
+    va_list values;
+    va_start(values, form);
+    vsnprintf(message, sizeof message, form, values);
+    va_end(values);
     warnx("%s", message);
     if (!isatty(trace)) put_mark(message);
     exit(own_status);
@@ -111,32 +117,6 @@ static void leave_mark(void) {
     sigprocmask(SIG_SETMASK, &none, NULL);
     ssize_t wrote = write(trace, mark, sizeof mark - 1);
     _exit(wrote < 0);
-}
-
-static char three_digits[4096][4];  // of each number below 4096, and a byte of no use
-
-static void make_digits(void) {
-    for (unsigned i = 0; i < 4096; i++)
-        for (unsigned place = 0; place < 3; place++)
-            three_digits[i][place] = "0123456789abcdef"[i >> (8 - 4 * place) & 15];
-}
-
-// Writes up to LONGEST bytes, of which those behind the line don't matter.
-static char *put_line(char *to, char label, uint64_t address) {
-    unsigned digits = (67 - (unsigned)__builtin_clzll(address | 1)) / 4;
-    address <<= 64 - 4 * digits;  // its first digit is now the topmost
-    *to++ = label;
-    *to++ = ' ';
-    memcpy(to, three_digits[address >> 52], 4);
-    memcpy(to + 3, three_digits[address >> 40 & 4095], 4);
-    memcpy(to + 6, three_digits[address >> 28 & 4095], 4);
-    memcpy(to + 9, three_digits[address >> 16 & 4095], 4);
-    if (digits > 12) {
-        memcpy(to + 12, three_digits[address >> 4 & 4095], 4);
-        to[15] = three_digits[address & 15][2];
-    }
-    to[digits] = '\n';
-    return to + digits + 1;
 }
 
 // Of some references that came, those from `from` to before `to` are to be written.
@@ -172,7 +152,7 @@ static void write_references(const struct block *block, size_t first, size_t end
 
 static void write_block(struct block *block) {
     size_t end, all = atomic_load(&block->used);
-    if (used > TEXT - REFERENCES * LONGEST) drain();
+    if (used > TEXT - REFERENCES * LONGEST_LINE) drain();
     for (size_t first = 0; first < all && !closed; first = end) {
         end = heap ? first : all;
         while (end < all && is_reference(block->label[end])) end++;
@@ -354,14 +334,10 @@ static int judged(void) {
 // words: qemu FROM HEAP PLUGIN QEMU WORD..
 static void trace_by_qemu(char **words) {
     int descriptor = share_memory();
-    char *plugin, *never, *jumped, *no_map;
+    char *plugin;
     heap = *words[2] ? fdopen(atoi(words[2]), "w") : NULL;
     if (heap) fcntl(fileno(heap), F_SETFD, FD_CLOEXEC);
-    if (asprintf(&plugin, "%s,memory=%d", words[3], descriptor) < 0 ||
-        asprintf(&jumped, "a jump led to %s, not a call: "
-                          "-fno-optimize-sibling-calls makes them calls", words[1]) < 0 ||
-        asprintf(&never, "%s was never called, or only inlined", words[1]) < 0)
-        fail(OWN_FAULT, "no memory");
+    if (asprintf(&plugin, "%s,memory=%d", words[3], descriptor) < 0) fail(OWN_FAULT, "no memory");
     char *first[] = {words[4], "-plugin", plugin};
     memcpy(words + 2, first, sizeof first);
     start(words + 2);
@@ -370,13 +346,14 @@ static void trace_by_qemu(char **words) {
     follow_blocks();
     if (!memory->loaded) fail(OWN_FAULT, "QEMU didn't take the plugin: see its message");
     ran = memory->ran;
-    if (ran && !memory->began) fail(OWN_FAULT, never);
-    if (memory->jumped) fail(OWN_FAULT, jumped);
+    if (ran && !memory->began)
+        fail(OWN_FAULT, "%s was never called, or only inlined", words[1]);
+    if (memory->jumped)
+        fail(OWN_FAULT, "a jump led to %s, not a call: "
+                        "-fno-optimize-sibling-calls makes them calls", words[1]);
     if (heap && ran) end_heap();
-    if (!memory->map_fault) return;
-    if (asprintf(&no_map, "the map can't be written: %s", strerror(memory->map_fault)) < 0)
-        fail(OWN_FAULT, "no memory");
-    fail(OWN_FAULT, no_map);
+    if (memory->map_fault)
+        fail(OWN_FAULT, "the map can't be written: %s", strerror(memory->map_fault));
 }
 
 // words: lines IN OUT CONVERTER TRACER WORD..
