@@ -2,7 +2,6 @@
 -- data item if lines are wanted, and a summary.
 use Rattle.std.specs.Prelude.{ℕ, Bool, true, List, [], ◌∷◌, ◌++◌, Option, None, Some, if◌then◌else◌}
 use Rattle.std.specs.Prelude.{map, flat_map, codes}
-use Rattle.std.specs.Option.{option_to_list}
 use Rattle.std.specs.Fmt.{decimal}
 use Rattle.trace_core.specs.declared.events.Op.{Op}
 use Rattle.trace_core.specs.declared.events.Op.TheVariants.{Fetch, Load, Store, Modify}
@@ -52,10 +51,6 @@ line_of entry.Flush lookups = []
 -- the lookups of the data references of an entry that comes after these events
 abbrev pub lookups_of : GeometryValue → List Event → Entry → List Lookup
 lookups_of g before e = map (lookup_at g) (occurrences_after g before (events_of DataOnly e))
-
--- the lookups of a pair, in order
-abbrev pub lookups_of_pair : Option Lookup × Option Lookup → List Lookup
-lookups_of_pair p = option_to_list p.0 ++ option_to_list p.1
 
 -- the lines of entries that come after these events
 unfoldable pub lines_after : GeometryValue → List Event → List Entry → List ℕ

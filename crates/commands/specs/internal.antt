@@ -1,1 +1,2 @@
+pub mod CsimPass
 pub mod DinPass

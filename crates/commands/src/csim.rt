@@ -5,7 +5,8 @@ ghost use Rattle.trace_core.specs.Events.{events_of};
 ghost use Rattle.trace_core.specs.Task.{Performs};
 ghost use Rattle.cache_core.specs.Geometry.{GeometryValue};
 ghost use Rattle.cache_core.specs.internal.Simulation.{SimulationCountsWithin, SimulationStandsFor};
-ghost use Rattle.commands.specs.CsimText.{csim_task, lookups_of, lookups_of_pair};
+ghost use Rattle.commands.specs.CsimText.{csim_task, lookups_of};
+ghost use Rattle.commands.specs.internal.CsimPass.{lookups_of_pair};
 
 use crate::csim_text::{set_summary, write_line};
 use crate::text::write_last;

@@ -3,7 +3,8 @@ ghost use Rattle.std.specs.Prelude.{◌≡◌, ◌+◌, ◌≤◌, [], ◌++◌,
 ghost use Rattle.std.specs.Option.{option_to_list};
 ghost use Rattle.trace_core.specs.Device.{Writes};
 ghost use Rattle.commands.specs.CsimText.{letter_of, lookup_text, item_line, line_of};
-ghost use Rattle.commands.specs.CsimText.{lookups_of_pair, summary};
+ghost use Rattle.commands.specs.CsimText.{summary};
+ghost use Rattle.commands.specs.internal.CsimPass.{lookups_of_pair};
 
 use crate::text::push_word;
 use cache_core::{Counts, Lookup};

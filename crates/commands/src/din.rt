@@ -1,11 +1,11 @@
 //! The command `din`.
-ghost use Rattle.std.specs.Prelude.{◌≡◌, ◌≤◌, ◌+◌, IfOk, MatchResult};
+ghost use Rattle.std.specs.Prelude.{◌≡◌, ◌≤◌, ◌+◌, IfOk, MatchResult, flat_map};
 ghost use Rattle.trace_core.specs.Events.{events_of};
 ghost use Rattle.trace_core.specs.Reader.{new_progress};
 ghost use Rattle.trace_core.specs.Task.{HasRead, Performs};
 ghost use Rattle.cache_core.specs.declared.system.TheConstants.{MAX_STEPS};
 ghost use Rattle.cache_core.specs.internal.SystemSteps.{SystemValue, stats_of};
-ghost use Rattle.commands.specs.internal.DinPass.{AddsEvents, StepsThrough};
+ghost use Rattle.commands.specs.internal.DinPass.{AddsEvents};
 ghost use Rattle.commands.specs.DinText.{din_task};
 
 use crate::din_text::set_report;
@@ -56,7 +56,8 @@ fn stats_of_trace<S: Source>(
     requires begun { lines.old ≡ new_progress lines.old.format lines.old.limit }
     requires new { system.steps ≡ 0 }
     ensures stepped { (end : SystemValue) × HasRead lines.old.format lines.old.limit
-        (S.view source.old) (S.view source.new) lines.new (StepsThrough system end)
+        (S.view source.old) (S.view source.new) lines.new
+        (λ es. AddsEvents system (flat_map (events_of Kind.All) es) end)
         × IfOk result (λ stats. stats ≡ stats_of end) }
     ensures reports { MatchResult result (λ _. lines.new.state ≡ ReaderState.Ended)
         (λ fault. lines.new.state ≡ ReaderState.Failed fault) }

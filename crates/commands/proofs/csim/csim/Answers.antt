@@ -15,7 +15,8 @@ use Rattle.trace_core.proofs.WholeTraces.{run-stopped, run-finished, run-unfinis
 use Rattle.trace_core.proofs.Written.{Wrote-none}
 use Rattle.cache_core.specs.Windows.{counts}
 use Rattle.cache_core.proofs.Simulating.{simulated_within, within_above}
-use Rattle.commands.specs.CsimText.{csim_task, csim_lines, csim_text, line_of, lookups_of_pair}
+use Rattle.commands.specs.CsimText.{csim_task, csim_lines, csim_text, line_of}
+use Rattle.commands.specs.internal.CsimPass.{lookups_of_pair}
 use Rattle.commands.specs.CsimText.{summary}
 use Rattle.commands.proofs.CsimLemmas.{along, data_of, lines-more, simulated-more, simulated-none}
 use Rattle.commands.proofs.csim.csim.Given as given

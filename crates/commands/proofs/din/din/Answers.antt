@@ -1,5 +1,5 @@
 -- What `din` performs at a fault of the trace, at a failure of the sink, and at its end.
-use Rattle.std.proofs.Common.{◌≡◌, ℕ, List, refl, sym, ap, ◌∙◌}
+use Rattle.std.proofs.Common.{◌≡◌, ℕ, List, [], refl, sym, ap, ◌∙◌}
 use Rattle.std.specs.List.{flat_map}
 use Rattle.trace_core.specs.declared.events.Kind.TheVariants.{All}
 use Rattle.trace_core.specs.Events.{events_of}
@@ -32,7 +32,7 @@ output : (g : given.Over) (c : After-as_slice g) (text : List ℕ)
     (flat_map (events_of All) (entries c.args.format text))) ≡ c.as_slice.result.now
 output g c text all =
     let run = c.in_ok-stats.ensures.stepped in
-    let stands = run.1.holds c.args.plan c.args.seed c.in_ok-system.ensures.limits
+    let stands = run.1.holds c.args.plan c.args.seed [] c.in_ok-system.ensures.limits
     c.in_ok-system.ensures.stands in
     sym (c.as_slice.ensures ∙ c.set_report.ensures ∙ ap report_of (run.2 ∙ stands.stats
     ∙ ap (λ es. system_run c.args.plan c.args.seed (flat_map (events_of All) es)) all))

@@ -1,16 +1,18 @@
 -- An entry that was read is one that the system was stepped through.
-use Rattle.std.proofs.Common.{◌∷◌, [], arith, length-append}
+use Rattle.std.proofs.Common.{◌∷◌, [], arith, length-append, append-nil}
 use Rattle.std.proofs.lemmas.Result.{err_from_is_err_and}
+use Rattle.trace_core.specs.declared.events.Kind.TheVariants.{All}
 use Rattle.trace_core.specs.Task.{entries_of}
+use Rattle.trace_core.proofs.EntryEvents.{events_more}
 use Rattle.trace_core.proofs.WholeTraces.{reads-none, reads-more, reads-end, reads-fault}
 use Rattle.trace_core.proofs.WholeTraces.{holds-less}
-use Rattle.commands.proofs.DinLemmas.{steps-more}
+use Rattle.commands.proofs.DinLemmas.{adds-append}
 use Rattle.commands.proofs.din.stats_of_trace.Goals as goal
 
 pub loop-system-init : goal.loop-system-init
 loop-system-init g c =
     reads-none (g.S.Source.view c.args.source.now) c.requires.begun (
-      λ plan seed good fresh. fresh,
+      λ plan seed events good stands. rw (append-nil events) stands,
       omega (arith, c.requires.new),
     )
 
@@ -32,7 +34,7 @@ loop-system-preserved g c =
     let so_far = c.loop-system.invariant in
     let es = entries_of so_far.read in
     reads-more so_far c.next.ensures.reached c.next.ensures.entry c.in_ok-entry.was c.in-Some.is (
-      steps-more es c.in-Some.entry so_far.holds.0 c.step.ensures.stands,
+      rw (events_more All es c.in-Some.entry) (adds-append so_far.holds.0 c.step.ensures.stands),
       omega (arith, so_far.holds.1, c.step.ensures.steps, length-append es (c.in-Some.entry ∷ [])),
     )
 

@@ -1,7 +1,10 @@
 -- The loop of `din` goes on while the reader has lines left.
 use Rattle.std.proofs.Common.{◌-◌, ◌*◌, ◌≤◌, length}
+use Rattle.std.specs.List.{flat_map}
+use Rattle.trace_core.specs.declared.events.Kind.TheVariants.{All}
+use Rattle.trace_core.specs.Events.{events_of}
 use Rattle.trace_core.proofs.WholeTraces.{Reads}
-use Rattle.commands.specs.internal.DinPass.{StepsThrough}
+use Rattle.commands.specs.internal.DinPass.{AddsEvents}
 use Rattle.commands.proofs.din.stats_of_trace.Given as goal
 
 -- the system was stepped through the entries that were read, at most two references each
@@ -9,7 +12,8 @@ abbrev pub invariant-loop-system : goal.invariant-loop-system
 invariant-loop-system g l =
     Reads l.fn.lines.format l.fn.lines.limit (g.S.Source.view l.initial.source)
     (g.S.Source.view l.source) l.lines
-    (λ es. StepsThrough l.fn.system l.system es × (l.system.steps ≤ 2 * length es))
+    (λ es. AddsEvents l.fn.system (flat_map (events_of All) es) l.system
+    × (l.system.steps ≤ 2 * length es))
 
 abbrev pub decreases-loop-system : goal.decreases-loop-system
 decreases-loop-system g l = l.lines.limit - l.lines.lines
