@@ -67,6 +67,11 @@ nine_held : map (λ e. held (sets_of_lines 0 e) nine) (1 ∷ 3 ∷ 5 ∷ []) ≡
 unfolding held window distinct distinct_of_set
 nine_held = refl
 
+-- blocks 1, 17 and 33 in one set, and block 2 in the other
+nine_held_in_two_sets : map (λ e. held (sets_of_lines 1 e) nine) (1 ∷ 2 ∷ 4 ∷ []) ≡ 2 ∷ 3 ∷ 4 ∷ []
+unfolding held window distinct distinct_of_set
+nine_held_in_two_sets = refl
+
 -- twelve references to five blocks, by which FIFO misses more with four lines than with three
 -- (Belady and others 1969)
 abbrev pub twelve : List Event

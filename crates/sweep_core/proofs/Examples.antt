@@ -9,6 +9,7 @@ use Rattle.trace_core.specs.declared.events.Kind.TheVariants.{All, DataOnly, Fet
 use Rattle.trace_core.specs.declared.line.Format.TheVariants.{Din, Lackey}
 use Rattle.trace_core.specs.declared.events.Event.{Event}
 use Rattle.cache_core.specs.declared.outcome.Counts.{Counts}
+use Rattle.cache_core.specs.Geometry.{geometry_value}
 use Rattle.cache_core.specs.Windows.{window, counts, probes, occurrences_after, distinct}
 use Rattle.cache_core.specs.Windows.{distinct_of_set}
 use Rattle.sweep_core.specs.declared.space.Config.{Config}
@@ -22,7 +23,7 @@ use Rattle.sweep_core.specs.Space.{Ranges, ranges, space_of, config}
 use Rattle.cache_core.specs.Powers.{is_power}
 use Rattle.sweep_core.specs.Table.{table, all_configs}
 use Rattle.sweep_core.specs.SweepText.{sweep_text, sweep_task, row_counts, rows_text, configs_of}
-use Rattle.sweep_core.specs.SweepText.{rows_of}
+use Rattle.sweep_core.specs.SweepText.{rows_of, config_geometry}
 use Rattle.sweep_core.specs.Work.{sweep_work, work, pairs, depth}
 
 -- a sweep of a din text from the first configuration on
@@ -247,6 +248,18 @@ refusals :
     (ranges (16, 16) (1, 2) (1, 2) (16, 64) false))
 unfolding is_power
 refusals = (refl, refl, refl, refl, refl, refl, refl, refl)
+
+-- the geometry of a triple; none if a number is no power of two, or beyond the limits
+geometries :
+    (config_geometry (config 16 2 3) ≡ Some (geometry_value 1 3 4))
+    × (config_geometry (config 24 2 3) ≡ None)
+    × (config_geometry (config 16 3 3) ≡ None)
+    × (config_geometry (config 0 2 3) ≡ None)
+    × (config_geometry (config 16 2 0) ≡ None)
+    × (config_geometry (config 2097152 2 3) ≡ None)
+    × (config_geometry (config 1 128 65536) ≡ None)
+unfolding is_power count_trailing_zeros
+geometries = (refl, refl, refl, refl, refl, refl, refl)
 
 -- a sweep doesn't write before the end of its trace, and at a fault nothing
 writes_late : (r : Request) → (sweep_task r).writes_early ≡ false
