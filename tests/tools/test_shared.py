@@ -139,7 +139,7 @@ class Signals(Shared):
                 self.assertTrue(comes(lambda: catches(running.pid, signal.SIGTERM)))
                 time.sleep(0.001 * step)
                 running.send_signal(signal.SIGTERM)
-                got = *running.communicate(b"10\n", 20), running.returncode
+                got = *running.communicate(b"", 20), running.returncode
                 self.assertEqual(got, (mark_of(tool), b"", -signal.SIGTERM), tool)
             self.assertEqual(list(self.folder.iterdir()), [], tool)
 
