@@ -233,16 +233,6 @@ class ToolTest(unittest.TestCase):
         told = f"{tool}: standard output: {told}\n"
         self.assertEqual((ran.stderr.decode(), ran.returncode), (told, 1))
 
-    def to_a_reader_that_goes(self, tool, *arguments, reads=10):
-        """Runs a tool whose reader goes away behind so many bytes: it ends without a word."""
-        given = {"stderr": subprocess.PIPE, **self.in_folder()}
-        reader, writer = os.pipe()
-        running = subprocess.Popen([TOOLS / tool, *arguments], stdout=writer, **given)
-        os.close(writer)
-        os.read(reader, reads)
-        os.close(reader)
-        self.assertEqual((running.communicate(timeout=20)[1], running.returncode), (b"", 141))
-
     def end_of(self, running):
         """What a process with its own group has written. One that goes on is ended with it."""
         try:

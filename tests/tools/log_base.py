@@ -71,10 +71,11 @@ def random_trace(drawn, length=600):
 
 
 class Filtering(reading_base.Reading):
-    """Tests of any of these tools: TOOL has OWN options."""
+    """Tests of any of these tools: TOOL has OWN options, and begins its answer by a HEADER."""
 
     CACHE = tuple(shape("l1-d", 16, 4, 2))
     OWN = ()
+    HEADER = ""
 
     def words(self, trace):
         return [trace, *self.OWN, *map(str, self.CACHE)]
@@ -82,16 +83,10 @@ class Filtering(reading_base.Reading):
     def run_on(self, trace, *options, **given):
         return self.run_tool(self.TOOL, trace, *self.OWN, *options, **given)
 
-    def test_few_descriptors(self):
-        """However many there are, nothing is left of the run."""
-        place = self.folder / "temporary"
-        place.mkdir()
-        self.run_on("-", *self.CACHE, stdin=SORT)  # which compiles what there is
-        for most in range(4, 12):
-            words = " ".join(map(str, [self.TOOL, "-", *self.OWN, *self.CACHE]))
-            line = f"ulimit -n {most} && exec {base.TOOLS}/{words}"
-            self.run_command("bash", "-c", line, stdin=SORT, env={"TMPDIR": str(place)})
-            self.assertEqual(list(place.iterdir()), [], most)
+    def test_nothing(self):
+        """Traces without a reference to the cache."""
+        for text in (b"", b"3 1\n\n", b"2 10\n"):
+            self.assertEqual(self.good(self.run_on("-", *self.CACHE, stdin=text)), self.HEADER)
 
     def test_format(self):
         expected = self.good(self.run_on("-", *self.CACHE, "-informat", "l", stdin=TRANSPOSE))

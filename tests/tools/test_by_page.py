@@ -12,6 +12,7 @@ HEADER = "page,references,misses,percent,share\n"
 
 class ByPage(log_base.Filtering, base.ToolTest):
     TOOL = "by-page"
+    HEADER = HEADER
 
     def judge(self, text, page, size, *options, cache=None):
         """Compares with the model: by page what comes to a cache, or else to the first level."""
@@ -58,10 +59,6 @@ class ByPage(log_base.Filtering, base.ToolTest):
         answer = self.good(self.run_tool("by-page", "-", *shape("l1-d", 16, 1, 1), stdin=text))
         rows = "0,3,3,100.000,60.000\n1000,2,1,50.000,20.000\n2000,1,1,100.000,20.000\n"
         self.assertEqual(answer, HEADER + rows)
-
-    def test_nothing(self):
-        for text in (b"", b"4 0\n", b"2 10\n"):
-            self.assertEqual(self.good(self.run_on("-", *self.CACHE, stdin=text)), HEADER)
 
     def test_own_options(self):
         power = "is no page size: no power of two"

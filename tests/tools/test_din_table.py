@@ -5,7 +5,6 @@ import csv
 import gzip
 import itertools
 import os
-import time
 
 import base
 import reading_base
@@ -169,9 +168,6 @@ class Values(DinTableTest):
             ("-l1-usize 64 -l1-ubsize 16 -t x", "leave out -t"),
             ("-informat d,l -l1-usize 64 -l1-ubsize 16", "a trace has one format"),
             ("-l1-usize 16 -l1-ubsize 32", "no cache has such a geometry\n"),
-        ):
-            self.refused(self.tool(2, "none", *words.split()), 2, "din-table: ", fault)
-        for words, fault in (
             ("-l1-usize 48 -l1-ubsize 16", "cachesim: -l1-usize: bad value\n"),
             ("-l1-usize 64-128 -l1-ubsize 16 -l1-urepl l,x", "cachesim: -l1-urepl: bad value\n"),
             ("-l1-usize 64-128 -l2-ubsize 16", "cachesim: l1-u: size and bsize are needed\n"),
@@ -190,9 +186,8 @@ class Traces(DinTableTest):
         self.write("t.gz", gzip.compress(text))
         wanted = self.good(self.tool(2, DIN, *SMALL))
         self.assertEqual(wanted.count("\n"), 7)
-        for jobs in (1, 4, 6, 30):
-            self.assertEqual(self.good(self.tool(jobs, "-", *SMALL, stdin=text)), wanted)
-            self.assertEqual(self.good(self.tool(jobs, "t.gz", *SMALL)), wanted)
+        for jobs, trace in itertools.product((1, 4, 6, 30), ("-", "t.gz")):
+            self.assertEqual(self.good(self.tool(jobs, trace, *SMALL, stdin=text)), wanted)
         tool, words = f'"{TOOLS}/din-table" 2', " ".join(SMALL)
         script = f'{tool} <(cat "$1") {words}; {tool} /dev/stdin {words} < "$1"'
         self.assertEqual(self.good(self.run_command("bash", "-c", script, "-", DIN)), 2 * wanted)
@@ -213,28 +208,16 @@ class Traces(DinTableTest):
 
 class Faults(reading_base.ReadingForMany, DinTableTest):
     TOOL = "din-table"
-    JOBS = 1, 2, 9
     OPTIONS = SMALL
+    RUN = "*size=64*assoc=1*", "the run of -l1-usize 64 -l1-ubsize 16 -l1-uassoc 1"
 
-    def test_a_run_fails(self):
-        """Whichever it is, there is no table, and the others are ended, of a file as of a pipe
-        that nothing comes from."""
-        for at, (body, status, message) in itertools.product((1, 3, 6), (
-            ("kill -KILL $$", 1, "din-table: the run of {} ended with signal 9\n"),
-            ("exit 7", 1, "din-table: the run of {} ended with status 7\n"),
-            ("echo x: no >&2; exit 1", 1, "x: no\n"),
-        )):
-            size, ways = list(itertools.product((64, 128, 256), (1, 2)))[at - 1]
-            env = self.program(f"[[ $* != *size={size}*assoc={ways}* ]] || {{ {body}; }}")
-            name = f"-l1-usize {size} -l1-ubsize 16 -l1-uassoc {ways}"
-            for trace in (DIN, "-"):
-                ran = self.tool(2, trace, *SMALL, stdin=DIN.read_bytes(), env=env)
-                self.failed(ran, status, message.format(name))
-        fails = "{ echo x: no >&2; exit 1; }"
-        env = self.program(f"[[ $* != *size=64*assoc=2* ]] && exec sleep 60 || {fails}")
-        began = time.monotonic()
-        self.failed(self.tool(2, DIN, *SMALL, env=env), 1, "x: no\n")
-        self.assertLess(time.monotonic() - began, 20)
+    def test_a_later_run_fails(self):
+        """One that begins when others have ended, of a file as of a pipe that was kept."""
+        for size, trace in itertools.product((128, 256), (DIN, "-")):
+            env = self.program(f"[[ $* != *size={size}*assoc=2* ]] || exit 7")
+            ran = self.tool(2, trace, *SMALL, stdin=DIN.read_bytes(), env=env)
+            name = f"-l1-usize {size} -l1-ubsize 16 -l1-uassoc 2"
+            self.failed(ran, 1, f"din-table: the run of {name} ended with status 7\n")
 
     def test_a_program_that_writes_no_report(self):
         silent = self.program("exit 0")

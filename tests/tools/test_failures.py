@@ -1,16 +1,14 @@
 """A tool that ends with status 0 has given its whole answer, whatever failed on the way: each
-command that it runs, its standard streams, its limits, and signals. It ends soon, without a
-traceback, and leaves no process and no file. System folders are read-only in all runs."""
+command that it runs, its standard streams, and its limits. It ends soon, without a traceback, and
+leaves no process and no file. System folders are read-only in all runs."""
 
 import concurrent.futures
 import os
 import pathlib
 import platform
 import shutil
-import signal
 import subprocess
 import tempfile
-import time
 
 from base import (EXAMPLES, PROGRAM, TOOLS, TOP, ToolTest, comes, copy_tools, needs,
                   processes)
@@ -20,7 +18,6 @@ SPACE = "--bsize 16 --sets 1-4 --assoc 1-2 --size 64".split()
 CACHE = "-l1-dsize 128 -l1-dbsize 16 -l1-dassoc 2".split()
 QEMU = f"qemu-{platform.machine()}"
 FAKE = {"FAKE_VERSION": "7.2.22", "FAKE_HELP": "-plugin ..", "FAKE_START": "0"}
-LARGE = "--bsize 1 --sets 131072 --assoc 1 --size 128k".split()
 # what each tool is given: files, and in the place of INPUT a trace. Behind a blank stands what it
 # is asked for beside its usual work, by options that call other commands
 RUNS = {
@@ -37,7 +34,6 @@ RUNS = {
     "second-level": ["INPUT", *CACHE],
     "sweep-parallel": ["2", "INPUT", *SPACE],
     "three-c": ["INPUT", *SPACE],
-    "three-c large": ["INPUT", *LARGE],
     "to-din": ["lackey", "handout.lackey"],
     "trace": ["./program", "2:1", "many:100"],
     "trace lackey": ["--with", "lackey", "--kind", "d", "./program"],
@@ -48,14 +44,14 @@ OF_A_TRACE = [tool for tool, words in RUNS.items() if "INPUT" in words]
 WRITES_A_TRACE = ("lab/lab-trace", "second-level", "to-din", "trace")
 OF_VALGRIND = ("lab/lab-trace", "trace lackey")  # which has no room in some limits
 # all that they run; a command that is not here is not found
-COMMANDS = "addr2line awk gnuplot gzip llvm-addr2line nm readelf valgrind xz zstd".split()
+COMMANDS = "addr2line gnuplot gzip llvm-addr2line nm readelf valgrind xz zstd".split()
 # counts the calls of a command, and fails in that one which the environment names
 STAND_IN = """\
 #!/bin/bash
 set -o noclobber
 for ((at = 1; at < 99; at++)); do { : > "$CALLS/${0##*/}.$at"; } 2> /dev/null && break; done
 if [ "${0##*/}.$at" = "${FAILING-}" ]; then
-    case $WAY in killed) kill -KILL $$ ;; stopped) kill -STOP $$ ;; *) exit 1 ;; esac
+    case $WAY in killed) kill -KILL $$ ;; *) exit 1 ;; esac
 fi
 exec -a "${0##*/}" REAL "$@"
 """
@@ -73,7 +69,7 @@ class FailureTest(ToolTest):
         cls.addClassCleanup(shutil.rmtree, cls.place, ignore_errors=True)
         cls.tools, cls.commands, cls.given = (
             cls.place / name for name in ("tools", "commands", "given"))
-        for tool in ("by-line", "second-level", "to-din", "trace"):
+        for tool in ("by-line", "to-din", "trace"):
             subprocess.run([TOOLS / tool, "--build"], check=True)
         copy_tools(cls.tools, *(path.name for path in TOOLS.iterdir() if path.is_file()))
         shutil.copytree(TOOLS / "lab", cls.tools / "lab")
@@ -86,8 +82,7 @@ class FailureTest(ToolTest):
         real |= {"cachesim": PROGRAM, QEMU: program_of(TRACED / "fake_qemu.c", "-rdynamic")}
         for name, path in real.items():
             cls.replace(cls.commands / name, path)
-        for name in ("second-level", "to-din"):
-            cls.replace(cls.tools / "out" / name, TOOLS / "out" / name)
+        cls.replace(cls.tools / "out/to-din", TOOLS / "out/to-din")
 
         given = cls.given
         given.mkdir()
@@ -205,19 +200,13 @@ class Commands(FailureTest):
                     self.judge_commands(tool, trace)
 
     def judge_commands(self, tool, trace):
-        """A command that fails or is killed is named, and one that is stopped goes on."""
+        """A command that fails or is killed is named."""
         whole, calls = self.whole(tool, trace)
-        words, ways = (self.words(tool, trace),), ["fails", "killed"]
-        # a program under trace is its user's; replay looks at a single run
-        ways += ["stopped"] * (not tool.startswith(("trace", "lab/replay")))
-        runs = [(f"{call} {way}", words, {"FAILING": call, "WAY": way})
-                for call in calls for way in ways]
+        runs = [(f"{call} {way}", (self.words(tool, trace),), {"FAILING": call, "WAY": way})
+                for call in calls for way in ("fails", "killed")]
         for what, ran in self.each(tool, whole, runs):
-            command, way = what.rsplit(" ", 1)
-            command, told = command.rpartition(".")[0], ran.stderr.decode()
-            if way == "stopped":
-                self.assertEqual(ran.returncode, 0, (what, told))
-            elif ran.returncode and command not in ("valgrind", QEMU):  # the program's own status
+            command, told = what.rpartition(".")[0], ran.stderr.decode()
+            if ran.returncode and command not in ("valgrind", QEMU):  # the program's own status
                 self.assertRegex(told, rf"(?m)\A.*({command}|page \d|the run of|row).*$", what)
 
     def test_each_command_missing(self):
@@ -225,7 +214,7 @@ class Commands(FailureTest):
         for tool in RUNS:
             whole, calls = self.whole(tool)
             called = {call.rpartition(".")[0] for call in calls}
-            for command in called - {"cachesim", "second-level", "to-din"}:
+            for command in called - {"cachesim", "to-din"}:
                 few = self.folder / f"few {tool} {command}".replace("/", "")
                 few.mkdir()
                 for path in self.commands.iterdir():
@@ -291,35 +280,18 @@ class Limits(FailureTest):
                 for _ in self.each(tool, whole, runs):
                     pass
 
-    def test_processor_time(self):
-        """One line tells of it, and all ends; where the system kills the tool, nothing does."""
-        endless = "PATH=/usr/bin:$PATH; exec 0< <(exec yes '0 10');"
-        for tool in ("by-page", "over-time", "warm", "three-c", "second-level", "sweep-parallel"):
-            for limit in ("-St 1", "-t 2"):
-                name = f"{tool} {limit}"
-                ran = self.run_in(name, self.words(tool, "-"), f"{endless} ulimit {limit};")
-                told = ran.stderr.decode()
-                self.assertNotEqual(ran.returncode, 0, told)
-                self.assertRegex(told, r"\A[^\n]*(processor time|signal 24|signal 9)[^\n]*\n", name)
-                self.assertNotIn("Traceback", told)
-
-    def test_full_devices(self):
+    def test_outputs_that_fail(self):
+        """A full device, which one line tells of; and a reader that goes where signals are ignored,
+        as after `trap '' PIPE`."""
+        ignored = "trap '' PIPE; PATH=/usr/bin:$PATH; set -o pipefail;"
         for tool in RUNS:
-            with self.subTest(tool):
-                ran = self.run_in("full", self.words(tool), "", "> /dev/full")
-                told = ran.stderr.decode()
-                self.assertNotEqual(ran.returncode, 0)
-                self.assertEqual((told.count("\n"), "Traceback" in told), (1, False), told)
-
-    def test_a_reader_that_goes_where_signals_are_ignored(self):
-        """As after `trap '' PIPE`."""
-        path = "PATH=/usr/bin:$PATH"
-        for tool in RUNS:
-            with self.subTest(tool):
-                before = f"trap '' PIPE; {path}; set -o pipefail;"
-                ran = self.run_in("reader", self.words(tool), before, "| true")
-                self.assertNotIn(b"Traceback", ran.stderr)
-                self.assertLessEqual(ran.stderr.count(b"\n"), 1, ran.stderr)
+            for before, after, least in ("", "> /dev/full", 1), (ignored, "| true", 0):
+                with self.subTest(tool=tool, after=after):
+                    ran = self.run_in("output", self.words(tool), before, after)
+                    told = ran.stderr.decode()
+                    self.assertTrue(ran.returncode or after == "| true", told)
+                    self.assertTrue(least <= told.count("\n") <= 1, told)
+                    self.assertNotIn("Traceback", told)
 
     def test_a_trace_that_is_cut(self):
         """In a file that may not grow it ends in a line that no simulator takes."""
@@ -333,70 +305,3 @@ class Limits(FailureTest):
                 self.assert_no_trace(ran.stdout, ran.stderr)
                 self.assertGreater(len(ran.stdout), 0)
                 self.assertRegex(ran.stdout, rb"\n[\w-]+ failed: what stands above is not all\n\Z")
-
-
-class Names(FailureTest):
-    NAMES = "a b", "-x", "'\"$HOME`x`\\n", "line\nfeed", "é", os.fsdecode(b"\xff\xfe"), "x=y", "%s"
-
-    def test_odd_names(self):
-        """Of a trace that is there, and of one that is not."""
-        for tool in OF_A_TRACE:
-            whole, _ = self.whole(tool)
-            for name in self.NAMES:
-                with self.subTest(tool=tool, name=name):
-                    copy = self.words(tool, name)
-                    before = 'cp -- trace.din "$NAME" && rm trace.din;'
-                    before = f"PATH=/usr/bin:$PATH; {before} PATH=${{PATH#*:}};"
-                    ran = self.run_in("there", copy, before, NAME=name)
-                    self.assertEqual((ran.returncode, ran.stdout, ran.stderr), (0, whole, b""))
-                    ran = self.run_in("not there", copy)
-                    self.assertIn(ran.returncode, (1, 2), ran.stderr)  # or it is an option
-                    self.assertNotIn(b"Traceback", ran.stderr)
-
-    def test_a_folder(self):
-        """By its name; and as standard input, where Python itself doesn't begin."""
-        for tool in OF_A_TRACE:
-            with self.subTest(tool):
-                ran = self.run_in("folder", self.words(tool, "."))
-                told = ran.stderr.decode()
-                self.assertEqual((ran.returncode, told.count("\n")), (1, 1), told)
-                if tool in WRITES_A_TRACE:
-                    self.assert_no_trace(ran.stdout, told)
-                else:
-                    self.assertEqual(ran.stdout, b"")
-                ran = self.run_in("folder", self.words(tool, "-"), "", "< .")
-                self.assertEqual((ran.returncode, ran.stdout), (1, b""))
-                self.assertIn(b"<stdin> is a directory", ran.stderr)
-
-
-class Signals(FailureTest):
-    def test_signals_while_the_input_goes_on(self):
-        """To all processes of a tool, as from a terminal or by `timeout`; and those that bash heeds
-        at once to the tool alone."""
-        ways = (signal.SIGINT, os.killpg), (signal.SIGTERM, os.kill), (signal.SIGHUP, os.kill)
-        for tool in OF_A_TRACE:
-            for number, send in ways:
-                with self.subTest(tool=tool, signal=number):
-                    self.judge_signalled(tool, number, send)
-
-    def judge_signalled(self, tool, number, send):
-        calls = self.folder / f"{tool} {number}"
-        source, writer = os.pipe()
-        given = {"env": self.environment(calls), "cwd": self.given, "stdin": source, **PIPES}
-        with subprocess.Popen(self.words(tool, "-"), **given) as running:
-            os.close(source)
-            os.write(writer, (self.given / "trace.din").read_bytes())
-            time.sleep(0.5)
-            send(running.pid, number)
-            try:
-                out, told = self.end_of(running)
-            finally:
-                os.close(writer)
-        self.assertNotEqual(running.returncode, 0, told)
-        self.assertNotIn(b"Traceback", told)
-        if tool in WRITES_A_TRACE:
-            self.assert_no_trace(out, told)
-        else:
-            self.assertEqual(out, b"")
-        self.assertEqual(list((calls / "private").iterdir()), [])
-        self.assertTrue(comes(lambda: not processes(running.pid)))

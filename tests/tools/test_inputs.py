@@ -57,43 +57,32 @@ class InputTest(ToolTest):
 class StandardOutput(InputTest):
     """In append mode, as by '>> input': with '>' the shell empties it before any tool begins."""
 
-    def test_by_name(self):
-        for tool, (form, words) in {**READERS, **OF_A_FILE}.items():
-            with self.subTest(tool):
-                self.write("input", self.text(form))
-                line = f'"$0" {" ".join(words).replace("FILE", "input")} >> input'
-                is_2 = tool.startswith(("lab/grade", "lab/lab-transpose"))  # whatever the fault
-                self.kept(tool, line, "input is standard output too", 2 if is_2 else 1)
+    def judge(self, tool, name, read="", place="input"):
+        """A tool that reads a place by some name, and perhaps on standard input."""
+        form, words = {**READERS, **OF_A_FILE}[tool]
+        text = self.text(form).encode()
+        self.write(place, gzip.compress(text) if place.endswith(".gz") else text)
+        line = f'"$0" {" ".join(words).replace("FILE", name)} {read} >> {place}'
+        status = 2 if tool.startswith(("lab/grade", "lab/lab-transpose")) else 1  # of each fault
+        told = "standard input" if name == "-" else name
+        self.kept(tool, line, f"{told} is standard output too", status, place)
 
-    def test_by_another_name(self):
-        """A link, and the name of a descriptor."""
-        for tool in ("lab/replay", "sweep-parallel"):
-            form, words = {**READERS, **OF_A_FILE}[tool]
-            for name in ("link", "/dev/stdin"):
-                with self.subTest(tool=tool, name=name):
-                    self.write("input", self.text(form))
-                    (self.folder / "link").unlink(missing_ok=True)
-                    (self.folder / "link").symlink_to("input")
-                    line = f'"$0" {" ".join(words).replace("FILE", name)} < input >> input'
-                    self.kept(tool, line, f"{name} is standard output too", 1)
-
-    def test_standard_input(self):
-        for tool, (form, words) in READERS.items():
-            with self.subTest(tool):
-                self.write("input", self.text(form))
-                line = f'"$0" {" ".join(words).replace("FILE", "-")} < input >> input'
-                self.kept(tool, line, "standard input is standard output too", 1)
+    def test_names(self):
+        """Its own, a link, that of a descriptor, a packed file; and standard input."""
+        (self.folder / "link").symlink_to("input")
+        packed = "second-level", "sweep-parallel", "to-din", "three-c"
+        for tool, *given in (
+            *((tool, "input") for tool in {**READERS, **OF_A_FILE}),
+            *((tool, "-", "< input") for tool in READERS),
+            *((tool, name, "< input") for tool in ("lab/replay", "sweep-parallel")
+              for name in ("link", "/dev/stdin")),
+            *((tool, "input.gz", "", "input.gz") for tool in packed),
+        ):
+            with self.subTest(tool=tool, given=given):
+                self.judge(tool, *given)
         self.write("input", self.text("l"))
         line = '"$0" -s 1 -E 2 -b 4 < input >> input'
         self.kept("lab/replay", line, "standard input is standard output too", 1)
-
-    def test_packed(self):
-        for tool in ("second-level", "sweep-parallel", "to-din", "three-c"):
-            with self.subTest(tool):
-                form, words = READERS[tool]
-                self.write("input.gz", gzip.compress(self.text(form).encode()))
-                line = f'"$0" {" ".join(words).replace("FILE", "input.gz")} >> input.gz'
-                self.kept(tool, line, "input.gz is standard output too", 1, "input.gz")
 
     def test_another_fault_before(self):
         """The line that marks a trace that is not whole is not written to an input."""

@@ -1,5 +1,4 @@
-"""What tools do where their output fails, whether PYTHONUNBUFFERED is set, as in most containers,
-or not. With it Python holds no output back; without it Python writes what it held as it ends."""
+"""What tools do where their output fails."""
 
 import shutil
 
@@ -30,18 +29,16 @@ class Outputs(ToolTest):
         (self.folder / "students/ann").mkdir(parents=True)
         self.executable("students/ann/csim", "echo hits:1 misses:2 evictions:3")
 
-    def in_both(self, tool, line):
-        """Runs a tool by a line of bash, with and without the variable. Both must be the same."""
+    def by_bash(self, tool, line):
+        """What a tool writes, tells and ends with that a line of bash runs."""
         words = "bash", "-c", f"set -o pipefail; {line}", TOOLS / tool, *RUNS[tool][0]
-        runs = [self.run_command(*words, env={"PYTHONUNBUFFERED": value}) for value in ("", "1")]
-        one, other = ((ran.stdout, ran.stderr.decode(), ran.returncode) for ran in runs)
-        self.assertEqual(one, other, tool)
-        return one
+        ran = self.run_command(*words)
+        return ran.stdout, ran.stderr.decode(), ran.returncode
 
     def test_all_is_written(self):
         for tool, (_, wanted, _) in RUNS.items():
             with self.subTest(tool):
-                said, told, status = self.in_both(tool, '"$0" "$@"')
+                said, told, status = self.by_bash(tool, '"$0" "$@"')
                 self.assertEqual((told, status), ("", wanted))
                 self.assertEqual(len(said) > ROOM, tool in LONG, len(said))
                 self.assertTrue(said.endswith(b"\n"))
@@ -50,17 +47,17 @@ class Outputs(ToolTest):
         for tool, (_, _, status) in RUNS.items():
             with self.subTest(tool):
                 name = tool.rpartition("/")[2]
-                got = self.in_both(tool, '"$0" "$@" > /dev/full')
+                got = self.by_bash(tool, '"$0" "$@" > /dev/full')
                 self.assertEqual(got, (b"", f"{name}: standard output: {FULL}\n", status))
 
     def test_room_for_a_part(self):
         for tool in LONG:
             with self.subTest(tool):
-                got = self.in_both(tool, f'ulimit -f {ROOM // 1024}; "$0" "$@" > cut')
+                got = self.by_bash(tool, f'ulimit -f {ROOM // 1024}; "$0" "$@" > cut')
                 told = f"{tool.rpartition('/')[2]}: standard output: File too large\n"
                 self.assertEqual(got, (b"", told, 1))
 
     def test_a_reader_that_goes(self):
         for tool in RUNS:
             with self.subTest(tool):
-                self.assertEqual(self.in_both(tool, '"$0" "$@" | true'), (b"", "", 141))
+                self.assertEqual(self.by_bash(tool, '"$0" "$@" | true'), (b"", "", 141))

@@ -12,6 +12,7 @@ HEADER = "first,last,misses,percent\n"
 class OverTime(log_base.Filtering, base.ToolTest):
     TOOL = "over-time"
     OWN = "--each", "50"
+    HEADER = HEADER
 
     def judge(self, text, each, *options, cache=None):
         """Compares with the machines of the model: what comes to a cache, or to the first level."""
@@ -50,10 +51,6 @@ class OverTime(log_base.Filtering, base.ToolTest):
             words = ("-", *shape("l1-d", 16, 1, 2), "--each=4")
             answer = self.good(self.run_tool("over-time", *words, stdin=trace))
             self.assertEqual(answer, HEADER + "1,4,2,50.000\n" + last)
-
-    def test_nothing(self):
-        for text in (b"", b"3 0\n\n4 0\n", b"2 10\n"):
-            self.assertEqual(self.good(self.run_on("-", *self.CACHE, stdin=text)), HEADER)
 
     def test_own_options(self):
         for words, fault in (

@@ -2,7 +2,6 @@
 
 import itertools
 import re
-import shutil
 
 import base
 import log_base
@@ -74,16 +73,6 @@ class SecondLevel(log_base.Filtering, base.ToolTest):
             words = (*more.split(), "-informat", format)
             self.assertGreater(self.compare(text, SPLIT, second, *words), 0)
 
-    @base.needs("valgrind")
-    def test_a_program(self):
-        """The first 150,000 lines of a program's trace."""
-        self.run_command("valgrind", "--tool=lackey", "--trace-mem=yes", "--log-file=whole", "true")
-        text = b"".join((self.folder / "whole").read_bytes().splitlines(keepends=True)[:150000])
-        first = [*shape("l1-i", 64, 16, 4), *shape("l1-d", 32, 32, 2)]
-        for second in ((64, 64, 4), (128, 64, 8)):
-            for mode in "an":
-                self.compare(text, first, second, "-l1-dwback", mode, "-informat", "l")
-
     def wrong(self, body):
         """A program whose log is what the body writes."""
         return self.executable("wrong", f"[ $1 = log ] || exec '{base.PROGRAM}' \"$@\"", body)
@@ -106,29 +95,3 @@ class SecondLevel(log_base.Filtering, base.ToolTest):
         ran = self.run_on("-", *SPLIT, env={"CACHESIM": str(wrong)})
         self.assertEqual((ran.returncode, ran.stdout), (1, LAST))
         self.assertRegex(ran.stderr, rb"\Asecond-level: what cachesim writes is not a log\n")
-
-    def test_nothing(self):
-        for text in (b"", b"3 1\n\n", b"2 10\n"):
-            self.assertEqual(self.good(self.run_on("-", *self.CACHE, stdin=text)), "")
-
-    def test_compiling(self):
-        copy, commands = self.folder / "a copy", self.folder / "commands"
-        base.copy_tools(copy, "second-level")
-        commands.mkdir()
-        for command in "cat make mkdir mv rm sh".split():
-            (commands / command).symlink_to(shutil.which(command))
-        arguments = [copy / "second-level", "-", *self.CACHE]
-        given = {"stdin": b"0 18\n", "env": {"PATH": str(commands)}}
-        ran = self.run_command(*arguments, **given)
-        told = b"second-level: cc is missing: apt-get install gcc\n"
-        self.assertEqual((ran.returncode, ran.stdout, ran.stderr), (1, LAST, told))
-        self.assertEqual(self.good(self.run_command(copy / "second-level", "--build")), "")
-        self.assertTrue((copy / "out/second-level").exists())
-        # what is installed has no C file, and needs no compiler
-        for path in (copy / "lib").rglob("*.[ch]"):
-            path.unlink()
-        self.assertEqual(self.good(self.run_command(*arguments, **given)), "0 10\n")
-
-    def test_a_reader_that_goes(self):
-        (self.folder / "long").write_bytes(SORT * 100)
-        self.to_a_reader_that_goes("second-level", "long", *map(str, SPLIT))

@@ -9,7 +9,6 @@ import re
 import select
 import shlex
 import subprocess
-import time
 
 import reading_base
 from base import EXAMPLES, PROGRAM, TOOLS, TOP, ToolTest, ended, needs
@@ -71,26 +70,23 @@ class Pages(ParallelTest):
     def pages(self, *arguments):
         return self.good(self.run_tool(*PAGES, *arguments)).splitlines()
 
-    def test_a_small_table(self):
-        arguments = " ".join(THREE)
-        self.assertEqual(self.pages(1, *THREE), [f"{arguments} --rows 3"])
-        for most in (2, 3, 99):
-            self.assertEqual(self.pages(most, *THREE),
-                             [f"{arguments} --rows 1", f"{arguments} --after 16,2,2 --rows 2"])
-
-    def test_parts_of_a_table(self):
-        arguments = " ".join(THREE)
-        behind = f"{arguments} --after 16,2,2"
-        self.assertEqual(self.pages(2, *THREE, "--rows", 2),
-                         [f"{arguments} --rows 1", f"{behind} --rows 1"])
-        self.assertEqual(self.pages(2, *THREE, "--after", "16,2,2"), [f"{behind} --rows 2"])
-        last = self.pages(2, "--rows=07", "--pow2", *THREE, "--after=16,4,1", "--")
-        self.assertEqual(last, [f"--pow2 {arguments} --after 16,4,1 --rows 1"])
-        none = *THREE[:-1], "5-6"
-        self.assertEqual(self.pages(4, *none), [f"{' '.join(none)} --rows 0"])
-        for nothing in (("--rows", 0), ("--after", "32,0,0")):
-            page, = self.pages(4, *THREE, *nothing)
-            self.assertEqual(page.split()[-2:], ["--rows", "0"])
+    def test_by_hand(self):
+        """Of a table of three rows, all, parts, and none."""
+        space, none = " ".join(THREE), " ".join((*THREE[:-1], "5-6"))
+        behind = f"{space} --after 16,2,2"
+        for words, *pages in (
+            (f"1 {space}", f"{space} --rows 3"),
+            *((f"{most} {space}", f"{space} --rows 1", f"{behind} --rows 2")
+              for most in (2, 3, 99)),
+            (f"2 {space} --rows 2", f"{space} --rows 1", f"{behind} --rows 1"),
+            (f"2 {space} --after 16,2,2", f"{behind} --rows 2"),
+            (f"2 --rows=07 --pow2 {space} --after=16,4,1 --",
+             f"--pow2 {space} --after 16,4,1 --rows 1"),
+            (f"4 {none}", f"{none} --rows 0"),
+            (f"4 {space} --rows 0", f"{space} --rows 0"),
+            (f"4 {space} --after 32,0,0", f"{space} --after 32,0,0 --rows 0"),
+        ):
+            self.assertEqual(self.pages(*words.split()), pages, words)
 
     def test_cuts(self):
         """Cut between pairs, pages make up the table, the dearest no dearer than it must be."""
@@ -119,18 +115,6 @@ class Pages(ParallelTest):
         self.good(self.run_command(*one, TOOLS / "sweep-parallel", "auto", DIN, *SPACE, env=noted))
         self.assertEqual((self.folder / "pages").read_text().count("\n"), 1)
 
-    def test_refused(self):
-        ran = self.run_tool(*PAGES, 4, "--bsize", "24", *SPACE[2:])
-        self.refused(ran, 2, "cachesim: bsize: not a power of two")
-        ran = self.run_tool(*PAGES, 4, *SPACE[2:])
-        self.refused(ran, 2, "cachesim: error: ", "--bsize <RANGE>")
-        for word in ("-t", "-tx", "-t=x"):
-            self.refused(self.run_tool(*PAGES, 4, *SPACE, word, "x"), 2, "leave out -t")
-        for most in ("0", "-1", "x", "", "4 4"):
-            ran = self.run_tool(*PAGES, most, *SPACE)
-            self.refused(ran, 2, f"sweep-parallel: {most} is no number of jobs")
-        self.refused(self.run_tool(*PAGES), 2, "sweep-parallel: the number of jobs is missing")
-
     @needs("parallel")
     def test_by_gnu_parallel(self):
         """As the help shows it."""
@@ -154,7 +138,6 @@ class Growing(ParallelTest):
 
     def test_changes(self):
         before = DIN.read_text().splitlines(keepends=True)
-        self.write("same.din", "".join([*before[:-1], "0 7fffffff0\n"]))
         changes = "echo 0 10 >> t.din", "mv same.din t.din", "truncate -s -5 t.din", "touch t.din"
         told = "t.din has changed while it was read: not all runs have counted the same references"
         calls = (("sweep-parallel", 3, "t.din", *SPACE),
@@ -165,20 +148,16 @@ class Growing(ParallelTest):
             (self.folder / "first").rmdir()
             self.refused(ran, 1, f"{tool}: {told}\n")
 
-    def test_a_change_that_only_the_counts_tell(self):
-        """In place, and with the time of before: of the other runs one reference is skipped."""
-        body = (f'if mkdir first 2> /dev/null; then {PROGRAM} "$@"; ended=$?; cp -p t.din old; '
-                "printf 3 | dd of=t.din conv=notrunc 2> /dev/null; touch -r old t.din; touch done; "
-                "exit $ended; fi; until [ -e done ]; do sleep 0.01; done")
-        for told, tool, *words in (
-            ("t.din", "sweep-parallel", 2, "t.din", *SPACE),
-            ("the trace", "din-table", 2, "t.din", *"-l1-dsize 1k-4k -l1-dbsize 16".split()),
-        ):
-            self.write("t.din", DIN.read_bytes())
-            ran = self.run_tool(tool, *words, env=self.program(body))
-            (self.folder / "first").rmdir()
-            (self.folder / "done").unlink()
-            self.refused(ran, 1, f"{tool}: {told} has changed while it was read: ")
+    def test_rows_of_another_trace(self):
+        """Also where no time of change tells: rows that count other references are no table."""
+        self.write("t.din", DIN.read_bytes())
+        self.write("u.din", DIN.read_bytes() + b"0 10\n")
+        calls = (("sweep-parallel", "*--after*", "t.din", 2, "t.din", *THREE),
+                 ("din-table", "*size=2048*", "the trace", 2, "t.din", "-l1-dsize", "1k-4k",
+                  "-l1-dbsize", "16"))
+        for tool, one, name, *words in calls:
+            env = self.program(f'[[ $* != {one} ]] || exec {PROGRAM} "${{@/t.din/u.din}}"')
+            self.refused(self.run_tool(tool, *words, env=env), 1, f"{tool}: {name} has changed")
 
     def test_what_is_read_once(self):
         """It may change: all runs get the same bytes."""
@@ -277,16 +256,15 @@ class SameBytes(ParallelTest):
 
 class Faults(reading_base.ReadingForMany, ParallelTest):
     TOOL = "sweep-parallel"
-    JOBS = 1, 2, 4
     OPTIONS = SPACE
+    RUN = '*"--after"*', "page 2 of 2"
 
     def tool(self, *arguments, **given):
         return self.run_tool("sweep-parallel", *arguments, seconds=30, **given)
 
     def test_bad_line_without_a_row(self):
-        (self.folder / "bad").write_bytes(self.BAD)
-        for trace, most in itertools.product(("bad", "-"), self.JOBS):
-            ran = self.tool(most, trace, *SPACE, "--rows", 0, stdin=self.BAD)
+        for rows, most in itertools.product((0, 1, 99), (1, 2, 4)):
+            ran = self.tool(most, "-", *SPACE, "--rows", rows, stdin=b"0 10\n0 20\n2 1g\n0 30\n")
             self.failed(ran, 1, "cachesim: line 3: bad address\n")
 
     def test_bad_line_of_a_long_trace(self):
@@ -294,13 +272,6 @@ class Faults(reading_base.ReadingForMany, ParallelTest):
         for trace in (self.write("many", text), "-"):
             ran = self.tool(4, trace, *SPACE, stdin=text)
             self.failed(ran, 1, "cachesim: line 300001: bad address\n")
-
-    def test_what_can_not_be_read(self):
-        for repeated in range(10):
-            self.failed(self.tool(4, "none", *SPACE), 1, "cachesim: cannot open none\n")
-            self.failed(self.tool(4, ".", *SPACE), 1, "cachesim: line 1: read failed\n")
-        ran = self.run_command("bash", "-c", f"{self.script('-')} <&-")
-        self.failed(ran, 1, "sweep-parallel: standard input can't be read: Bad file descriptor\n")
 
     def test_flags_of_a_later_program(self):
         """A word that no value follows is one."""
@@ -310,52 +281,26 @@ class Faults(reading_base.ReadingForMany, ParallelTest):
     def test_arguments(self):
         for words, *faults in (
             ((4, "none", "--bsize", "24", *SPACE[2:]), "cachesim: bsize: not a power of two\n"),
-            ((4, "-", *SPACE[2:]), "cachesim: error: "),
-            ((4, DIN, *SPACE, "-t", DIN), "sweep-parallel: ", "leave out -t"),
-            (("four", DIN, *SPACE), "sweep-parallel: four is no number of jobs"),
-            ((4,), "sweep-parallel: ", "missing"),
+            ((4, "-", *SPACE[2:]), "cachesim: error: ", "--bsize <RANGE>"),
+            *(((4, DIN, *SPACE, word, DIN), "sweep-parallel: leave out -t")
+              for word in ("-t", "-tx", "-t=x")),
+            *(((most, DIN, *SPACE), f"sweep-parallel: {most} is no number of jobs")
+              for most in ("0", "-1", "four", "", "4 4")),
+            ((4,), "sweep-parallel: the number of jobs and the trace are missing"),
         ):
             self.refused(self.tool(*words), 2, *faults)
-
-    def test_missing_package(self):
-        bin = self.folder / "bin"
-        bin.mkdir()
-        for name in ("bash", "gzip"):
-            (bin / name).symlink_to(f"/usr/bin/{name}")
-        environment = {"PATH": str(bin)}
-        self.good(self.tool(2, DIN, *SMALL, env=environment))
-        for suffix, package in (("zst", "zstd"), ("xz", "xz-utils")):
-            ran = self.tool(2, f"x.{suffix}", *SMALL, env=environment)
-            self.refused(ran, 1, f"is missing: apt-get install {package}\n")
-
-    def test_a_page_fails(self):
-        """The others, which would run on, are ended, also where nothing comes from a live trace."""
-        for body, status, message in (
-            ("kill -KILL $$", 1, "sweep-parallel: page 2 of 2 ended with signal 9\n"),
-            ("echo x: no >&2; exit 1", 1, "x: no\n"),
-            ("echo 2 >&2; exit 2", 2, "2\n"),
-        ):
-            env = self.program(f"[ $after != 16,2,2 ] && exec sleep 60 || {{ {body}; }}")
-            given = {"env": {**os.environ, **env}, "capture_output": True, "timeout": 30}
-            for trace in (DIN, "-"):
-                read, write = os.pipe()
-                began = time.monotonic()
-                arguments = [TOOLS / "sweep-parallel", "2", trace, *THREE]
-                ran = subprocess.run(arguments, stdin=read, **given)
-                os.close(read)
-                os.close(write)
-                self.failed(ran, status, message)
-                self.assertLess(time.monotonic() - began, 20)
+            if len(words) > 1:  # the pages are of no trace
+                self.refused(self.tool("--pages", words[0], *words[2:]), 2, *faults)
+        self.refused(self.tool("--pages"), 2, "sweep-parallel: the number of jobs is missing")
 
     def test_a_parent_that_ignores_ends_of_processes(self):
         """The end of a process can't be waited for where this signal is ignored, as some who start
         the tool leave it."""
-        for tool, words, wanted in (
-            ("sweep-parallel", (2, DIN, *SMALL), self.sweep(*SMALL, "-t", DIN)),
-            ("sweep-parallel", ("--pages", 1, *THREE), f"{' '.join(THREE)} --rows 3\n"),
-        ):
-            ran = self.run_command("env", "--ignore-signal=CHLD", TOOLS / tool, *words)
-            self.assertEqual(self.good(ran), wanted)
+        call = "env", "--ignore-signal=CHLD", TOOLS / "sweep-parallel"
+        ran = self.run_command(*call, 2, DIN, *SMALL)
+        self.assertEqual(self.good(ran), self.sweep(*SMALL, "-t", DIN))
+        ran = self.run_command(*call, "--pages", 1, *THREE)
+        self.assertEqual(self.good(ran), f"{' '.join(THREE)} --rows 3\n")
 
     def test_an_output_that_takes_a_part(self):
         """A pipe that is not waited for takes its first 64 KiB in one call, and then nothing."""

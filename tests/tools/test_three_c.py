@@ -2,10 +2,6 @@
 
 import csv
 import random
-import shutil
-import signal
-import subprocess
-import time
 
 import base
 import reading_base
@@ -129,23 +125,29 @@ class ThreeC(reading_base.Reading, base.ToolTest):
         self.judge_rows(LARGE, text + "0 20000\n", "1,131072,1,131072,0,131073,1,131073,,")
 
     def test_more_lines_than_a_set_has_and_flushes(self):
-        """With no more different blocks between flushes than lines, none is a capacity miss."""
-        for blocks, parts, capacity in ((50000, 3, "0,0"), (100000, 3, "0,0"), (131072, 2, "0,0"),
-                                        (131073, 1, ","), (131073, 2, ",")):
-            for step in (0, blocks):  # the same blocks in each part, or different ones
-                lines = [walk(blocks, step * part) for part in range(parts)]
-                misses, evictions = blocks * parts, max(blocks - 131072, 0) * parts
-                self.judge_rows(LARGE, "4 0\n \t4\t7 note\r\n".join(lines),
-                                f"1,131072,1,131072,0,{misses},{evictions},{misses},{capacity}")
-
-    def test_more_lines_than_a_set_has_and_parts_that_differ(self):
-        """The part with the most blocks decides: with more than lines, capacity is not known."""
-        for *parts, evictions, capacity in (
-            (131073, 70000, 1, ","), (70000, 131073, 1, ","), (131072, 70000, 0, "0,0")
+        """With no more different blocks between flushes than lines, none is a capacity miss: the
+        part with the most blocks decides. Each part has so many blocks, from a first one on."""
+        for parts, evictions, capacity in (
+            ([(50000, 0)] * 3, 0, "0,0"), ([(50000, 0), (50000, 50000), (50000, 99999)], 0, "0,0"),
+            ([(131072, 0)] * 2, 0, "0,0"), ([(131072, 0), (131072, 131072)], 0, "0,0"),
+            ([(131072, 0), (70000, 0)], 0, "0,0"), ([(70000, 0), (131073, 0)], 1, ","),
+            ([(131073, 9), (70000, 0)], 1, ","), ([(131073, 0)] * 2, 2, ","),
         ):
-            misses = sum(parts)
-            self.judge_rows(LARGE, " \t4\t7 note\r\n".join(map(walk, parts)),
-                            f"1,131072,1,131072,0,{misses},{evictions},{misses},{capacity}")
+            misses = sum(blocks for blocks, _ in parts)
+            text = " \t4\t7 note\r\n".join(walk(*part) for part in parts)
+            counts = f"{misses},{evictions},{misses},{capacity}"
+            self.judge_rows(LARGE, text, f"1,131072,1,131072,0,{counts}")
+
+    def test_more_lines_than_a_set_has_and_conflicts_between_flushes(self):
+        """More first references than lines, and a block that evicts another in each part."""
+        part = walk(100000) + "0 20000\n0 0\n"
+        self.judge_rows(LARGE, "4 0\n".join([part] * 2),
+                        "1,131072,1,131072,0,200004,4,200002,0,2")
+        # 513 blocks of one of 256 sets: that there is room for them in 131,072 lines is not known
+        part = "".join(f"0 {block * 256:x}\n" for block in range(513))
+        misses, evictions = 300 * 513, 300
+        self.judge_rows(LARGE, "4 0\n".join([part] * 300),
+                        f"1,131072,1,131072,0,{misses},{evictions},{misses},,")
 
     def test_too_many_blocks(self):
         # 16,385 blocks that are alike in their lowest 8 bits
@@ -167,17 +169,6 @@ class ThreeC(reading_base.Reading, base.ToolTest):
         rest = self.table(f"{space} --after {last_row}", trace=SORT)
         self.assertEqual(first + rest, self.table(space, trace=SORT))
 
-    def test_a_sweep_of_a_part_that_fails(self):
-        """Whatever the program's path is; its parent is sh or awk."""
-        given = "-", "--bsize", 16, "--sets", 65536, "--assoc", 2, "--size", "2m"
-        fails = "case $(< /proc/$PPID/comm) in sh | *awk) cat > /dev/null; exit 3 ;; esac"
-        for end, status, *rows in ("", 0, "16,65536,2,2097152,69999,2,0,2,0,0"), (fails, 1):
-            program = self.executable("it's $a program", end, f"exec '{base.PROGRAM}' \"$@\"")
-            text, env = 70000 * b"0 10\n" + b"4 0\n0 10\n", {"CACHESIM": str(program)}
-            ran = self.run_tool("three-c", *given, stdin=text, env=env)
-            self.assertEqual(ran.returncode, status, ran.stderr)
-            self.assertEqual(ran.stdout.decode().splitlines()[1:], rows)
-
     def test_faults_of_arguments(self):
         for given, fault in (
             (["-"], "three-c: a trace and the options of a sweep are needed"),
@@ -186,23 +177,3 @@ class ThreeC(reading_base.Reading, base.ToolTest):
             (["-", "--bsize", "3", *self.OPTIONS[2:]], "cachesim: bsize: not a power of two\n"),
         ):
             self.refused(self.run_tool("three-c", *given), 2, fault)
-
-    def test_missing_package(self):
-        for command in "awk cat dirname grep head mkfifo mktemp readlink rm tee".split():
-            (self.folder / command).symlink_to(shutil.which(command))
-        (self.folder / "t.zst").write_bytes(b"")
-        ran = self.run_tool("three-c", "t.zst", *self.OPTIONS, env={"PATH": str(self.folder)})
-        self.refused(ran, 1, "three-c: zstd is missing: apt-get install zstd\n")
-
-    def test_interrupt(self):
-        """However far it is, it ends at once without a word, and nothing is left."""
-        command = ["env", f"TMPDIR={self.folder}", base.TOOLS / "three-c", "-", *self.OPTIONS]
-        for step in range(20):
-            pipes = dict.fromkeys(("stdin", "stdout", "stderr"), subprocess.PIPE)
-            with base.ended(subprocess.Popen(command, **pipes)) as running:
-                self.assertTrue(base.comes(lambda: base.catches(running.pid, signal.SIGTERM)))
-                time.sleep(0.001 * step)
-                running.send_signal(signal.SIGTERM)
-                wrote = running.communicate(b"0 10\n", 20)
-                self.assertEqual((wrote, running.returncode), ((b"", b""), -signal.SIGTERM))
-            self.assertEqual(list(self.folder.iterdir()), [])

@@ -49,6 +49,11 @@ class Compiling(ToolTest):
         self.later(self.folder / "lib/to-din.c", made)
         self.good(self.run_command(self.folder / "to-din", "--build", **given))
         self.assertNotEqual(made.stat().st_ino, before)
+        # what is installed has no C file, and needs no compiler
+        for path in (self.folder / "lib").rglob("*.[ch]"):
+            path.unlink()
+        ran = self.run_command(self.folder / "to-din", "addresses", env={"PATH": ""}, stdin=b"10\n")
+        self.assertEqual(self.good(ran), "0 10\n")
 
     def test_a_header_that_changed(self):
         """What has it is compiled again, and what has not is left."""

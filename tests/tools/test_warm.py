@@ -76,22 +76,16 @@ class Warm(reading_base.Reading, base.ToolTest):
             self.judge(text.encode(), lines)
 
     def test_nothing_follows(self):
-        text = b"2 0\n0 10\n0 20\n3 0\n2 30"
-        for lines, kind in ((5, "u"), (6, "u"), (3, "d"), (10**17, "u")):
-            ran = self.run_tool("warm", lines, "-", *SPACE, "--kind", kind, stdin=text)
-            self.refused(ran, 1, f"warm: -: no reference behind the first {lines} lines\n")
-        self.refused(self.run_tool("warm", 0, "-", *SPACE), 1, "no reference behind")
-
-    def test_nothing_follows_in_a_table_without_rows(self):
-        text = b"2 0\n0 10\n0 20\n3 0\n2 30"
-        for more in (["--rows", "0"], ["--after", "32,8,3"], ["--rows=0", "--after=0,0,0"]):
-            header = "" if any("after" in word for word in more) else table.HEADER + "\n"
-            for lines, kind in ((4, "u"), (2, "d"), (4, "i")):
+        """Also in a table without rows, which else is its header, or nothing."""
+        text, header = b"2 0\n0 10\n0 20\n3 0\n2 30", table.HEADER + "\n"
+        for more, wanted in (["--rows", "0"], header), (["--after", "32,8,3"], ""), ([], None):
+            for lines, kind in ((4, "u"), (2, "d"), (4, "i")) if more else ():
                 ran = self.run_tool("warm", lines, "-", *SPACE, *more, "--kind", kind, stdin=text)
-                self.assertEqual(self.good(ran), header)
-            for lines, kind in ((5, "u"), (3, "d"), (5, "i"), (9, "u")):
+                self.assertEqual(self.good(ran), wanted)
+            for lines, kind in ((5, "u"), (3, "d"), (5, "i"), (10**17, "u")):
                 ran = self.run_tool("warm", lines, "-", *SPACE, *more, f"--kind={kind}", stdin=text)
                 self.refused(ran, 1, f"warm: -: no reference behind the first {lines} lines\n")
+        self.refused(self.run_tool("warm", 0, "-", *SPACE), 1, "no reference behind")
 
     def table(self, lines, *words):
         return self.good(self.run_tool("warm", lines, SORT, *words))

@@ -1,6 +1,5 @@
 """The C parts of tools, which make compiles at their first use."""
 
-import contextlib
 import os
 import signal
 import sys
@@ -12,13 +11,8 @@ from lib.processes import Group, Helper
 class Make(Helper):
     """make with its compiler, which a signal to the tool ends."""
 
-    def kill(self):
-        if self.is_running:
-            # it may have ended, and that is not noted yet
-            with contextlib.suppress(ProcessLookupError, ChildProcessError):
-                os.killpg(self.number, signal.SIGTERM)
-                os.waitpid(self.number, 0)
-            self.is_running = False
+    def strike(self):
+        os.killpg(self.number, signal.SIGTERM)
 
 
 def newest_source():

@@ -7,7 +7,7 @@ import os
 import signal
 
 from lib import tool
-from lib.signals import heed_stops, limit_time, put_off_stops, stop_at_signals
+from lib.signals import heed_stops, put_off_stops, stop_at_signals
 from lib.streams import keep_places
 
 TOLD = 1 << 18  # the bytes of its messages that are looked at
@@ -107,18 +107,15 @@ class Process:
         if self.is_running:
             self.ended(os.waitpid(self.number, 0)[1])
 
+    def strike(self):
+        os.kill(self.number, signal.SIGKILL)
+
     def kill(self):
         if self.is_running:
             with contextlib.suppress(ProcessLookupError, ChildProcessError):  # not noted its end
-                os.kill(self.number, signal.SIGKILL)
+                self.strike()
                 os.waitpid(self.number, 0)
             self.is_running = False
-
-    def go_on(self):
-        """Lets it go on where it was stopped alone: whoever stops the tool stops both."""
-        with contextlib.suppress(ChildProcessError):
-            if self.is_running and os.waitid(os.P_PID, self.number, os.WSTOPPED | os.WNOHANG):
-                os.kill(self.number, signal.SIGCONT)
 
 
 class Filter(Process):
@@ -159,27 +156,18 @@ class Group:
     with its message, and so does one that can't be started."""
 
     def __init__(self):
-        self.processes, self.before = [], None
+        self.processes = []
 
     def __enter__(self):
         keep_places()  # else a pipe could be what a process gets as another stream
         stop_at_signals()
-        limit_time()
-        self.before = signal.signal(signal.SIGCHLD, self.look_after)
         return self
-
-    def look_after(self, *of_signal):
-        for process in self.processes:
-            process.go_on()
-        if callable(self.before):  # that of a group around this one
-            self.before(*of_signal)
 
     def start(self, kind, *given, ends=(), **more):
         """Starts a process of some kind, and closes these ends of pipes, which it now has."""
         with uninterrupted():
             running = [process for process in self.processes if process.is_running]
             self.processes = [*running, kind(*given, **more)]
-        self.look_after()  # what was told before it was known
         for end in ends:
             if end > 2:
                 os.close(end)
@@ -198,7 +186,6 @@ class Group:
         with uninterrupted():
             for process in self.processes:
                 process.kill()
-        signal.signal(signal.SIGCHLD, self.before or signal.SIG_DFL)
         if isinstance(fault, Fault):
             tool.end(fault.text, fault.status)
         if isinstance(fault, OSError):

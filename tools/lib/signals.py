@@ -2,7 +2,6 @@
 
 import contextlib
 import os
-import resource
 import signal
 import stat
 import sys
@@ -38,21 +37,6 @@ def stop_at_signals():
     for number in STOPS:
         if signal.getsignal(number) != signal.SIG_IGN:
             signal.signal(number, stop)
-
-
-def out_of_time(*_):
-    signal.signal(signal.SIGXCPU, signal.SIG_IGN)
-    tool.fail("the limit of processor time is met")
-
-
-def limit_time():
-    """Has the limit of processor time end the tool so that it can tell it: a second earlier, where
-    the system would kill it else."""
-    soft, hard = resource.getrlimit(resource.RLIMIT_CPU)
-    if soft != resource.RLIM_INFINITY:
-        signal.signal(signal.SIGXCPU, out_of_time)
-        if soft == hard > 1:
-            resource.setrlimit(resource.RLIMIT_CPU, (hard - 1, hard))
 
 
 @contextlib.contextmanager

@@ -55,10 +55,9 @@ class Table:
 
 def over(trace, program, sweeps):
     """The tables of sweeps over one reading of a trace. Each is a list of options, and how many
-    lines it gets, if not all; or a command that begins with no option."""
+    lines it gets, if not all."""
     name = program.rpartition("/")[2]
-    commands = [(name, [program, "sweep", *words], *more) if words[0][:1] == "-" else
-                (words[0], words, *more) for words, *more in sweeps]
+    commands = [(name, [program, "sweep", *words], *more) for words, *more in sweeps]
     texts = runs.over(trace, commands, len(commands), is_read_once=True)
     return [Table(text.decode().splitlines()) for text in texts]
 
