@@ -1,6 +1,7 @@
 """What the tests of the tools for the cache lab share."""
 
 import contextlib
+import ctypes
 import importlib
 import os
 import pathlib
@@ -16,12 +17,29 @@ LAB = TOOLS / "lab"
 STUDENTS = TOP / "tests/tools/lab"
 sys.path.append(str(LAB))
 traces = importlib.import_module("parts.traces")
+PR_SET_CHILD_SUBREAPER = 36
+
+
+def adopt_orphans(is_wanted):
+    """Has what a process leaves behind become this one's child, or no longer."""
+    ctypes.CDLL(None).prctl(PR_SET_CHILD_SUBREAPER, is_wanted, 0, 0, 0)
+
+
+def running(by="self"):
+    """The processes that this one has started, and theirs, which it adopts; no other is looked at.
+    One that has ended is none, though nobody waits for it."""
+    found = []
+    for path in pathlib.Path(f"/proc/{by}/task").glob("*/children"):
+        with contextlib.suppress(OSError):  # one may end meanwhile
+            for number in path.read_text().split():
+                state = pathlib.Path(f"/proc/{number}/stat").read_text().rpartition(")")[2].split()
+                found += [number] * (state[0] != "Z") + running(number)
+    return found
 
 
 def is_running(program):
-    """Whether a process runs a program."""
-    # a process may end meanwhile, so that its link is not looked for before it is read
-    for number in filter(str.isdecimal, os.listdir("/proc")):
+    """Whether one of these processes runs a program."""
+    for number in running():
         with contextlib.suppress(OSError):
             if os.readlink(f"/proc/{number}/exe") == str(program):
                 return True
@@ -29,14 +47,19 @@ def is_running(program):
 
 
 class LabTest(ToolTest):
-    """A test with a folder for a tool's private files."""
+    """A test with a folder for a tool's private files, which knows what it has started."""
+
+    @classmethod
+    def setUpClass(cls):
+        adopt_orphans(True)
+        cls.addClassCleanup(adopt_orphans, False)
 
     def setUp(self):
         super().setUp()
         self.private = self.folder / "private"
         self.private.mkdir()
 
-    def interrupted(self, command, has_begun, is_left, **env):
+    def interrupted(self, command, has_begun, **env):
         """Ends a tool once it has begun. Nothing goes on, and no file is left."""
         env = {**os.environ, "TMPDIR": str(self.private), **env}
         for number in (signal.SIGINT, signal.SIGTERM):
@@ -44,7 +67,7 @@ class LabTest(ToolTest):
                 self.assertTrue(comes(has_begun, 60))
                 tool.send_signal(number)
                 self.assertEqual(tool.wait(60), 128 + number)
-            self.assertTrue(comes(lambda: not is_left(), 60))
+            self.assertTrue(comes(lambda: not running(), 60))
             self.assertEqual(list(self.private.iterdir()), [])
 
 
@@ -53,6 +76,7 @@ class StudentTest(LabTest):
 
     @classmethod
     def setUpClass(cls):
+        super().setUpClass()
         cls.programs = pathlib.Path(tempfile.mkdtemp(prefix="cachesim-students-"))
         cls.addClassCleanup(shutil.rmtree, cls.programs)
 

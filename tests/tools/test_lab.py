@@ -7,8 +7,8 @@ import signal
 import subprocess
 import time
 
-from base import EXAMPLES, PROGRAM, TOP, catches, ended, needs, processes
-from lab_base import LAB, STUDENTS, LabTest, StudentTest, comes, is_running
+from base import EXAMPLES, PROGRAM, TOP, catches, ended, needs
+from lab_base import LAB, STUDENTS, LabTest, StudentTest, comes, is_running, running
 
 YI = TOP / "tests/cases/inputs/handout.lackey"
 ONE = "-s 4 -E 1 -b 4 -t"
@@ -56,13 +56,13 @@ class Grade(StudentTest):
 
     def test_mistakes(self):
         cases = list(mistakes())
-        self.assertEqual(len(cases), 17)
+        self.assertEqual(len(cases), 14)
         for names, arguments, said in cases:
             with self.subTest(names):
                 program = self.student(*names)
                 words = (program if word == "CSIM" else word for word in arguments[1:])
                 self.says(self.grade(*words), said, 1)
-                self.assertTrue(comes(lambda: not is_running(program)))
+                self.assertTrue(comes(lambda: not running()))
 
     def test_numbers_are_compared_whole(self):
         """Those wanted are 720, 1328 and 1312."""
@@ -78,7 +78,7 @@ class Grade(StudentTest):
         """Other output, what is left behind, an emptied copy of the trace, a process left."""
         for mistake in ("CHATTY", "JUNK", "LEAVES_CHILD", "LEAVES_DAEMON"):
             self.says(self.grade(self.student(mistake), "order.trace"), "15 of 15 right\n", 0)
-            self.assertTrue(comes(lambda: not is_running(self.student(mistake))))
+            self.assertTrue(comes(lambda: not running()))
         traces = {path.name: path.read_text() for path in self.folder.glob("*.trace")}
         self.assertEqual(traces, TRACES)
         self.assertEqual(len(list(self.folder.iterdir())), len(TRACES) + 1)
@@ -131,13 +131,13 @@ class Grade(StudentTest):
     def test_an_interrupt(self):
         student = self.student("LOOPS")
         command = [LAB / "grade", "--seconds", "30", student, YI]
-        self.interrupted(command, lambda: is_running(student), lambda: is_running(student))
+        self.interrupted(command, lambda: is_running(student))
 
     def test_an_interrupt_as_a_run_begins(self):
         """The program itself sends it, several times since it need not come at the worst moment."""
         for _ in range(10):
             self.says(self.grade(self.student("STOPS_GRADE"), "yi.trace"), "", 143)
-            self.assertTrue(comes(lambda: not is_running(self.student("STOPS_GRADE"))))
+            self.assertTrue(comes(lambda: not running()))
 
 
 class Trace(LabTest):
@@ -209,7 +209,7 @@ class Trace(LabTest):
                 time.sleep(0.0005 * step)
                 tool.terminate()
                 self.assertIn(tool.wait(20), (143, -15))
-            self.assertTrue(comes(lambda: not processes(tool.pid)))
+            self.assertTrue(comes(lambda: not running()))
             self.assertEqual(list(self.private.iterdir()), [])
 
     def test_wrong_arguments_and_a_missing_valgrind(self):
@@ -230,10 +230,10 @@ class Trace(LabTest):
             command = [LAB / "lab-trace", "sh", "-c", script]
             given = {**self.in_folder(), "stderr": subprocess.PIPE, "start_new_session": True}
             with open(self.folder / "trace", "wb") as trace:
-                running = subprocess.Popen(command, stdout=trace, **given)
-            with ended(running):
-                self.assertTrue(comes(lambda: len(processes(running.pid)) >= 4, 60))
-                running.send_signal(number)
-                self.assertEqual(running.wait(timeout=20), -number)
-                self.assertTrue(comes(lambda: not processes(running.pid)))
+                tool = subprocess.Popen(command, stdout=trace, **given)
+            with ended(tool):
+                self.assertTrue(comes(lambda: len(running()) >= 4, 60))
+                tool.send_signal(number)
+                self.assertEqual(tool.wait(timeout=20), -number)
+                self.assertTrue(comes(lambda: not running()))
             self.assertTrue((self.folder / "trace").read_text().endswith(LAST))

@@ -6,7 +6,7 @@ import re
 import shutil
 
 from base import EXAMPLES, PROGRAM, TOOLS, copy_tools, needs
-from lab_base import LAB, STUDENTS, StudentTest, is_running, traces
+from lab_base import LAB, STUDENTS, StudentTest, comes, is_running, running, traces
 
 TRACES = "order mixed wide rows blocks long".split()
 BLOCKS = EXAMPLES / "blocks.lackey"
@@ -160,8 +160,7 @@ class GradeClass(ClassTest):
         folders = [self.enrol(name, self.student("LOOPS")) for name in ("ann", "bob", "eve")]
         programs = [folder / "csim" for folder in folders]
         command = [LAB / "grade-class", "--seconds", "60", "--jobs", "2", *folders]
-        self.interrupted(command, lambda: sum(map(is_running, programs)) == 2,
-                         lambda: any(map(is_running, programs)))
+        self.interrupted(command, lambda: sum(map(is_running, programs)) == 2)
 
 
 class Confined(ClassTest):
@@ -209,10 +208,10 @@ class Confined(ClassTest):
     @needs("bubblewrap")
     def test_what_is_left_behind_is_ended(self):
         names = "LEAVES_CHILD", "LEAVES_DAEMON"
-        folders = [self.enrol(name, self.student(name)) for name in names]
+        for name in names:
+            self.enrol(name, self.student(name))
         self.assertEqual(self.points("--trace", BLOCKS, "--confine"), dict.fromkeys(names, 3))
-        for folder in folders:
-            self.assertFalse(is_running(folder / "csim"))
+        self.assertTrue(comes(lambda: not running()))
 
     @needs("bubblewrap")
     def test_faults_are_told_as_without(self):

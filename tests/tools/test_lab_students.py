@@ -13,9 +13,9 @@ from lab_base import LAB, StudentTest, traces
 WRONG = """
 LINES_OF_8       rows   1,9,3   the array has 8 lines for a set, and more run into the next set
 LINES_OF_64      rows   1,65,3  the array has 64 lines for a set, and more run into the next set
-MOST_8           order  1,9,3   a set has at most 8 lines
-MOST_64          rows   1,65,3  a set has at most 64 lines
-ONE_WAY          order  1,9,3   a set has only one line
+MOST_8           order  1,9,3   a set uses at most 8 of its lines
+MOST_64          rows   1,65,3  a set uses at most 64 of its lines
+ONE_WAY          order  1,9,3   a set uses at most 1 of its lines
 UNCLEARED        order  2,4,3   memory of malloc is taken for zeros; calloc clears it
 BYTE_CLOCK       mixed  2,4,3   the clock of LRU has only 8 bits
 TICKS_AT_MISSES  mixed  2,2,3   in which a hit does not advance the clock of LRU
@@ -72,7 +72,7 @@ FIRST_LOST       order  2,4,3   the first line of the trace is lost
 SWAPS_BITS       mixed  2,4,3   -s and -b are exchanged
 OFFSET_KEPT      mixed  2,4,3   the set is that of the address, with its offset
 TWICE_SETS       mixed  4,2,4   the set is that of 2 * s and not of 2 to the power of s
-FEW_SETS         rows   14,2,2  there are at most 1024 sets
+FEW_SETS         rows   14,2,2  numbers of sets have only 10 bits
 EVICTS_ALWAYS    order  2,4,3   each miss counts as an eviction
 EVICTION_NO_MISS order  2,4,3   an eviction does not count as a miss
 EVICTION_HITS    order  2,4,3   an eviction counts as a hit too
@@ -97,12 +97,42 @@ class Students(StudentTest):
         rows = [row.split(None, 3) for row in WRONG.strip().splitlines()]
         for mistake, trace, cache, words in rows:
             with self.subTest(mistake):
-                options = [f"--geometry={cache}", self.student(mistake), f"{trace}.trace"]
-                said = self.grade(*options)
+                said = self.grade(f"--geometry={cache}", self.student(mistake), f"{trace}.trace")
                 reasons = re.findall("^why: (.*)", said, re.M)
                 where = said if "with -v" in words or not reasons else reasons[0]
                 self.assertRegex(where, re.escape(words).replace(r"\.\.", r"\d+"))
                 self.assertTrue(said.endswith("\n0 of 1 right\n"), said)
+
+    def test_rare_mistakes(self):
+        """They are looked for where there are cases enough, here all of one set."""
+        caches = [f"--geometry=0,{ways},{bits}" for ways in (2, 8, 20, 40, 60)
+                  for bits in range(2, 6)]
+        for mistakes, words in (
+            (["NRU", "NEW_UNUSED"], "are cleared; that of a new block is clear (NRU)"),
+            (["SIGNED_AGE"], "ages are signed and have only 8 bits"),
+            (["YOUNGER_BY_ONE"], "a hit makes its block younger by one only"),
+            (["ONE_DIGIT"], "of the number behind -E only the first digit is taken"),
+        ):
+            said = self.grade(*caches, "--verbose-lines=no", self.student(*mistakes), "mixed.trace")
+            self.assertRegex(said, f"\nwhy: all results .*{re.escape(words)}")
+
+    def test_where_an_unknown_mistake_is(self):
+        """In all cases together. Reading that ends at a fetch leaves what stands before it."""
+        before = {}
+        for name in ("mixed", "wide", "long"):
+            lines = (self.folder / f"{name}.trace").read_text().splitlines()
+            first = next(at for at, line in enumerate(lines) if line[0] == "I")
+            before[name] = first + sum(line[1] == "M" for line in lines[:first])
+        for mistake, words in (
+            ("AT_RANDOM", "the wrong block is evicted, since all is right where "),
+            ("MODIFIES_THRICE", "there is 1 hit too many for each M\n"),
+            ("FEW_ROOM", "it crashes only where there are 16,384 sets or 32,768 lines or more: an "
+             "array may be too short\n"),
+            ("ENDS_AT_FETCH", "of the accesses only the first count ({wide} of wide.trace, "
+             "{mixed} of mixed.trace, {long} of long.trace): reading ends there\n"),
+        ):
+            said = self.grade("--verbose-lines=no", self.student(mistake))
+            self.assertIn(f"\nwhy: {words.format(**before)}", said)
 
     def test_two_mistakes(self):
         """The number of bits is as open as with one."""

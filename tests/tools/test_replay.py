@@ -119,14 +119,6 @@ class Replay(ReplayTest):
         ran = self.replay(*lab_words(4, 2, 4), "-t", HANDOUT, "--set", "f")
         self.refused(ran, 1, "no reference for set f")
 
-    def test_totals(self):
-        """They are those of csim."""
-        cut = self.write("cut.lackey", start_of("transpose.lackey", 900))
-        for cache in ((0, 1, 1), (1, 9, 3), (1, 65, 3), (3, 3, 6), (5, 1, 0)):
-            words = *lab_words(*cache), "-t", cut
-            summary = self.good(self.run_command(PROGRAM, "csim", *words))
-            self.assertEqual(self.text(*words)[-1], summary.strip())
-
     def test_a_trace_up_to_a_line(self):
         """Of more than 1,000 steps the last, with what the sets hold before them."""
         text = self.text(*OF_HANDOUT, "--until", 4)

@@ -41,6 +41,12 @@ static void beyond_A(int M, int N, int A[N][M], int B[M][N])
     A[0][-2] = 0;
 }
 
+static void before_B(int M, int N, int A[N][M], int B[M][N])
+{
+    good(M, N, A, B);
+    B[0][-1] = A[0][0];
+}
+
 static void prints(int M, int N, int A[N][M], int B[M][N])
 {
     good(M, N, A, B);
@@ -72,6 +78,7 @@ void registerFunctions(void)
     registerTransFunction(beyond_B, "beyond B");
     registerTransFunction(beyond_A, "beyond A");
     registerTransFunction(prints, "prints\n@ 0");
+    registerTransFunction(before_B, "before B");
     registerTransFunction(good, "after");
     (void)spins;
 }

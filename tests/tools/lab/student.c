@@ -27,7 +27,7 @@ struct line {
 static struct line *lines;
 static int set_bits, ways, block_bits, verbose;
 static unsigned long now;
-static int hits, misses, evictions;
+static int hits, misses, evictions, modifies;
 
 static void say(const char *word)
 {
@@ -38,7 +38,7 @@ static void say(const char *word)
 static void hit(struct line *line, char kind)
 {
     if (!HAS(FIFO) && !(HAS(STORES_NO_USE) && kind == 'S') && !(HAS(LOADS_NO_USE) && kind == 'L'))
-        line->used = now;
+        line->used = HAS(YOUNGER_BY_ONE) ? line->used + 1 : now;
     line->uses++;
     hits++;
     say("hit");
@@ -55,7 +55,8 @@ static void miss(struct line *victim, address_t tag)
         misses -= HAS(EVICTION_NO_MISS);
     }
     now += HAS(TICKS_AT_MISSES);
-    *victim = (struct line){!HAS(NEVER_VALID), tag, HAS(NEW_IS_OLD) ? 0 : now, 1};
+    address_t used = HAS(NEW_IS_OLD) ? 0 : now;
+    *victim = (struct line){!HAS(NEVER_VALID), tag, used, !HAS(NEW_UNUSED)};
     now += HAS(TICKS_AFTER_MISSES);
 }
 
@@ -63,8 +64,6 @@ static void miss(struct line *victim, address_t tag)
 static address_t place(address_t address)
 {
     address_t block = address >> block_bits, sets = 1ull << set_bits;
-    if (HAS(HIGH_SETS))
-        return address >> (32 - set_bits) & (sets - 1);
     if (HAS(TWICE_SETS))
         return set_bits ? block % (2 * set_bits) : 0;
     if (HAS(FEW_SETS))
@@ -97,6 +96,8 @@ static int is_victim(struct line *line, struct line *other)
         return line < other;
     if (HAS(AT_RANDOM))
         return rand() & 1;
+    if (HAS(SIGNED_AGE))
+        return (signed char)(now - line->used) > (signed char)(now - other->used);
     return (long)line->used < (long)other->used;
 }
 
@@ -154,7 +155,7 @@ static void touch(address_t address, char kind)
     address_t tag = tag_of(address);
     struct line *set = lines + place(address) * apart(), *victim = set, *end = set + looked_at();
     now += !HAS(TICKS_AT_MISSES) && !HAS(TICKS_AFTER_MISSES);
-    now &= HAS(SHORT_CLOCK) ? 0xffff : HAS(BYTE_CLOCK) ? 0xff : ~0ul;
+    now &= HAS(BYTE_CLOCK) ? 0xff : ~0ul;
     now = HAS(SIGNED_CLOCK) ? (unsigned long)(signed char)now : now;
     for (struct line *line = set; line < end; line++)
         if ((line->valid || HAS(NO_VALID)) && line->tag == tag) {
@@ -176,7 +177,7 @@ static void touch(address_t address, char kind)
 
 static void step(char kind, address_t address, int size)
 {
-    if (HAS(CRASHES) && kind == 'S')
+    if ((HAS(CRASHES) && kind == 'S') || (HAS(FEW_ROOM) && set_bits > 12))
         abort();
     if (HAS(LOOPS) && kind == 'S')
         for (;;)
@@ -184,6 +185,7 @@ static void step(char kind, address_t address, int size)
     if (verbose)
         printf(HAS(ECHOES) ? "%c  %016llX,%d" : "%c %llx,%d", kind, address, size);
     int before = hits;
+    modifies += kind == 'M';
     touch(HAS(STORES_NEXT) && kind == 'S' ? address + size : address, kind == 'M' ? 'L' : kind);
     if (kind == 'M' && !HAS(FORGETS_STORE) && !(HAS(FORGETS_MISSED) && hits == before))
         touch(address, 'S');
@@ -196,11 +198,8 @@ static void step(char kind, address_t address, int size)
 /* What the lab's function of this name does, as its handout describes it. */
 static void printSummary(int hits, int misses, int evictions)
 {
-    const char *form = HAS(OWN_WORDS) ? "Hits: %d, Misses: %d, Evictions: %d\n"
-        : HAS(OWN_ORDER) ? "misses:%2$d hits:%1$d evictions:%3$d\n"
-        : "hits:%d misses:%d evictions:%d\n";
-    if (!HAS(NEEDS_VERBOSE) || verbose)
-        fprintf(HAS(TO_STDERR) ? stderr : stdout, form, hits, misses, evictions);
+    printf(HAS(OWN_ORDER) ? "misses:%2$d hits:%1$d evictions:%3$d\n"
+        : "hits:%d misses:%d evictions:%d\n", hits, misses, evictions);
     if (HAS(NO_RESULTS))
         return;
     FILE *results = fopen(".csim_results", "w");
@@ -260,7 +259,7 @@ static void leave_junk(const char *trace)
 /* What it does after its work. */
 static void end(const char *trace)
 {
-    hits += HAS(COUNTS);
+    hits += HAS(COUNTS) + modifies * HAS(MODIFIES_THRICE);
     if (HAS(SHORT_COUNTS))
         hits &= 0xffff, misses &= 0xffff, evictions &= 0xffff;
     if (HAS(BYTE_COUNTS))
@@ -288,8 +287,6 @@ static void end(const char *trace)
     }
     if (HAS(JUNK))
         leave_junk(trace);
-    if (HAS(FLUSHES_LATE))
-        raise(SIGKILL); /* what it has printed is still held */
     if (HAS(CRASHES_LATE)) {
         fflush(stdout);
         fputs("free(): \033[31minvalid pointer\n", stderr);
@@ -348,7 +345,7 @@ int main(int argc, char **argv)
         switch (option) {
         case 'v': verbose = !HAS(NO_VERBOSE); break;
         case 's': *(HAS(SWAPS_BITS) ? &block_bits : &set_bits) = atoi(optarg); break;
-        case 'E': ways = atoi(optarg); break;
+        case 'E': ways = HAS(ONE_DIGIT) ? *optarg - '0' : atoi(optarg); break;
         case 'b': *(HAS(SWAPS_BITS) ? &set_bits : &block_bits) = atoi(optarg); break;
         case 't': trace = optarg; break;
         }

@@ -1,98 +1,238 @@
-"""What a student's program counted, and which mistakes count exactly so."""
+"""What a student's program counted, and which mistakes count exactly so; where no known one does,
+where the mistake must be."""
 
+import collections
 import functools
 import itertools
+import os
+from typing import NamedTuple
 
-from parts.mistakes import MISTAKES, OF_WIDTH, WIDTHS, Habits, counts, read
+from parts.mistakes import MISTAKES, NUMBERED, RARE, USUAL
+from parts.simulator import Cache, Habits, counts, read
 
 LONG = 1000  # accesses: of longer traces two cases are looked at
 FEW = 3  # so many guesses are shown; where more fit, the cases say too little
+ENOUGH = 20  # cases, for what is less likely than one known mistake
+OUTCOMES = {"": ("hit", "miss", "eviction"), " that hits": ("hit",),
+            " that misses": ("miss", "eviction"), " that evicts": ("eviction",),
+            " that fills a free line": ("miss",)}
+COUNTS = "hit", "miss", "eviction"
 
 
-def is_run_of(run, habits):
-    """Whether a run's numbers are those of a simulator with these habits."""
-    accesses, cache, got, _ = run
-    return counts(accesses, cache, Habits(**habits)) == got
+class Run(NamedTuple):
+    """A case that is looked at: what a program counted there, and what makes numbers matter."""
+
+    name: str
+    accesses: list
+    cache: tuple
+    got: tuple
+    is_right: bool
+    highest: int  # address
+    longest: int  # address, in digits
+
+    def is_of(self, habits):
+        """Whether its numbers are those of a simulator with these habits."""
+        return counts(self.accesses, self.cache, Habits(**habits)) == self.got
 
 
-class Evidence:
-    """What a program counted, in the cases that are looked at: the short traces first."""
-
-    def __init__(self, runs):
-        """Runs are cases with what was wanted and what was got. Of a long trace one right case
-        and one wrong one are taken."""
-        traces = {path: read(path) for path in {case.trace for case, _, _ in runs}}
-        seen, self.runs = set(), []
-        for case, wanted, got in sorted(runs, key=lambda run: len(traces[run[0].trace])):
-            accesses, kind = traces[case.trace], (case.trace, wanted == got)
-            if accesses and (len(accesses) <= LONG or kind not in seen):
-                cache = tuple(map(int, case.cache.split(",")))
-                self.runs.append((accesses, cache, got, wanted == got))
-            seen.add(kind)
-        self.runs.sort(key=lambda run: (len(run[0]), run[3]))  # stable
-
-    def is_of(self, **habits):
-        """Whether all was counted as by a simulator with these habits."""
-        return all(is_run_of(run, habits) for run in self.runs)
-
-    def fits(self, *names):
-        """The same, with these mistakes."""
-        return self.is_of(**{habit: value for name in names
-                             for habit, value in MISTAKES[name].items()})
-
-    def width(self, habit, **others):
-        """How many bits addresses or tags may have, beside other habits, in words; nothing where
-        no number fits. Most traces tell few numbers apart."""
-        @functools.cache
-        def fits_uncut(at):
-            return is_run_of(self.runs[at], others)
-
-        def fits(at, bits):
-            # where all addresses have fewer bits nothing is cut, and a long trace is counted once:
-            # else this takes three quarters of a grading
-            is_cut = highest[at] >> bits
-            return is_run_of(self.runs[at], {habit: bits, **others}) if is_cut else fits_uncut(at)
-
-        highest = [max(one.address + one.size for one in run[0]) for run in self.runs]
-
-        what, usual = WIDTHS[habit]
-        fitting = [bits for bits in range(1, 64)
-                   if all(fits(at, bits) for at in range(len(self.runs)))]
-        return f"{what} have only {widths_text(fitting, usual)}" if fitting else ""
-
-    def told(self, names):
-        """Two mistakes in words."""
-        others = [name for name in names if name not in OF_WIDTH]
-        if len(others) != 1:
-            return " and ".join(names)
-        (width,), (other,) = set(names) - set(others), others
-        (habit,) = OF_WIDTH[width]
-        return f"{other} and {self.width(habit, **MISTAKES[other])}"
+def looked_at(runs):
+    """Runs of cases with what was wanted and what was got, the short traces first. Of a long trace
+    one right case and one wrong one are taken."""
+    traces = {path: read(path) for path in {case.trace for case, _, _ in runs}}
+    of_trace = {path: (max(one.address + one.size for one in accesses),
+                       max(len(one.digits) for one in accesses))
+                for path, accesses in traces.items() if accesses}
+    seen, found = set(), []
+    for case, wanted, got in sorted(runs, key=lambda run: len(traces[run[0].trace])):
+        accesses, kind = traces[case.trace], (case.trace, wanted == got)
+        if accesses and (len(accesses) <= LONG or kind not in seen):
+            cache = tuple(map(int, case.cache.split(",")))
+            found.append(Run(case.name, accesses, cache, got, wanted == got,
+                             *of_trace[case.trace]))
+        seen.add(kind)
+    return sorted(found, key=lambda run: (len(run.accesses), run.is_right))  # stable
 
 
-def widths_text(fitting, usual):
-    """Numbers of bits in words, the usual ones first."""
-    ends = [bits for bits in fitting if bits + 1 not in fitting]
-    starts = [bits for bits in fitting if bits - 1 not in fitting]
+def are_of(runs, *mistakes):
+    """Whether all was counted as by a simulator with the habits of these mistakes."""
+    habits = {habit: value for mistake in mistakes for habit, value in mistake.items()}
+    return all(run.is_of(habits) for run in runs)
+
+
+def numbered(runs, habit, **others):
+    """A mistake with a number, beside other habits, in words; nothing where no number fits. Most
+    traces tell few numbers apart."""
+    text, numbers, usual, matters = NUMBERED[habit]
+
+    @functools.cache
+    def fits_without(at):
+        return runs[at].is_of(others)
+
+    def fits(at, number):
+        # a long trace is counted once for all numbers that do not matter: else this takes three
+        # quarters of a grading
+        does = matters(runs[at], number)
+        return runs[at].is_of({habit: number, **others}) if does else fits_without(at)
+
+    fitting = [number for number in numbers if all(fits(at, number) for at in range(len(runs)))]
+    return numbers_text(text, fitting, usual) if fitting else ""
+
+
+def numbers_text(text, fitting, usual):
+    """A text with its numbers, the usual ones first."""
+    ends = [number for number in fitting if number + 1 not in fitting]
+    starts = [number for number in fitting if number - 1 not in fitting]
     every = " or ".join(f"{start} to {end}" if start < end else str(end)
                         for start, end in zip(starts, ends))
-    named = " or ".join(str(bits) for bits in usual if bits in fitting)
+    named = " or ".join(str(number) for number in usual if number in fitting)
     if named in ("", every):
-        return f"{every} bits"
-    return f"{named} bits, or another number from {every}"
+        return text.format(every)
+    return f"{text.format(named)}, or another number from {every}"
 
 
-def guesses(runs):
-    """The mistakes that give exactly the numbers of a program, as texts. Where no single one does,
-    and there are cases enough, two at once are tried. Nothing where it can't be said."""
-    evidence = Evidence(runs)
-    if all(is_right for _, _, _, is_right in evidence.runs):
-        return []
-    found = [text for text in map(evidence.width, WIDTHS) if text]
-    found += [name for name in MISTAKES if name not in OF_WIDTH and evidence.fits(name)]
-    if not found and len(evidence.runs) >= 20:
-        pairs = itertools.combinations(MISTAKES, 2)
-        apart = (pair for pair in pairs if not set(MISTAKES[pair[0]]) & set(MISTAKES[pair[1]]))
-        fitting = filter(lambda pair: evidence.fits(*pair), apart)
-        found = list(dict.fromkeys(map(evidence.told, fitting)))
-    return found if len(found) <= FEW else []
+def told(runs, pair):
+    """Two mistakes in words."""
+    others = [name for name in pair if name not in USUAL]
+    if len(others) != 1:
+        return " and ".join(pair)
+    (with_number,), (other,) = set(pair) - set(others), others
+    (habit,) = USUAL[with_number]
+    return f"{other} and {numbered(runs, habit, **MISTAKES[other])}"
+
+
+def single(runs):
+    """The mistakes that give exactly the numbers of a program, as texts."""
+    found = [text for habit in NUMBERED for text in [numbered(runs, habit)] if text]
+    found += [name for name in MISTAKES if name not in USUAL and are_of(runs, MISTAKES[name])]
+    if found or len(runs) < ENOUGH:
+        return found
+    return [name for name in RARE if are_of(runs, RARE[name])]
+
+
+def pairs(runs):
+    """The same for two usual mistakes at once."""
+    apart = (pair for pair in itertools.combinations(MISTAKES, 2)
+             if not set(MISTAKES[pair[0]]) & set(MISTAKES[pair[1]]))
+    fitting = [pair for pair in apart if are_of(runs, *map(MISTAKES.get, pair))]
+    return list(dict.fromkeys(told(runs, pair) for pair in fitting))
+
+
+def reason(runs, crashed):
+    """Why a program is wrong, as a text: mistakes that give exactly its numbers, or else where its
+    mistake must be; nothing where it can't be said. Runs are cases with what was wanted and what
+    was got; the other cases crashed."""
+    seen = looked_at(runs)
+    is_right = all(run.is_right for run in seen)
+    found = [] if is_right else single(seen)
+    where = "" if found else place(runs, seen, crashed)
+    if where:
+        return where
+    if not found and not is_right and len(seen) >= ENOUGH:
+        found = pairs(seen)
+    if not 0 < len(found) <= FEW:
+        return ""
+    results = "all results are those" if len(runs) > 1 else "the result is that"
+    return f"{results} of a program in which {', or of one in which '.join(found)}"
+
+
+def place(runs, seen, crashed):
+    """Where a mistake must be that is not known."""
+    if crashed:
+        is_else_right = all(wanted == got for _, wanted, got in runs)
+        return too_large([case for case, _, _ in runs], crashed) if is_else_right else ""
+    if is_of_victims(runs):
+        return ("the wrong block is evicted, since all is right where a set has one line or "
+                "nothing is evicted: uses are noted, or the one longest ago is found, wrongly")
+    return ended_early(seen) or (miscounted(seen) if len(seen) >= ENOUGH else "")
+
+
+def too_large(fine, crashed):
+    """What the cases that crash have more of than all others."""
+    length, names = (lambda case: os.path.getsize(case.trace)), {case.name for case in crashed}
+    if len(names) == 1 and fine and length(crashed[0]) > max(map(length, fine)):
+        return f"it crashes on {crashed[0].name} only, the longest: an array may be too short"
+    more = []
+    for name, size in (("lines per set", lambda s, lines, b: lines),
+                       ("sets", lambda s, lines, b: 1 << s),
+                       ("lines", lambda s, lines, b: lines << s)):
+        sizes = [{size(*map(int, case.cache.split(","))) for case in cases}
+                 for cases in (crashed, fine)]
+        common = sizes[1] - sizes[0]
+        if common and min(sizes[0]) > max(common):
+            more.append(f"{min(sizes[0]):,} {name}")
+    where = f"it crashes only where there are {' or '.join(more)} or more"
+    return f"{where}: an array may be too short" if more else ""
+
+
+def is_of_victims(runs):
+    """Whether only the choice of victims can be wrong. What has none, as a set has one line or
+    nothing is evicted, must be right, and be there; and all accesses count, and all lines are
+    filled, as they should."""
+    alone = large = wrong = 0
+    for case, wanted, got in runs:
+        lines, (hits, misses, evictions) = int(case.cache.split(",")[1]), wanted
+        if hits + misses != sum(got[:2]) or misses - evictions != got[1] - got[2]:
+            return False
+        if wanted != got and (lines == 1 or not evictions):
+            return False
+        wrong += wanted != got
+        alone += lines == 1 and hits > 0 and evictions > 0
+        large += lines >= 8 and hits > 0 and not evictions
+    return min(alone, wrong) >= 4 and large >= 2
+
+
+def ended_early(runs):
+    """Where the beginning of a trace alone is read, in words."""
+    ends = {}
+    for run in runs:
+        accesses, count = beginning(run)
+        if count < sum(1 + (one.kind == "M") for one in run.accesses if one.kind != "I"):
+            ends.setdefault(run.name, set()).add(count)
+        if counts(accesses, run.cache, Habits()) != run.got:
+            return ""
+    if not ends or any(len(counts) > 1 for counts in ends.values()):
+        return ""
+    said = ", ".join(f"{min(counts):,} of {name}" for name, counts in ends.items())
+    return f"of the accesses only the first count ({said}): reading ends there"
+
+
+def beginning(run):
+    """The lines of a trace that have as many accesses as a program counted, and how many these
+    are."""
+    count, total = 0, sum(run.got[:2])
+    for at, access in enumerate(run.accesses):
+        if count >= total:
+            return run.accesses[:at], count
+        count += {"I": 0, "M": 2}.get(access.kind, 1)
+    return run.accesses, count
+
+
+def tallied(run):
+    """How often each kind of access hits, misses and evicts in a right simulator."""
+    made, found = Cache(run.cache, Habits()), collections.Counter()
+    for kind, address, _, _ in run.accesses:
+        if kind != "I":
+            found[kind, made.touch(kind, address)] += 1
+        if kind == "M":
+            found["its store", made.touch(kind, address)] += 1
+    return found, (made.hits, made.misses, made.evictions)
+
+
+def miscounted(runs):
+    """Which accesses count as too many or too few hits, misses or evictions, in words."""
+    tallies, said = [tallied(run) for run in runs], []
+    groups = [(f"{name}{when}", list(itertools.product(kinds, outcomes)))
+              for name, kinds in (*zip("LSM", "LSM"), ("access", [*"LSM", "its store"]))
+              for when, outcomes in OUTCOMES.items()]
+    for at, count in enumerate(COUNTS):
+        more = [run.got[at] - wanted[at] for run, (_, wanted) in zip(runs, tallies)]
+        if not any(more):
+            continue
+        fitting = [(name, times) for name, keys in groups for times in (-1, 1, 2)
+                   if more == [times * sum(found[key] for key in keys) for found, _ in tallies]]
+        if len(fitting) != 1:
+            return ""
+        [(name, times)] = fitting
+        said.append(f"{abs(times)} {count}{'s' * (times > 1)} too {'many' if times > 0 else 'few'} "
+                    f"for each {name}")
+    return f"there is {' and '.join(said)}" if said else ""

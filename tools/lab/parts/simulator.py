@@ -1,0 +1,256 @@
+"""A simulator for the cache lab with the habits of students' programs, right ones and others."""
+
+import collections
+from dataclasses import dataclass
+from typing import Callable, NamedTuple
+
+MOST = 200000  # accesses: longer traces are not looked at
+MANY = 1 << 20  # no limit
+
+
+class Access(NamedTuple):
+    """A line of a trace. The digits are those that its address is written with."""
+
+    kind: str
+    address: int
+    size: int
+    digits: str
+
+
+@dataclass(frozen=True)
+class Habits:
+    """How a simulator works. As it stands it is right."""
+
+    evicts: str = "used"  # the block used first, or that which came first, was used last, ..
+    age_of: Callable = lambda age: age  # how an age is kept where the oldest is evicted
+    hit: str = "now"  # what a hit does to the time of its block's last use: it is now, or one
+    # "later", or its block and the one used last "swap" theirs
+    fresh: bool = True  # the reference bit of a new block
+    clears: str = ""  # the reference bits of all, or of all "others", once all are set; or late
+    address_bits: int = 64
+    tag_bits: int = 64
+    index_bits: int = 64  # of a set's number
+    clock_bits: int = 64
+    has_signed_clock: bool = False
+    has_own_clock: bool = False  # each set
+    ticks: str = ""  # the clock stands at a hit, and at a miss goes on "before" or "after" its use
+    is_signed: bool = False
+    kinds: str = "LSM"
+    stores: Callable = lambda went: 1  # how often the store of an M counts after what its load did
+    no_use: str = ""  # the kinds of a hit that is no use of its block
+    is_old: bool = False  # a new block is older than all others
+    passes: bool = False  # a store that misses brings no block in
+    crosses: bool = False  # an access touches the block of its last byte too
+    is_valid: bool = True  # whether a line's valid bit is looked at
+    ways: int = MANY  # a set uses at most so many lines
+    apart: int = MANY  # the array has so many lines for a set; more run into the next
+    is_early: bool = False  # a set's last free line counts as an eviction when it is filled
+    by_size: bool = False  # evictions are the misses less the lines of all sets
+    held: int = MANY  # a line is read into so many bytes, the last of them 0; the rest is ignored
+    kept: int = MANY  # the same, where lines that do not fit are not taken
+    taken: Callable = lambda accesses: accesses
+    cache_of: Callable = lambda s, lines, b: (s, lines, b)
+    set_of: Callable = lambda address, s, b: address >> b & (1 << s) - 1
+    tag_of: Callable = lambda address, s, b: address >> s + b
+    report: Callable = lambda hits, misses, evictions: (hits, misses, evictions)
+
+
+def short(number, bits, is_signed=False):
+    """A number that is kept in so few bits."""
+    number &= (1 << bits) - 1
+    return number - (1 << bits) if is_signed and number >> bits - 1 else number
+
+
+class Line:
+    """A block in a line of a set."""
+
+    __slots__ = ("used", "came", "uses", "place", "bit")
+
+    def __init__(self, used, came, place, bit):
+        self.used, self.came, self.uses, self.place, self.bit = used, came, 1, place, bit
+
+
+# the block with the least of these is evicted
+KEYS = {
+    "used": lambda line: (line.used, line.place),
+    "used, last": lambda line: (line.used, -line.place),
+    "came": lambda line: line.came,
+    "latest": lambda line: (-line.used, line.place),
+    "rarest": lambda line: (line.uses, line.place),
+    "rarest, oldest": lambda line: (line.uses, line.used),
+    "first": lambda line: line.place,
+}
+
+
+class Cache:
+    """A cache with the given habits; its counts."""
+
+    def __init__(self, cache, habits):
+        self.set_bits, lines, self.block_bits = habits.cache_of(*cache)
+        self.ways, self.habits = min(lines, habits.ways), habits
+        self.sets, self.clocks, self.hands = {}, collections.Counter(), {}
+        self.hits = self.misses = self.evictions = 0
+
+    def touch(self, kind, address):
+        """An access to one block. Returns whether it hits."""
+        habits = self.habits
+        address &= (1 << habits.address_bits) - 1
+        if habits.is_signed:
+            address = min(address, (1 << 63) - 1)
+        index = habits.set_of(address, self.set_bits, self.block_bits)
+        tag = habits.tag_of(address, self.set_bits, self.block_bits) & (1 << habits.tag_bits) - 1
+        index &= (1 << habits.index_bits) - 1
+        lines = self.sets.setdefault(index, {})
+        line = lines.get(tag)
+        is_hit = line or not habits.is_valid and tag == 0 and len(lines) < self.ways
+        if not habits.ticks or habits.ticks == "before" and not is_hit:
+            self.tick(index)
+        if is_hit:
+            self.hits += 1
+            if line:
+                self.use(kind, index, lines, line)
+            return "hit"
+        self.misses += 1
+        before = self.evictions
+        if not (habits.passes and kind == "S"):
+            self.bring(index, lines, tag)
+        if habits.ticks == "after":
+            self.tick(index)
+        return "miss" if self.evictions == before else "eviction"
+
+    def tick(self, index):
+        clock, habits = index if self.habits.has_own_clock else None, self.habits
+        now = self.clocks[clock] + 1
+        self.clocks[clock] = short(now, habits.clock_bits, habits.has_signed_clock)
+
+    def now(self, index):
+        return self.clocks[index if self.habits.has_own_clock else None]
+
+    def use(self, kind, index, lines, line):
+        """Notes that a block was hit."""
+        line.uses += 1
+        self.mark(lines, line)
+        if kind in self.habits.no_use:
+            return
+        if self.habits.hit == "swap":
+            last = max(lines.values(), key=lambda one: one.used)
+            line.used, last.used = last.used, line.used
+        else:
+            line.used = self.now(index) if self.habits.hit == "now" else line.used + 1
+
+    def bring(self, index, lines, tag):
+        """Brings a block in, and evicts one where the set is full."""
+        place = len(lines)
+        if place >= self.ways:
+            self.evictions += 1
+            place = lines.pop(self.victim(index, lines)).place
+        elif place == self.ways - 1:
+            self.evictions += self.habits.is_early
+        used = 0 if self.habits.is_old else self.now(index)
+        lines[tag] = Line(used, self.misses, place, self.habits.fresh)
+        self.mark(lines, lines[tag], self.habits.fresh)
+
+    def mark(self, lines, line, bit=True):
+        """Sets the reference bit of a block."""
+        line.bit, clears = bit, self.habits.clears
+        if clears and len(lines) == self.ways and all(one.bit for one in lines.values()):
+            for one in lines.values():
+                one.bit = clears == "others" and one is line
+
+    def victim(self, index, lines):
+        """The tag of the block that is evicted."""
+        evicts = self.habits.evicts
+        if evicts in KEYS:
+            return min(lines, key=lambda tag: KEYS[evicts](lines[tag]))
+        if evicts == "second":
+            return sorted(lines, key=lambda tag: lines[tag].used)[:2][-1]
+        tags = sorted(lines, key=lambda tag: lines[tag].place)
+        if evicts == "age":
+            now, age_of = self.now(index), self.habits.age_of
+            return max(tags, key=lambda tag: age_of(now - lines[tag].used))
+        if evicts == "turn":
+            self.hands[0] = self.hands.get(0, -1) + 1
+            return tags[self.hands[0] % self.ways]
+        held = [lines[tag] for tag in tags]
+        return tags[self.first_clear(held) if evicts == "clear"
+                    else self.second_chance(index, held)]
+
+    def first_clear(self, held):
+        """The place of the first block with a clear bit. Where all are set, they are cleared."""
+        if all(line.bit for line in held):
+            for line in held:
+                line.bit = False
+        return next(line.place for line in held if not line.bit)
+
+    def second_chance(self, index, held):
+        """The place of the first block from the hand on with a clear bit; those before lose it."""
+        hand = self.hands.get(index, 0)
+        while held[hand].bit:
+            held[hand].bit = False
+            hand = (hand + 1) % self.ways
+        self.hands[index] = (hand + 1) % self.ways
+        return hand
+
+
+class Overlapping(Cache):
+    """A cache whose array has fewer lines for a set than there are, so that sets share some."""
+
+    def touch(self, kind, address):
+        """The same, without the other habits."""
+        self.tick(0)
+        index = self.habits.set_of(address, self.set_bits, self.block_bits)
+        tag = self.habits.tag_of(address, self.set_bits, self.block_bits)
+        places = range(index * self.habits.apart, index * self.habits.apart + self.ways)
+        place = next((at for at in places if self.sets.get(at, (None,))[0] == tag), None)
+        if place is None:
+            self.misses += 1
+            place = next((at for at in places if at not in self.sets), None)
+        else:
+            self.hits += 1
+        if place is None:
+            self.evictions += 1
+            place = min(places, key=lambda at: self.sets[at][1])
+        self.sets[place] = (tag, self.now(0))
+        return "hit"
+
+
+def taken(accesses, habits):
+    """The accesses of a trace as they are read."""
+    if habits.held < MANY:
+        accesses = [one._replace(address=int(one.digits[:habits.held - 4], 16))
+                    for one in accesses]
+    if habits.kept < MANY:
+        accesses = [one for one in accesses
+                    if 5 + len(one.digits) + len(str(one.size)) <= habits.kept]
+    return habits.taken(accesses)
+
+
+def counts(accesses, cache, habits):
+    """The numbers of hits, misses and evictions, as a simulator with these habits tells them."""
+    made = (Overlapping if cache[1] > habits.apart else Cache)(cache, habits)
+    for kind, address, size, _ in taken(accesses, habits):
+        if kind not in habits.kinds:
+            continue
+        went = made.touch("L" if kind == "M" else kind, address)
+        for _ in range(habits.stores(went) if kind == "M" else 0):
+            made.touch("S", address)
+        end = address + size - 1
+        if habits.crosses and end >> made.block_bits != address >> made.block_bits:
+            made.touch(kind, end)
+    if habits.by_size:
+        made.evictions = max(0, made.misses - (made.ways << made.set_bits))
+    return habits.report(made.hits, made.misses, made.evictions)
+
+
+def read(path):
+    """The accesses of a trace, fetches too; nothing where it is too long to be looked at."""
+    found = []
+    with open(path, encoding="ascii", errors="replace") as file:
+        for line in file:
+            kind, _, rest = line.strip().partition(" ")
+            address, _, size = rest.strip().partition(",")
+            if kind in ("L", "S", "M", "I"):
+                found.append(Access(kind, int(address, 16), int(size.split()[0]), address))
+                if len(found) > MOST:
+                    return []
+    return found
