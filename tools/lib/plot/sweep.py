@@ -203,7 +203,9 @@ def drawn(asked, tables, measure):
     usual = [made[name]() for name in (first, "block", "pareto")]
     if asked.only:
         return [made[asked.only]()]
-    offered = {each.name: choices(each, asked, tables, measure).values() for each in usual}
+    offered = {each.name: [each] for each in usual}
+    if asked.ending == ".html":
+        offered = {each.name: choices(each, asked, tables, measure).values() for each in usual}
     return [each for each in usual if any(map(is_broad, offered[each.name]))] or usual[:1]
 
 
