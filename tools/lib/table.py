@@ -83,12 +83,15 @@ def column_of(columns, measure, name):
     return columns.index(measure)
 
 
-def rows_of(lines, name, columns, whole, what):
-    """The fields of each row of a page without a header, and its number. They are as many as the
-    columns, and whole numbers at these places. The last row may not be cut, even inside a number.
-    """
+def judge_end(lines, name):
+    """Refuses a table of which the last row may be cut, even inside a number."""
     if lines and not lines[-1].endswith("\n"):
         raise BadTable(f"{name}: line {len(lines)} has no end: the table was cut off there")
+
+
+def rows_of(lines, name, columns, whole, what):
+    """The fields of each row but the header, and its number. They are as many as the columns, and
+    whole numbers at these places."""
     for number, line in enumerate(lines, 1):
         fields = line.rstrip("\r\n").split(",")
         if number == 1 and fields == columns:
@@ -102,6 +105,7 @@ def read_table(lines, name, measure="misses"):
     """The rows of a table, given its lines. A page without a header will do; `name` is for the
     fault. A header may name more columns after those of a sweep, which some tools add: of these
     only the measure is read."""
+    judge_end(lines, name)
     rows, seen, empty = [], set(), 0
     own, first = HEADER.split(","), "".join(lines[:1]).rstrip("\r\n").split(",")
     columns = first if first[:len(own)] == own else own

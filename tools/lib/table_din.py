@@ -4,7 +4,7 @@ import math
 import re
 from typing import NamedTuple
 
-from lib.table import BadTable, column_of, number_of, rows_of
+from lib.table import BadTable, column_of, judge_end, number_of, rows_of
 
 # an option of a cache, as a column has it
 OPTION = re.compile("(l[12]-[diu])(size|sets|bsize|assoc|repl|walloc|wback)")
@@ -124,6 +124,7 @@ def read_rows(lines, name, columns, options):
 
 def read_table(lines, name, measure=None):
     """The table that some lines are. Without a measure it is of the misses of the last cache."""
+    judge_end(lines, name)
     columns = lines[0].rstrip("\r\n").split(",")
     options = [column for column in columns if OPTION.fullmatch(column)]
     measure, factors = measure or usual_measure(columns), factors_of(columns)
