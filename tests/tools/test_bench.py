@@ -88,59 +88,54 @@ class Runs(Bench):
         self.assertIn("\n    bench/run OLD NEW ", self.good(self.run_command(RUN, "--help")))
 
 
+# what both programs do behind GOOD, or what the digests of all are, and how that is told
+FAIL_ALIKE = (
+    ("echo user_jobs: out of memory >&2; exit 1", "ended with status 1: user_jobs: out of memory"),
+    ("printf 'one\\ntwo\\n' >&2; exit 2", "ended with status 2: one"),
+    ("exit 3", "ended with status 3"),
+    ("kill -KILL $$", "ended by signal 9"),
+)
+# as user_jobs prints them, which ends with 0
+NO_DIGESTS = ("csim line 1: bad label", "swep error: unrecognized subcommand 'swep'",
+              "sweep out of memory", "sweep --sets: 3 is no power of two",
+              "sweep 4049 b4f2c625a41b7a3", "sweep 4049")
+
+
 class Faults(Bench):
     """Where a program does other than end well, or than the other, no ratio is told."""
 
-    def of_both(self, *lines):
+    def of_both(self, told, *lines):
+        """What is told where both programs do this."""
         for checkout in ("old", "new"):
             self.program(checkout, *lines)
+        self.stops(1, rf"usual: {self.folder}/(old|new)/\S*/user_jobs: {told}")
 
     def test_outputs_that_differ(self):
         self.program("new", GOOD[0], 'echo "din 733 896b3ccdbea6edb6"')
         self.stops(1, "usual: the outputs differ")
 
     def test_programs_that_fail_alike(self):
-        for line, told in (
-            ("echo user_jobs: out of memory >&2; exit 1",
-             "ended with status 1: user_jobs: out of memory"),
-            ("printf 'one\\ntwo\\n' >&2; exit 2", "ended with status 2: one"),
-            ("exit 3", "ended with status 3"),
-            ("kill -KILL $$", "ended by signal 9"),
-        ):
+        self.of_both("no command", "")
+        for line, told in FAIL_ALIKE:
             with self.subTest(line):
-                self.of_both(*GOOD, line)
-                self.stops(1, rf"usual: {self.folder}/(old|new)/\S*/user_jobs: {told}")
+                self.of_both(told, *GOOD, line)
+        for line in NO_DIGESTS:
+            with self.subTest(line):
+                self.of_both(re.escape(line), GOOD[0], f'echo "{line}"', GOOD[1])
 
     def test_one_that_fails(self):
-        for checkout in ("old", "new"):
-            with self.subTest(checkout):
-                self.of_both(*GOOD)
-                self.program(checkout, *GOOD, "exit 1")
-                self.stops(1, rf"usual: {self.folder}/{checkout}/\S*: ended with status 1")
-
-    def test_one_that_fails_late(self):
-        """In its last turn."""
+        """Also in its last turn."""
         counted = f'echo >> {self.folder}/ran; [ $(wc -l < {self.folder}/ran) -lt 8 ] || exit 1'
-        self.program("new", *GOOD, counted)
-        self.stops(1, rf"usual: {self.folder}/new/\S*: ended with status 1")
+        for checkout, line in ("old", "exit 1"), ("new", "exit 1"), ("new", counted):
+            with self.subTest(checkout):
+                for each in ("old", "new"):
+                    self.program(each, *GOOD, *[line] * (each == checkout))
+                self.stops(1, rf"usual: {self.folder}/{checkout}/\S*: ended with status 1")
         self.assertEqual(len((self.folder / "ran").read_text().splitlines()), 8)
-
-    def test_faults_in_place_of_digests(self):
-        """As user_jobs prints them, which ends with 0."""
-        for line in ("csim line 1: bad label", "swep error: unrecognized subcommand 'swep'",
-                     "sweep out of memory", "sweep --sets: 3 is no power of two",
-                     "sweep 4049 b4f2c625a41b7a3", "sweep 4049"):
-            with self.subTest(line):
-                self.of_both(GOOD[0], f'echo "{line}"', GOOD[1])
-                self.stops(1, rf"usual: {self.folder}/\S*: {re.escape(line)}")
-
-    def test_no_command(self):
-        self.of_both("")
-        self.stops(1, rf"usual: {self.folder}/\S*: no command")
 
     def test_the_second_workload(self):
         """The line of the first stands in the table."""
-        self.of_both(*GOOD, '[ "$3" = program ] || exit 1')
+        self.program("old", *GOOD, '[ "$3" = program ] || exit 1')
         self.workloads("usual user_jobs SEED + program 10", "other user_jobs SEED + lackey 10")
         ran = self.bench()
         self.assertEqual((ran.returncode, ran.stdout.decode().split()[5]), (1, "usual"))
@@ -189,47 +184,42 @@ class WrongInput(Bench):
             with self.subTest(more):
                 self.wrong(f"{told}; 'bench/run --help' explains the arguments", *more)
 
-    def test_an_unknown_workload(self):
-        self.wrong(r"no workload usua in new/bench/workloads\.txt", "--only", "usua")
-
     def test_workloads(self):
         """Also of a line that is not asked for."""
+        file = r"new/bench/workloads\.txt"
+        self.wrong(f"no workload usua in {file}", "--only", "usua")
         for line in ("alone", "wrong <trace", "wrong user_jobs <", "wrong user_jobs \0"):
             with self.subTest(line):
                 self.workloads("usual user_jobs SEED", "", line)
-                told = r"new/bench/workloads\.txt: line 3 is no name, crate and words"
+                told = f"{file}: line 3 is no name, crate and words"
                 self.wrong(told, "--only", "usual")
         for text, told in (("", "no workload"), (b"\xff user_jobs\n", "no text")):
             with self.subTest(text):
                 self.write("new/bench/workloads.txt", text)
-                self.wrong(rf"new/bench/workloads\.txt: {told}")
+                self.wrong(f"{file}: {told}")
         os.remove(self.folder / "new/bench/workloads.txt")
-        self.wrong(r"new/bench/workloads\.txt: No such file or directory")
+        self.wrong(f"{file}: No such file or directory")
 
     def test_checkouts(self):
+        """Of each workload the program and the file are there before the first is run."""
         self.wrong(r"absent/bench/workloads\.txt: No such file or directory", new="absent")
         self.wrong("no folder absent/bench", old="absent")
-        shutil.rmtree(self.folder / "old/bench")
-        self.wrong("no folder old/bench")
-
-    def test_programs(self):
-        """Of each workload, before the first is run."""
-        built = "'rt run' in crates/other builds it"
         self.workloads("usual user_jobs SEED", "second other SEED")
         self.program("new", *GOOD, crate="other")
-        told = rf"no program {self.folder}/old/crates/other/out/other: {built}"
+        told = (rf"no program {self.folder}/old/crates/other/out/other: "
+                "'rt run' in crates/other builds it")
         self.wrong(told)
         self.program("old", *GOOD, crate="other").chmod(0o644)
         self.wrong(told)
+        self.workloads("usual user_jobs SEED <trace")
+        self.write("new/bench/trace", "")
+        self.wrong("no file old/bench/trace that can be read")
+        shutil.rmtree(self.folder / "old/bench")
+        self.wrong("no folder old/bench")
 
     def test_a_program_of_no_known_form(self):
         (self.folder / "old/crates/user_jobs/out/user_jobs").write_bytes(b"\x7fELF")
         self.stops(2, rf"{self.folder}/old/\S*: Exec format error")
-
-    def test_a_file_that_is_missing(self):
-        self.workloads("usual user_jobs SEED <trace")
-        self.write("new/bench/trace", "")
-        self.wrong("no file old/bench/trace that can be read")
 
 
 if __name__ == "__main__":

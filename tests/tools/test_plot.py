@@ -53,11 +53,6 @@ def ways_of(ways, misses=lambda way: 1):
 
 
 class PlotTest(base.ToolTest):
-    def no_gnuplot(self):
-        """Where gnuplot is asked for at once, one that is never run."""
-        folder = self.folder / "bin"
-        return {"PATH": str(folder)} if folder.exists() else self.stand_in("exit 9")
-
     def setUp(self):
         super().setUp()
         self.write("eight.csv", f"{table.HEADER}\n{EIGHT}")
@@ -130,13 +125,10 @@ class Script(PlotTest):
 
     def test_what_is_fixed(self):
         data = self.data("--bsize", "16", "--ways=1", "eight.csv", "-")
-        del data["pareto_all"], data["pareto_labelled"], data["pareto_front"], data["pareto_steps"]
-        self.assertEqual(data, {
+        self.assertEqual({name: runs for name, runs in data.items() if "pareto" not in name}, {
             "size_1": [[(32, 40), (64, 30)]], "size_2": [[(64, 25), (128, 10)]],
             "block_1": [[(16, 40), (32, 50)]], "block_2": [[(16, 30), (32, 32)]],
         })
-
-    def test_only(self):
         for name, title in zip(("size", "block", "pareto"), TITLES):
             script = self.script("--only", name, "eight.csv", "-")
             self.assertEqual({given.split("_")[0] for given in data_of(script)}, {name})
@@ -228,30 +220,90 @@ class Script(PlotTest):
         self.assertEqual(script, self.script("eight.csv", "a.png"))
 
 
+KINDS = f"{table.HEADER},compulsory,capacity,conflict\n"
+NO_DIN = "no table of din: a cache's size or misses are not among its columns\n"
+ONE_DIN = din_rows({(64, "l"): (100,)})
+# tables beside eight.csv and din.csv
+TABLES = {
+    "ways": ways_of(range(1, 30)), "two": EIGHT + "64,2,1,128,60,41,38\n",
+    "none": EIGHT + "0,2,1,0,60,40,38\n", "wide": "128,1,1,128,9,1,0\n",
+    "other": base.rows_of(1000, {(16, 2, 2): 200, (32, 2, 2): 70}),
+    "cut": f"{table.HEADER},conflict\n64,1,1,64,50,50,49,-7-\n",
+    "long": f"{table.HEADER},cost\n64,1,1,64,50,50,49,{'9' * 65}\n",
+    "kinds": KINDS + "64,1,2,128,40,60,58,5,55,0\n64,2,1,128,45,55,53,5,55,-5\n",
+    "sizes": KINDS + "64,1,2,128,40,60,58,5,55,0\n64,2,2,256,70,30,26,5,15,10\n",
+    "head": f"{COLUMNS}\n", "seed": "seed,l1-u-misses\n1,5\n", "size": "l1-usize,l1-urepl\n64,l\n",
+    "twice": f"{COLUMNS}\n{ONE_DIN}{ONE_DIN}", "short": f"{COLUMNS}\n{ONE_DIN[:-3]}\n",
+    "zero": f"{COLUMNS}\n{ONE_DIN.replace('64', '0', 1)}\n",
+    "traces": f"{COLUMNS}\n{ONE_DIN}{ONE_DIN.replace(',1000,', ',999,').replace('l', 'f')}\n",
+    "word": f"{COLUMNS}\n{ONE_DIN.replace('100,', 'x,', 1)}",
+}
+NO_CACHE, NO_ROW = "eight.csv: no cache has the", "line 2: no row of a table of din"
+FAULTS = (
+    ("two.csv -", "two.csv: the rows are not of one trace: 100 references in the first row,"
+     " 101 in that of 64,2,1"),
+    ("none.csv -", "none.csv: 0,2,1 is no cache of a sweep"),
+    ("--ways 99 ways.csv a.png", "ways.csv: no cache has the associativity 99; there are "
+     "1, 2, 4, 8, 16 and others\n"),
+    ("--measure percent eight.csv a.png",
+     "eight.csv: percent is no count: name the column that it is of\n"),
+    ("absent.csv a.png", "absent.csv: No such file or directory"),
+    ("eight.csv none/a.png", "none/a.png: No such file or directory"),
+    ("eight.csv bin.png/a.png", "bin.png/a.png: Not a directory"),
+    ("eight.csv folder.png", "folder.png: Is a directory"),
+    ("eight.csv /proc/a.png", "/proc/a.png: "),
+    ("--bsize 64 eight.csv a.png", f"{NO_CACHE} block size 64; there are 16, 32"),
+    ("--ways 4 eight.csv a.png", f"{NO_CACHE} associativity 4; there are 1, 2"),
+    ("--measure=x eight.csv -", "eight.csv: no column x; there are bsize, sets, assoc, size, hits"),
+    ("--measure=conflict cut.csv -", "cut.csv: line 2: conflict is no number\n"),
+    ("--measure=cost long.csv -", "long.csv: line 2: cost is too long a number\n"),
+    ("--across=l1-usize eight.csv -", "eight.csv: --across is for a table of din\n"),
+    # of tables of din
+    ("head.csv -", "head.csv: a table without a row"), ("seed.csv -", f"seed.csv: {NO_DIN}"),
+    ("size.csv -", f"size.csv: {NO_DIN}"),
+    ("twice.csv -", "twice.csv: line 3: a second row of the same options"),
+    ("short.csv -", f"short.csv: {NO_ROW}"), ("zero.csv -", f"zero.csv: {NO_ROW}"),
+    ("traces.csv -", "traces.csv: line 3: the rows are not of one trace: 1000 references in the "
+     "first row, 999 here"),
+    ("word.csv -", "word.csv: line 2: l1-u-misses is no number"),
+    ("--only=block din.csv -", "din.csv: a table of din has the pictures size and pareto\n"),
+    ("--measure=x din.csv -", "din.csv: no column x; there are l1-usize, "),
+    ("--across=l1-urepl din.csv -", "din.csv: no option l1-urepl with numbers; there are l1-usize, "
+     "l1-ubs"),
+    # of several tables
+    ("eight.csv wide.csv a.png", "the tables have no block size in common\n"),
+    ("--ways 1 eight.csv other.csv a.png",
+     "other.csv: no cache has the associativity 1; there are 2\n"),
+    ("--only block eight.csv other.csv a.png",
+     "several tables have the pictures size, curve, pareto, and not block\n"),
+    ("--only pareto din.csv din.csv a.png", "several tables of din have the picture size alone\n"),
+    ("eight.csv din.csv a.png", "tables of sweeps and of din have no picture in common\n"),
+    ("eight.csv none.csv a.png", "none.csv: 0,2,1 is no cache of a sweep"),
+    ("--measure x other.csv eight.csv a.png", "other.csv: no column x; there are "),
+    # of the three C's
+    *((f"--only three-c {words} a.svg", fault) for words, fault in (
+        ("eight.csv", "eight.csv: no column capacity; there are bsize, "),
+        ("kinds.csv", "kinds.csv: a picture of the three C's is of caches of several sizes\n"),
+        ("--bsize 32 sizes.csv", "sizes.csv: no cache has the block size 32; there are 64\n"),
+        ("--measure hits sizes.csv",
+         "--only three-c draws misses by their kinds, and no other measure\n"),
+        ("--miss-cost 9 sizes.csv", "--only three-c draws misses by their kinds, and no other "),
+        ("sizes.csv sizes.csv",
+         "several tables have the pictures size, curve, pareto, and not three-c\n"),
+        ("din.csv", "din.csv: a table of din has the pictures size and pareto\n"))),
+)
+
+
 class Refused(PlotTest):
     def test_faults_of_the_run(self):
+        """Before gnuplot draws anything."""
         self.write("bin.png", "")
         (self.folder / "folder.png").mkdir()
-        self.write("ways.csv", ways_of(range(1, 30)))
-        self.write("two.csv", EIGHT + "64,2,1,128,60,41,38\n")
-        self.write("none.csv", EIGHT + "0,2,1,0,60,40,38\n")
-        path, eight = self.stand_in("cat > /dev/null; echo picture"), "eight.csv: no cache has the"
-        for words, fault in (
-            ("two.csv -", "two.csv: the rows are not of one trace: 100 references in the first row,"
-             " 101 in that of 64,2,1"),
-            ("none.csv -", "none.csv: 0,2,1 is no cache of a sweep"),
-            ("--ways 99 ways.csv a.png", "ways.csv: no cache has the associativity 99; there are "
-             "1, 2, 4, 8, 16 and others\n"),
-            ("--measure percent eight.csv a.png",
-             "eight.csv: percent is no count: name the column that it is of\n"),
-            ("absent.csv a.png", "absent.csv: No such file or directory"),
-            ("eight.csv none/a.png", "none/a.png: No such file or directory"),
-            ("eight.csv bin.png/a.png", "bin.png/a.png: Not a directory"),
-            ("eight.csv folder.png", "folder.png: Is a directory"),
-            ("eight.csv /proc/a.png", "/proc/a.png: "),
-            ("--bsize 64 eight.csv a.png", f"{eight} block size 64; there are 16, 32"),
-            ("--ways 4 eight.csv a.png", f"{eight} associativity 4; there are 1, 2"),
-        ):
+        self.write_din()
+        for name, text in TABLES.items():
+            self.write(f"{name}.csv", text)
+        path = self.stand_in("cat > /dev/null; echo picture")
+        for words, fault in FAULTS:
             self.refused(self.plot(*words.split(), env=path), 1, f"plot: {fault}")
 
     def test_wrong_arguments(self):
@@ -260,6 +312,8 @@ class Refused(PlotTest):
             ran = self.plot(*words.split())
             self.refused(ran, 2, "plot: ", "'plot --help' explains the arguments\n")
             self.assertEqual(ran.stderr.count(b"\n"), 1)
+        ran = self.plot(*["eight.csv"] * 8, "a.png")
+        self.refused(ran, 2, "plot: 8 tables are too many for one picture; ")
 
     def test_missing_packages(self):
         empty = self.folder / "empty"

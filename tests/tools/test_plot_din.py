@@ -7,7 +7,7 @@ import re
 import base
 from din_base import COLUMNS, POLICIES, din_rows
 from lib import table
-from test_plot import EIGHT, PlotTest, data_of, names_of, ways_of
+from test_plot import EIGHT, PlotTest, data_of, names_of, rows_of, ways_of
 
 COUNTS = "l1-u-references,l1-u-misses,l1-u-percent,bypassed"
 BY_SIZE = "Miss ratio by cache size"
@@ -42,6 +42,10 @@ class Curve(PlotTest):
         script = self.shows("--curve --bsize 16 sets.csv", None, ["1 set", "2 sets", "4 sets"])
         self.assertEqual(data_of(script)["curve_3"], [self.POINTS])
         self.assertNotIn("$curve", self.script("sets.csv", "a.svg"))
+        # of several numbers of sets one at the block size that is drawn
+        self.write("odd.csv", ways_of((1, 2)) + rows_of([(1, 900), (2, 700)], 16))
+        self.shows("--curve odd.csv", {"curve_1": [[(64, 0.1), (128, 0.1)]]}, texts=[
+            f"'{BY_SIZE}: fully associative, blocks of 64 bytes'"])
 
     def test_long_curves_are_thinned(self):
         """No more points than can be seen; the ends stay, and each point is one of the table."""
@@ -73,17 +77,6 @@ class Measure(PlotTest):
                    texts=["set ylabel 'cost'\n", f"set ytics ('0' 0, {ticks})\n"])
         self.write("t.csv", f"{table.HEADER},cost\n64,1,1,64,50,50,49,{'9' * 64}\n")
         self.shows("--measure cost --only size t.csv", texts=["'2e63' 2e+63, '4e63' 4e+63, "])
-
-    def test_refused(self):
-        self.write("t.csv", f"{table.HEADER},conflict\n64,1,1,64,50,50,49,-7-\n")
-        self.write("long.csv", f"{table.HEADER},cost\n64,1,1,64,50,50,49,{'9' * 65}\n")
-        for option, name, fault in (
-            ("--measure=x", "eight.csv", "no column x; there are bsize, sets, assoc, size, hits"),
-            ("--measure=conflict", "t.csv", "line 2: conflict is no number\n"),
-            ("--measure=cost", "long.csv", "line 2: cost is too long a number\n"),
-            ("--across=l1-usize", "eight.csv", "--across is for a table of din\n"),
-        ):
-            self.refused(self.plot(option, name, "-"), 1, f"{name}: {fault}")
 
 
 class Din(PlotTest):
@@ -196,29 +189,6 @@ class Din(PlotTest):
                    "64,100,10,10.000,0\n")
         self.shows("t.csv", texts=[f"'{BY_SIZE}'"])
 
-    def test_refused(self):
-        rows = din_rows({(64, "l"): (100,)})
-        none = "no table of din: a cache's size or misses are not among its columns\n"
-        other = rows.replace(",1000,", ",999,").replace("l", "f")
-        for text, fault in (
-            (f"{COLUMNS}\n", "a table without a row"),
-            ("seed,l1-u-misses\n1,5\n", none),
-            ("l1-usize,l1-urepl\n64,l\n", none),
-            (f"{COLUMNS}\n{rows}{rows}", "line 3: a second row of the same options"),
-            (f"{COLUMNS}\n{rows[:-3]}\n", "line 2: no row of a table of din"),
-            (f"{COLUMNS}\n{rows.replace('64', '0', 1)}\n", "line 2: no row of a table of din"),
-            (f"{COLUMNS}\n{rows}{other}", "1000 references in the first row, 999 here"),
-            (f"{COLUMNS}\n{rows.replace('100,', 'x,', 1)}", "line 2: l1-u-misses is no number"),
-        ):
-            self.write("t.csv", text)
-            self.refused(self.plot("t.csv", "-", env=self.no_gnuplot()), 1, "plot: t.csv: ", fault)
-        for words, fault in (
-            ("--only=block", "a table of din has the pictures size and pareto\n"),
-            ("--measure=x", "no column x; there are l1-usize, "),
-            ("--across=l1-urepl", "no option l1-urepl with numbers; there are l1-usize, l1-ubs"),
-        ):
-            self.refused(self.plot(words, "din.csv", "-"), 1, f"plot: din.csv: {fault}")
-
 
 class Several(PlotTest):
     def setUp(self):
@@ -268,22 +238,3 @@ class Several(PlotTest):
         self.assertEqual(data_of(script)["size_4"], [[(64, 30), (128, 25)]])
         self.write_din("last.csv", {(64, "f"): (300,)})
         self.shows("din.csv din.csv lru.csv last.csv", texts=[f"'{BY_SIZE}: 5 of 8 lines'"])
-
-    def test_refused(self):
-        self.write("wide.csv", "128,1,1,128,9,1,0\n")
-        for words, fault in (
-            ("eight.csv wide.csv", "the tables have no block size in common\n"),
-            ("--ways 1 eight.csv other.csv",
-             "other.csv: no cache has the associativity 1; there are 2\n"),
-            ("--only block eight.csv other.csv",
-             "several tables have the pictures size, curve, pareto, and not block\n"),
-            ("--only pareto din.csv din.csv",
-             "several tables of din have the picture size alone\n"),
-            ("eight.csv din.csv", "tables of sweeps and of din have no picture in common\n"),
-            ("eight.csv none.csv", "none.csv: No such file or directory\n"),
-            ("--measure x other.csv eight.csv", "other.csv: no column x; there are "),
-        ):
-            ran = self.plot(*words.split(), "a.png", env=self.no_gnuplot())
-            self.refused(ran, 1, f"plot: {fault}")
-        ran = self.plot(*["eight.csv"] * 8, "a.png")
-        self.refused(ran, 2, "plot: 8 tables are too many for one picture; ")

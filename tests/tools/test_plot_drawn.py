@@ -175,6 +175,14 @@ class Page(PlotTest):
         self.assertEqual(steps["line"]["shape"], "hv")
         self.assertEqual(list(zip(front["x"], front["y"])), [(32, 40), (64, 25), (128, 8)])
 
+    def test_a_column_that_another_choice_widens(self):
+        """With 4 ways there is one block size, and with 1 way there are two."""
+        rows = rows_of([(1, 500), (2, 300)]) + rows_of([(2, 400)], 32)
+        self.write("t.csv", rows + "64,1,4,256,900,100,96\n")
+        self.assertEqual(list(self.figures("t.csv")), ["size", "block", "pareto"])
+        drawn = {name.split("_")[0] for name in self.data("t.csv", "a.svg")}
+        self.assertEqual(drawn, {"size", "pareto"})
+
     def test_counts_of_the_table(self):
         page = self.page("--measure", "evictions", "eight.csv")
         self.assertIn("<h1>Evictions</h1>\n<p>8 caches, 100 references. ", page)

@@ -60,20 +60,6 @@ class Script(LooksTest):
         script = self.script("--only", "three-c", "--bsize", "16", "t.csv", "a.svg")
         self.assertEqual(data_of(script)["stack_1"], [[(32, 55), (64, 38)]])
 
-    def test_refused(self):
-        self.write("one.csv", HEAD + ROWS[0] + ROWS[1])
-        for words, fault in (
-            ("eight.csv", "eight.csv: no column capacity; there are bsize, "),
-            ("one.csv", "one.csv: a picture of the three C's is of caches of several sizes\n"),
-            ("--bsize 32 t.csv", "t.csv: no cache has the block size 32; there are 64\n"),
-            ("--measure hits t.csv", "--only three-c draws misses by their kinds, and no other "),
-            ("--miss-cost 9 t.csv", "--only three-c draws misses by their kinds, and no other "),
-            ("t.csv t.csv", "several tables have the pictures size, curve, pareto, and not three"),
-            ("din.csv", "din.csv: a table of din has the pictures size and pareto\n"),
-        ):
-            ran = self.plot("--only", "three-c", *words.split(), "a.svg", env=self.no_gnuplot())
-            self.refused(ran, 1, f"plot: {fault}")
-
 
 @needs("gnuplot-nox")
 class Drawn(LooksTest):

@@ -242,13 +242,6 @@ class Scripts(base.ToolTest):
         words = re.findall(r"(?<![-\w])[A-Z]{2,}\b(?!-)", once)
         return [word for word in words if word not in ("OPTION", "OPTIONS")]
 
-    def test_scripts_of_the_tests(self):
-        """The table names each script."""
-        rows = table((base.TOP / "tests/README.md").read_text(), "Script")
-        files = [path for path in (base.TOP / "tests").iterdir() if path.is_file()]
-        scripts = {path.name for path in files if path.read_bytes()[:2] == b"#!"}
-        self.assertEqual({row[0].strip("`") for row in rows}, scripts - {"model.py"})
-
 
 if __name__ == "__main__":
     unittest.main()

@@ -83,23 +83,34 @@ def column_of(columns, measure, name):
     return columns.index(measure)
 
 
+def judge_end(lines, name):
+    """Refuses a table of which the last row may be cut, even inside a number."""
+    if lines and not lines[-1].endswith("\n"):
+        raise BadTable(f"{name}: line {len(lines)} has no end: the table was cut off there")
+
+
+def rows_of(lines, name, columns, whole, what):
+    """The fields of each row but the header, and its number. They are as many as the columns, and
+    whole numbers at these places."""
+    for number, line in enumerate(lines, 1):
+        fields = line.rstrip("\r\n").split(",")
+        if number == 1 and fields == columns:
+            continue
+        if len(fields) != len(columns) or not all(WHOLE.fullmatch(fields[at]) for at in whole):
+            raise BadTable(f"{name}: line {number}: no row of {what}")
+        yield number, fields
+
+
 def read_table(lines, name, measure="misses"):
     """The rows of a table, given its lines. A page without a header will do; `name` is for the
     fault. A header may name more columns after those of a sweep, which some tools add: of these
     only the measure is read."""
-    rows, seen, empty = [], set(), 0
-    columns = HEADER.split(",")
-    own = len(columns)
     judge_end(lines, name)
-    for number, line in enumerate(lines, 1):
-        line = line.rstrip("\r\n")
-        fields = line.split(",")
-        if number == 1 and ",".join(fields[:own]) == HEADER:
-            columns = fields
-            continue
-        if len(fields) != len(columns) or not all(map(WHOLE.fullmatch, fields[:own])):
-            raise BadTable(f"{name}: line {number}: no row of a sweep's table")
-        row = Row(*map(int, fields[:own]))
+    rows, seen, empty = [], set(), 0
+    own, first = HEADER.split(","), "".join(lines[:1]).rstrip("\r\n").split(",")
+    columns = first if first[:len(own)] == own else own
+    for number, fields in rows_of(lines, name, columns, range(len(own)), "a sweep's table"):
+        row = Row(*map(int, fields[:len(own)]))
         if row.size != row.bsize * row.sets * row.assoc:
             raise BadTable(f"{name}: line {number}: size is not bsize * sets * assoc")
         if row.cache in seen:
@@ -119,12 +130,6 @@ def read_table(lines, name, measure="misses"):
     if empty:
         warn(f"{name}: {empty} of {len(seen)} caches have no {measure}, and are left out")
     return rows
-
-
-def judge_end(lines, name):
-    """Refuses a table of which the last row may be cut, even inside a number."""
-    if lines and not lines[-1].endswith("\n"):
-        raise BadTable(f"{name}: line {len(lines)} has no end: the table was cut off there")
 
 
 def lines_of(name):

@@ -4,7 +4,7 @@ import math
 import re
 from typing import NamedTuple
 
-from lib.table import WHOLE, BadTable, column_of, judge_end, number_of
+from lib.table import BadTable, column_of, judge_end, number_of, rows_of
 
 # an option of a cache, as a column has it
 OPTION = re.compile("(l[12]-[diu])(size|sets|bsize|assoc|repl|walloc|wback)")
@@ -83,12 +83,6 @@ def usual_measure(columns):
                  if column.endswith("-misses") and column.count("-") == 2), None)
 
 
-def references_of(columns, fields):
-    """How many references a trace has, by a row: those of the first level and those bypassed."""
-    counted = [column for column in columns if re.fullmatch("l1-[diu]-references|bypassed", column)]
-    return sum(int(fields[columns.index(column)]) for column in counted)
-
-
 def share_of(columns, fields, measure, value, references):
     """A measure in per cent, exactly: what a cache counts by the cache's own references, and other
     counts by those of the trace. What is no count, such as cycles, stays in its own unit."""
@@ -108,49 +102,43 @@ def factors_of(columns):
              if cache(option) + word in columns] for option in given]
 
 
-def read_rows(lines, name, columns):
-    """The fields of each row, which are as many as the columns, and where they stand."""
-    options = [column for column in columns if OPTION.fullmatch(column)]
+def read_rows(lines, name, columns, options):
+    """The fields of each row, its place, and the references of the trace: those of the first level
+    and those bypassed, which are as many in each row."""
+    what = "a table of din"
     sizes = [columns.index(option) for option in options if kind(option) in NUMBERS]
-    counts = [at for at, column in enumerate(columns) if column.endswith("-references")]
-    counts += [at for at, column in enumerate(columns) if column == "bypassed"]
-    for number, line in enumerate(lines[1:], 2):
-        fields = line.rstrip("\r\n").split(",")
-        is_row = len(fields) == len(columns)
-        is_row = is_row and all(WHOLE.fullmatch(fields[at]) for at in [*sizes, *counts])
-        if not is_row or not all(0 < int(fields[at]) < 1 << 64 for at in sizes):
-            raise BadTable(f"{name}: line {number}: no row of a table of din")
-        yield f"{name}: line {number}", fields
-
-
-def judge_columns(columns, measure, name):
-    """Refuses a table without a size or, if no measure is asked for, the misses of a cache."""
-    if not measure or not factors_of(columns):
-        raise BadTable(f"{name}: no table of din: a cache's size or misses are not among its "
-                       "columns")
+    whole = [at for at, word in enumerate(columns) if re.fullmatch(".*-references|bypassed", word)]
+    counted = [at for at in whole if re.fullmatch("l1-.-references|bypassed", columns[at])]
+    first = None
+    for number, fields in rows_of(lines, name, columns, [*sizes, *whole], what):
+        place = f"{name}: line {number}"
+        if not all(0 < int(fields[at]) < 1 << 64 for at in sizes):
+            raise BadTable(f"{place}: no row of {what}")
+        references = sum(int(fields[at]) for at in counted)
+        first = references if first is None else first
+        if references != first:
+            raise BadTable(f"{place}: the rows are not of one trace: {first} references in the"
+                           f" first row, {references} here")
+        yield place, fields, references
 
 
 def read_table(lines, name, measure=None):
     """The table that some lines are. Without a measure it is of the misses of the last cache."""
     judge_end(lines, name)
     columns = lines[0].rstrip("\r\n").split(",")
-    measure = measure or usual_measure(columns)
-    judge_columns(columns, measure, name)
-    measured = column_of(columns, measure, name)
     options = [column for column in columns if OPTION.fullmatch(column)]
-    factors = factors_of(columns)
+    measure, factors = measure or usual_measure(columns), factors_of(columns)
+    if not measure or not factors:
+        raise BadTable(f"{name}: no table of din: a cache's size or misses are not among its "
+                       "columns")
+    measured = column_of(columns, measure, name)
     found, seen, references = {}, set(), None
-    for place, fields in read_rows(lines, name, columns):
+    for place, fields, references in read_rows(lines, name, columns, options):
         given = tuple(fields[columns.index(option)] for option in options)
         named = (given, fields[columns.index("seed")] if "seed" in columns else "")
         if named in seen:
             raise BadTable(f"{place}: a second row of the same options")
         seen.add(named)
-        own = references_of(columns, fields)
-        references = own if references is None else references
-        if own != references:
-            raise BadTable(f"{place}: the rows are not of one trace: {references} references in the"
-                           f" first row, {own} here")
         size = sum(math.prod(int(fields[at]) for at in numbers) for numbers in factors)
         first = found.setdefault(given, Case(given, size, (), len(found)))
         value = number_of(fields[measured], measure, place)

@@ -1,4 +1,4 @@
-"""The pictures of a table of din-table: by cache size, with a line for each of the other values."""
+"""The pictures of tables of din-table: by cache size, with a line for each of the other values."""
 
 import html
 import re
@@ -7,10 +7,10 @@ from lib.plot import pictures
 from lib.plot.pictures import (MOST_LINES, Line, Measure, Picture, Point, bytes_text, sets_text,
                                short, ways_text)
 from lib.table import pareto
-from lib.table_din import NUMBERS, WORDS, cache, kind, usual_measure
+from lib.table_din import NUMBERS, WORDS, cache, kind, read_table, usual_measure
 from lib.tool import fail
 
-ACROSS = {"size": "cache size in bytes", "sets": "sets", "bsize": "block size in bytes",
+ACROSS = {"size": pictures.SIZE, "sets": "sets", "bsize": "block size in bytes",
           "assoc": "ways"}
 
 # in a column's name: misses by the references to the first level
@@ -23,18 +23,19 @@ def varied(table):
             if len({case.given[at] for case in table.cases}) > 1]
 
 
-def across_of(asked, options, several, name):
-    """The option on the horizontal axis: as asked, else the last size or number that varies."""
-    if asked.across:
-        if asked.across not in options or kind(asked.across) not in NUMBERS:
-            numbers = [option for option in options if kind(option) in NUMBERS]
-            fail(f"{name}: no option {asked.across} with numbers; there are {', '.join(numbers)}")
-        return asked.across
-    for wanted in (("size", "sets"), NUMBERS):
-        for option in reversed(several or options):
-            if kind(option) in wanted:
+def across_of(wanted, table, file):
+    """The option on the horizontal axis: the wanted one, else the last size or number that varies.
+    """
+    if wanted:
+        if wanted not in table.options or kind(wanted) not in NUMBERS:
+            numbers = [option for option in table.options if kind(option) in NUMBERS]
+            fail(f"{file}: no option {wanted} with numbers; there are {', '.join(numbers)}")
+        return wanted
+    for kinds in (("size", "sets"), NUMBERS):
+        for option in reversed(varied(table) or table.options):
+            if kind(option) in kinds:
                 return option
-    return next(option for option in options if kind(option) in ("size", "sets"))
+    return next(option for option in table.options if kind(option) in ("size", "sets"))
 
 
 def of_measure(table, several):
@@ -97,77 +98,103 @@ def point(table, case, x, lines, has_caches):
     return Point(x, float(case.measured), values, label, ends)
 
 
-def fix(table, option, wanted, usual, name):
-    """The cases with the wanted value of an option, or that nearest to the usual; and the value."""
-    at = table.options.index(option)
-    values = sorted({int(case.given[at]) for case in table.cases})
-    value = pictures.nearest(values, usual) if wanted is None else wanted
-    if value not in values:
-        fail(f"{name}: no run has {option} {wanted}; there are {', '.join(map(str, values))}")
-    cases = [case for case in table.cases if int(case.given[at]) == value]
-    return table._replace(cases=cases), value
-
-
-def fixed(asked, table, across, several, has_caches):
+def fixed(asked, table, across, lines, file):
     """The table with one associativity or block size where these are asked for, of the cache on the
-    horizontal axis, or where there would be too many lines."""
-    remarks = []
+    horizontal axis, or where there would be too many lines; and the options that are fixed so, each
+    with its value."""
+    found = {}
     for word, wanted, usual in (("assoc", asked.ways, 4), ("bsize", asked.bsize, 64)):
         for option in [one for one in table.options if kind(one) == word and one != across]:
             is_asked = wanted is not None and cache(option) == cache(across)
-            if is_asked or (option in several and len(groups(table, across, several)) > MOST_LINES):
-                table, value = fix(table, option, wanted if is_asked else None, usual, asked.table)
-                remarks.append(value_text(option, value, has_caches))
-    return table, remarks
+            if is_asked or (option in lines and len(groups(table, lines)) > MOST_LINES):
+                at = table.options.index(option)
+                values = sorted({int(case.given[at]) for case in table.cases})
+                value = wanted if is_asked else pictures.nearest(values, usual)
+                if value not in values:
+                    there = ", ".join(map(str, values))
+                    fail(f"{file}: no run has {option} {wanted}; there are {there}")
+                cases = [case for case in table.cases if int(case.given[at]) == value]
+                table, found[option] = table._replace(cases=cases), value
+    return table, found
 
 
-def groups(table, across, several):
+def groups(table, lines):
     """The cases of each line, by the values that they share."""
-    places = [table.options.index(option) for option in several if option != across]
+    places = [table.options.index(option) for option in lines]
     found = {}
     for case in table.cases:
         found.setdefault(tuple(case.given[at] for at in places), []).append(case)
     return found
 
 
-def by_across(asked, table, across, several, measure):
+def by_across(asked, table, across, measure, file):
     """The measure by the option on the horizontal axis; a line for each value of the others."""
-    several = of_measure(table, several)
-    has_caches = len({cache(option) for option in [across, *several]}) > 1
-    table, remarks = fixed(asked, table, across, several, has_caches)
-    several = [option for option in of_measure(table, varied(table)) if option != across]
-    at, lines = table.options.index(across), []
-    found = list(groups(table, across, several).items())
-    chosen = pictures.evenly(found)
-    remarks += [f"{len(chosen)} of {len(found)} lines"] * (len(chosen) < len(found))
-    for given, cases in chosen:
-        name = ", ".join(value_text(*pair, has_caches) for pair in zip(several, given))
+    lines = [option for option in of_measure(table, varied(table)) if option != across]
+    has_caches = len({cache(option) for option in [across, *lines]}) > 1
+    table, values = fixed(asked, table, across, lines, file)
+    lines = [option for option in lines if option in varied(table)]
+    at, found = table.options.index(across), []
+    for given, cases in groups(table, lines).items():
+        name = ", ".join(value_text(*pair, has_caches) for pair in zip(lines, given))
         cases = {int(case.given[at]): case for case in reversed(cases)}
-        points = [point(table, cases[x], x, several, has_caches) for x in sorted(cases)]
-        lines.append(Line(name, [points]))
-    what = ACROSS[kind(across)].removesuffix(" in bytes")
-    title = ": ".join([f"{measure.name} by {what}", *[", ".join(remarks)] * bool(remarks)])
-    words = f"{ACROSS[kind(across)]} ({cache(across)})" if has_caches else ACROSS[kind(across)]
-    return Picture("size", 0, title, words, "", lines)
+        found.append(Line(name, [[point(table, cases[x], x, lines, has_caches)
+                                  for x in sorted(cases)]]))
+    shown = pictures.evenly(found)
+    remarks = [value_text(*pair, has_caches) for pair in values.items()]
+    remarks += [f"{len(shown)} of {len(found)} lines"] * (len(shown) < len(found))
+    what = ACROSS[kind(across)]
+    title = f"{measure.name} by {what.removesuffix(' in bytes')}"
+    title = ": ".join([title, *[", ".join(remarks)] * bool(remarks)])
+    return Picture("size", 0, title, what + f" ({cache(across)})" * has_caches, "", shown)
 
 
-def by_front(table, several, measure):
+def by_front(table, measure):
     """The cases of which none as small is as good, by the size of all caches, before all others."""
     sizes = [option for option in table.options if kind(option) in ("size", "sets")]
-    lines = [option for option in several if kind(option) != "size" or len(sizes) > 1]
+    lines = [option for option in varied(table) if kind(option) != "size" or len(sizes) > 1]
     has_caches = len({cache(option) for option in lines}) > 1
-    cloud = [point(table, case, case.size, lines, has_caches) for case in table.cases]
-    front = [point(table, case, case.size, lines, has_caches) for case in pareto(table.cases)]
-    words = "size of all caches in bytes" if len(sizes) > 1 else ACROSS["size"]
+    cloud, front = ([point(table, case, case.size, lines, has_caches) for case in cases]
+                    for cases in (table.cases, pareto(table.cases)))
+    words = "size of all caches in bytes" if len(sizes) > 1 else pictures.SIZE
     lines = [Line("least up to this size", [front])]
     return Picture("pareto", 0, measure.least, words, "", lines, cloud)
 
 
-def drawn(asked, table, across, measure):
-    """The picture that is asked for."""
-    several = varied(table)
+def of_several(asked, tables, across, column):
+    """The picture of several tables, and its measure."""
+    drawn, found = [], []
+    for given in tables:
+        table = read_table(given.lines, given.shown, column)
+        measure = measure_of(table)
+        across = across_of(across, table, given.file)
+        drawn.append(by_across(asked, table, across, measure, given.file))
+        found += [Line(f"{given.name}, {line.name}" if line.name else given.name, line.runs)
+                  for line in drawn[-1].lines]
+    lines = pictures.evenly(found)
+    remarks = [f"{len(lines)} of {len(found)} lines"] * (len(lines) < len(found))
+    titles = {picture.title for picture in drawn}
+    title = drawn[0].title if len(titles) == 1 else drawn[0].title.split(": ")[0]
+    return drawn[0]._replace(title=": ".join([title, *remarks]), lines=lines), measure
+
+
+def drawn(asked, tables):
+    """The picture that is asked for, its measure, and what a page says of a single table. The axes
+    are by the first."""
+    first = tables[0]
+    table = read_table(first.lines, first.shown)
+    across = across_of(asked.across, table, first.file)
+    columns = first.lines[0].strip().split(",")
+    column = asked.measure or chosen_measure(columns, across)
+    table = read_table(first.lines, first.shown, column)
+    runs = sum(len(case.values) for case in table.cases)
+    counts = f"{runs:,} run{'s' * (runs > 1)}, {table.references:,} references"
+    if len(tables) > 1:
+        if asked.only not in (None, "size"):
+            fail("several tables of din have the picture size alone")
+        return *of_several(asked, tables, across, column), counts
+    measure = measure_of(table)
     if asked.only == "pareto":
-        return [by_front(table, several, measure)]
+        return by_front(table, measure), measure, counts
     if asked.only not in (None, "size"):
-        fail(f"{asked.table}: a table of din has the pictures size and pareto")
-    return [by_across(asked, table, across, several, measure)]
+        fail(f"{first.file}: a table of din has the pictures size and pareto")
+    return by_across(asked, table, across, measure, first.file), measure, counts

@@ -9,6 +9,7 @@ from lib.tool import size_text
 
 # of Okabe and Ito, but for a pale yellow: all people can tell them apart, also the colour-blind
 COLOURS = ("#0072b2", "#d55e00", "#009e73", "#cc79a7", "#e69f00", "#56b4e9", "#000000")
+SIZE = "cache size in bytes"
 UNIT = re.compile(r" in (per cent|bytes|cycles \(AMAT\))$")
 # areas of a stack, above the two lowest: shades that differ in lightness too
 STACK = ("#feedde", "#fdbe85", "#fd8d3c", "#d94701", "#8c2d04", "#6baed6", "#08306b")
@@ -134,16 +135,17 @@ def evenly(values, most=MOST_LINES):
 
 
 def linear_axis(least, greatest, closest, most):
-    """An axis from 0, or a bit below a value below 0, to a bit above a value, whose ticks are at
-    least `closest` of it apart."""
+    """An axis from 0, or a tick at or below a value below 0, to a bit above a value, or to 0. Its
+    ticks are at least `closest` of it apart."""
     low, high = 1.05 * min(least, 0), 1.05 * max(greatest, 0)
     high = high or (0.0 if low else 1.0)
     span = high - low
     power = 10.0 ** math.floor(math.log10(span * closest))
     step = next(step * power for step in (1, 2, 5, 10, 20) if step * power >= span * closest)
-    values = [step * count for count in range(math.ceil(low / step), int(high / step) + 1)]
+    lowest = math.floor(min(least, 0) / step)
+    values = [step * count for count in range(lowest, int(high / step) + 1)]
     ticks = [(value, number_text(value)) for value in values if value <= most]
-    return Axis(low, high, False, ticks, [], 0.0)
+    return Axis(min(low, lowest * step), high, False, ticks, [], 0.0)
 
 
 def number_text(value):

@@ -1,10 +1,12 @@
-"""The pictures of a sweep's table."""
+"""The pictures of tables of sweeps: of one, or of several with a line for each."""
 
 import html
+import operator
 
-from lib.costs import ACCESS_TIME, TRAFFIC
+from lib import costs
 from lib.plot import pictures
-from lib.plot.pictures import Line, Measure, Picture, Point, bytes_text, handful, short, ways_text
+from lib.plot.pictures import (SIZE, Line, Measure, Picture, Point, bytes_text, handful, short,
+                               ways_text)
 from lib.table import COUNTS, pareto
 from lib.tool import fail
 
@@ -12,8 +14,8 @@ ABOUT = ("%{customdata[3]:,} bytes: block %{customdata[0]:,}, sets %{customdata[
          "ways %{customdata[2]:,}<br>"
          "hits %{customdata[4]:,}, misses %{customdata[5]:,}, evictions %{customdata[6]:,}<br>")
 # what is made of misses and block size, above pictures and with its unit
-NAMES = {ACCESS_TIME: "Access time"}
-UNITS = {ACCESS_TIME: "access time in cycles (AMAT)", TRAFFIC: "traffic in bytes"}
+NAMES = {costs.ACCESS_TIME: "Access time"}
+UNITS = {costs.ACCESS_TIME: "access time in cycles (AMAT)", costs.TRAFFIC: "traffic in bytes"}
 MANY = 32  # from so many points on a curve has no marks
 MOST_CHOICES = 64  # of a menu of a page
 
@@ -29,14 +31,23 @@ def judge(rows, name):
                  f" first row, {row.references} in that of {cache}")
 
 
-def measure_of(column):
-    """How the measure is called. It is drawn in per cent of the references where it counts some."""
+def with_rows(asked, given):
+    """A table with its rows, which are of one sweep."""
+    rows = costs.rows_of(asked, given.lines, given.shown)
+    judge(rows, given.file)
+    return given._replace(rows=rows)
+
+
+def measure_of(column, is_named=False):
+    """How the measure is called. It is drawn in per cent of the references where it counts some. A
+    point tells the name of its line, if that is of a table."""
+    about = "%{fullData.name}<br>" * is_named + ABOUT
     if column == "misses":
-        return Measure(about=ABOUT + "miss ratio %{customdata[7]:.4~g} %<extra></extra>")
+        return Measure(about=about + "miss ratio %{customdata[7]:.4~g} %<extra></extra>")
     name, is_count = NAMES.get(column) or column[:1].upper() + column[1:], column in COUNTS
     up = f"{column} in per cent of references" if is_count else UNITS.get(column, column)
     value = f"%{{customdata[7]:{'.4' if is_count else '.10'}~g}}"
-    return Measure(up, name, f"{ABOUT}{html.escape(up)}: {value}<extra></extra>", is_count)
+    return Measure(up, name, f"{about}{html.escape(up)}: {value}<extra></extra>", is_count)
 
 
 def point(row, x):
@@ -44,85 +55,124 @@ def point(row, x):
     return Point(x, shown, (*row[:7], shown), ",".join(map(str, row.cache)))
 
 
-def cut(rows, step, steps):
-    """The rows of a line in runs, which end where the next row skips a step of other lines."""
-    runs = [[]]
-    for row in rows:
-        if runs[-1] and any(step(runs[-1][-1]) < other < step(row) for other in steps):
+def line(name, rows, across="size", step="size", steps=()):
+    """A line of some rows by one of their columns. It is cut where the next row skips a step that
+    another line has: a value of a column."""
+    runs, last = [[]], None
+    for row in sorted(rows, key=operator.attrgetter(across)):
+        if last and any(getattr(last, step) < other < getattr(row, step) for other in steps):
             runs.append([])
-        runs[-1].append(row)
-    return runs
+        runs[-1].append(point(row, getattr(row, across)))
+        last = row
+    return Line(name, runs)
 
 
-def line(name, runs, place=lambda row: row.size):
-    return Line(name, [[point(row, place(row)) for row in run] for run in runs])
+def sets_kind(sets):
+    return "fully associative" if sets == 1 else f"{sets} sets"
 
 
-def by_size(rows, bsize, measure):
-    """By cache size at one block size, a line for each associativity."""
-    rows = sorted((row for row in rows if row.bsize == bsize), key=lambda row: row.size)
-    sets = {row.sets for row in rows}
-    lines = [line(ways_text(ways), cut([row for row in rows if row.assoc == ways],
-                                       lambda row: row.sets, sets))
-             for ways in handful(row.assoc for row in rows)]
+def grouped(rows, column, text):
+    """The rows of a handful of values of a column, each with its text."""
+    return [(text(value), [row for row in rows if getattr(row, column) == value])
+            for value in handful(getattr(row, column) for row in rows)]
+
+
+def by_size(asked, tables, bsize, measure):
+    """By cache size at one block size: a line for each associativity, or at one for each table."""
+    tables = only(tables, "bsize", bsize)
+    steps = {row.sets for given in tables for row in given.rows}
     title = f"{measure.name} by cache size: blocks of {bytes_text(bsize)}"
-    return Picture("size", bsize, title, "cache size in bytes", "", lines)
-
-
-def by_ways(rows, bsize, measure):
-    """The curves over all ways: one for each number of sets at a block size, or each block size."""
-    across, sets = "cache size in bytes", sorted({row.sets for row in rows})
-    if len(sets) > 1:
-        rows = [row for row in rows if row.bsize == bsize]
-        sets = handful(row.sets for row in rows)
-        groups = [(f"{count} set{'s' * (count > 1)}", [row for row in rows if row.sets == count])
-                  for count in sets]
-        title, legend = f"blocks of {bytes_text(bsize)}", ""
+    if len(tables) == 1:
+        groups = grouped(tables[0].rows, "assoc", ways_text)
     else:
-        blocks = handful(row.bsize for row in rows)
-        groups = [(bytes_text(size), [row for row in rows if row.bsize == size]) for size in blocks]
-        title, legend = "fully associative" if sets == [1] else f"{sets[0]} sets", "block size"
-    if len(groups) == 1:
-        title = f"{title}, blocks of {bytes_text(blocks[0])}"
-        groups, legend = [("", groups[0][1])], ""
-    lines = [line(name, [sorted(group, key=lambda row: row.size)]) for name, group in groups]
+        ways = associativity(asked, tables)
+        groups = [(given.name, given.rows) for given in only(tables, "assoc", ways)]
+        title += f", {ways_text(ways)}"
+    lines = [line(name, rows, step="sets", steps=steps) for name, rows in groups]
+    return Picture("size", bsize, title, SIZE, "", lines)
+
+
+def by_ways(tables, bsize, measure):
+    """The curves over all ways: one for each table at a block size and a number of sets; of one
+    table for each number of sets at a block size, or for each block size."""
+    rows, legend = tables[0].rows, ""
+    if len(tables) > 1 or len({row.sets for row in rows}) > 1:
+        tables = only(tables, "bsize", bsize)
+        rows = tables[0].rows
+    blocks = f"blocks of {bytes_text(rows[0].bsize)}"
+    if len(tables) > 1:
+        sets = fixed(tables, "sets", None, 1, "number of sets")
+        groups = [(given.name, given.rows) for given in only(tables, "sets", sets)]
+        title = f"{sets_kind(sets)}, {blocks}"
+    elif len({row.sets for row in rows}) > 1:
+        groups = grouped(rows, "sets", lambda count: f"{count} set{'s' * (count > 1)}")
+        title = blocks
+    else:
+        groups, legend = grouped(rows, "bsize", bytes_text), "block size"
+        title = sets_kind(rows[0].sets)
+        if len(groups) == 1:
+            groups, title, legend = [("", rows)], f"{title}, {blocks}", ""
     is_curve = max(len(group) for _, group in groups) >= MANY
     title = f"{measure.name} by cache size: {title}"
-    return Picture("curve", bsize, title, across, legend, lines, is_curve=is_curve)
+    lines = [line(*group) for group in groups]
+    return Picture("curve", bsize, title, SIZE, legend, lines, is_curve=is_curve)
 
 
-def by_block(rows, ways, measure):
+def by_block(tables, ways, measure):
     """By block size at one associativity, a line for each size (of several blocks, if any)."""
-    rows = sorted(row for row in rows if row.assoc == ways)
+    rows = only(tables, "assoc", ways)[0].rows
     blocks = {row.bsize for row in rows}
     sizes = [row.size for row in rows]
     several = [size for size in sizes if sizes.count(size) > 1]
-    lines = [line(short(size), cut([row for row in rows if row.size == size],
-                                   lambda row: row.bsize, blocks), lambda row: row.bsize)
-             for size in handful(several or sizes)]
+    rows = [row for row in rows if row.size in (several or sizes)]
+    lines = [line(name, group, "bsize", "bsize", blocks)
+             for name, group in grouped(rows, "size", short)]
     title = f"{measure.name} by block size: {ways_text(ways)}"
     return Picture("block", ways, title, "block size in bytes", "cache size", lines)
 
 
-def by_front(rows, measure):
-    """The smallest caches that miss least, before all others."""
+def by_front(tables, measure):
+    """The smallest caches that miss least: before all others, or for each table."""
+    if len(tables) > 1:
+        lines = [line(given.name, pareto(given.rows)) for given in tables]
+        return Picture("pareto", 0, measure.least, SIZE, "", lines, is_front=True)
+    rows = tables[0].rows
     is_usual = measure == measure_of("misses")
     named = "fewest misses up to this size" if is_usual else "least up to this size"
     cloud = [point(row, row.size) for row in rows]
-    return Picture("pareto", 0, measure.least, "cache size in bytes", "",
-                   [line(named, [pareto(rows)])], cloud, "block size, sets, ways")
+    lines = [line(named, pareto(rows))]
+    return Picture("pareto", 0, measure.least, SIZE, "", lines, cloud, "block size, sets, ways")
 
 
-def fixed(values, wanted, usual, name, what):
-    """The block size or associativity of a picture: the wanted, or the nearest to the usual."""
-    values = sorted(set(values))
+def only(tables, column, value):
+    """The tables with the rows of one block size, associativity or number of sets."""
+    return [given._replace(rows=[row for row in given.rows if getattr(row, column) == value])
+            for given in tables]
+
+
+def fixed(tables, column, wanted, usual, what):
+    """The block size, associativity or number of sets of a picture: the wanted one, or of those
+    that are in all tables the usual one or the nearest to it."""
+    values = [{getattr(row, column) for row in given.rows} for given in tables]
     if wanted is None:
-        return pictures.nearest(values, usual)
-    some = handful(values, 12)
-    if wanted not in values:
-        there = ", ".join(map(str, some)) + " and others" * (len(some) < len(values))
-        fail(f"{name}: no cache has {what} {wanted}; there are {there}")
+        common = set.intersection(*values)
+        if not common:
+            fail(f"the tables have no {what} in common")
+        return pictures.nearest(common, usual)
+    for own, given in zip(values, tables):
+        if wanted not in own:
+            some = handful(own, 12)
+            there = ", ".join(map(str, some)) + " and others" * (len(some) < len(own))
+            fail(f"{given.file}: no cache has the {what} {wanted}; there are {there}")
     return wanted
+
+
+def block_size(asked, tables):
+    return fixed(tables, "bsize", asked.bsize, 64, "block size")
+
+
+def associativity(asked, tables):
+    return fixed(tables, "assoc", asked.ways, 4, "associativity")
 
 
 def is_curve(rows):
@@ -135,35 +185,41 @@ def is_broad(picture):
     return len({point.x for point in picture.points}) > 1
 
 
-def drawn(asked, rows, measure):
-    """The pictures that are asked for. Without a wish these are three, the first a curve if there
-    is one number of sets, but for those that are a column whatever is chosen in a page."""
-    bsize = fixed((row.bsize for row in rows), asked.bsize, 64, asked.table, "the block size")
-    ways = fixed((row.assoc for row in rows), asked.ways, 4, asked.table, "the associativity")
-    first = "curve" if is_curve(rows) else "size"
+def drawn(asked, tables, measure):
+    """The pictures that are asked for: one of several tables. Without a wish those of one table are
+    three, the first a curve if there is one number of sets, but for those that are a column
+    whatever is chosen in a page."""
     made = {
-        "size": lambda: by_size(rows, bsize, measure),
-        "curve": lambda: by_ways(rows, bsize, measure),
-        "block": lambda: by_block(rows, ways, measure),
-        "pareto": lambda: by_front(rows, measure),
+        "size": lambda: by_size(asked, tables, block_size(asked, tables), measure),
+        "curve": lambda: by_ways(tables, block_size(asked, tables), measure),
+        "block": lambda: by_block(tables, associativity(asked, tables), measure),
+        "pareto": lambda: by_front(tables, measure),
     }
+    first = "curve" if all(is_curve(given.rows) for given in tables) else "size"
+    if len(tables) > 1:
+        if asked.only in ("block", "three-c"):
+            fail(f"several tables have the pictures size, curve, pareto, and not {asked.only}")
+        return [made[asked.only or first]()]
+    usual = [made[name]() for name in (first, "block", "pareto")]
     if asked.only:
         return [made[asked.only]()]
-    usual = [made[name]() for name in (first, "block", "pareto")]
-    offered = {picture.name: [picture] for picture in usual}
+    offered = {each.name: [each] for each in usual}
     if asked.ending == ".html":
-        offered = {picture.name: choices(picture, rows, measure).values() for picture in usual}
-    return [picture for picture in usual if any(map(is_broad, offered[picture.name]))] or usual[:1]
+        offered = {each.name: choices(each, asked, tables, measure).values() for each in usual}
+    return [each for each in usual if any(map(is_broad, offered[each.name]))] or usual[:1]
 
 
-def choices(picture, rows, measure):
+def choices(picture, asked, tables, measure):
     """The pictures that may be chosen in place of one: by what they fix."""
+    rows = tables[0].rows
     blocks = sorted({row.bsize for row in rows})
+    if len(tables) > 1:
+        return {picture.fixed: picture}
     if picture.name == "size":
-        return {bsize: by_size(rows, bsize, measure) for bsize in blocks}
+        return {bsize: by_size(asked, tables, bsize, measure) for bsize in blocks}
     if picture.name == "block":
         values = handful((row.assoc for row in rows), MOST_CHOICES)
-        return {ways: by_block(rows, ways, measure) for ways in sorted({*values, picture.fixed})}
+        return {ways: by_block(tables, ways, measure) for ways in sorted({*values, picture.fixed})}
     if picture.name == "curve" and len({row.sets for row in rows}) > 1:
-        return {bsize: by_ways(rows, bsize, measure) for bsize in blocks}
+        return {bsize: by_ways(tables, bsize, measure) for bsize in blocks}
     return {picture.fixed: picture}

@@ -6,7 +6,8 @@ from typing import NamedTuple
 from lib import table
 from lib.plot import pictures
 from lib.plot import sweep as plot_sweep
-from lib.plot.pictures import Line, Measure, Picture, Point, bytes_text, handful, ways_text
+from lib.plot.pictures import (SIZE, Line, Measure, Picture, Point, bytes_text, handful,
+                               ways_text)
 from lib.tool import fail
 
 NAME = "three-c"
@@ -28,11 +29,12 @@ class Kinds(NamedTuple):
         return self.compulsory + self.capacity
 
 
-def caches_of(file, lines, name):
+def caches_of(given):
     """The caches of a table whose kinds of misses are known."""
-    rows = table.read_table(lines, name, "capacity")
-    plot_sweep.judge(rows, file)
-    first = {row.cache: row.value for row in table.read_table(lines, name, "compulsory")}
+    rows = table.read_table(given.lines, given.shown, "capacity")
+    plot_sweep.judge(rows, given.file)
+    read = table.read_table(given.lines, given.shown, "compulsory")
+    first = {row.cache: row.value for row in read}
     return [Kinds(row, first[row.cache], row.value) for row in rows]
 
 
@@ -81,14 +83,17 @@ def by_size(caches, bsize):
     least = f"{min(ways)} to " * (len(ways) > 1)
     title = (f"The three C's by cache size: conflict misses of {least}{ways_text(max(ways))}, "
              f"blocks of {bytes_text(bsize)}")
-    return Picture(NAME, bsize, title, "cache size in bytes", "", lines, is_stack=True)
+    return Picture(NAME, bsize, title, SIZE, "", lines, is_stack=True)
 
 
-def drawn(asked, caches):
-    """The picture of the block size that is asked for, and those of all that may be chosen."""
+def drawn(asked, given):
+    """The picture of the block size that is asked for, those of all that may be chosen, and the
+    caches."""
+    caches = caches_of(given)
     blocks = sorted({kinds.row.bsize for kinds in caches})
-    bsize = plot_sweep.fixed(blocks, asked.bsize, 64, asked.table, "the block size")
+    rows = given._replace(rows=[kinds.row for kinds in caches])
     found = {size: by_size(caches, size) for size in blocks}
-    if not plot_sweep.is_broad(found[bsize]):
-        fail(f"{asked.table}: a picture of the three C's is of caches of several sizes")
-    return found[bsize], found
+    picture = found[plot_sweep.block_size(asked, [rows])]
+    if not plot_sweep.is_broad(picture):
+        fail(f"{given.file}: a picture of the three C's is of caches of several sizes")
+    return picture, found, rows
