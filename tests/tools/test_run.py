@@ -38,12 +38,12 @@ class InPart(ToolTest):
 
 class Missing(ToolTest):
     def test_packages_are_named(self):
-        for script, *commands in (("against_c", "cc"), ("against_cachegrind", "cc", "valgrind"),
-                                  ("devices", "cc")):
-            few = self.folder / script
+        for name, *commands in (("against_c", "cc"), ("against_cachegrind", "cc", "valgrind"),
+                                ("devices", "cc")):
+            few = self.folder / name
             few.mkdir()
             (few / "python3").symlink_to(sys.executable)
-            words = (TOP / "tests" / script, "--program", PROGRAM)
+            words = (TOP / "tests" / name, "--program", PROGRAM)
             for command in commands:
                 ran = self.run_command(*words, env={"PATH": str(few)})
                 package = "gcc" if command == "cc" else command
