@@ -69,7 +69,7 @@ class FailureTest(ToolTest):
         cls.addClassCleanup(shutil.rmtree, cls.place, ignore_errors=True)
         cls.tools, cls.commands, cls.given = (
             cls.place / name for name in ("tools", "commands", "given"))
-        for tool in ("by-line", "to-din", "trace"):
+        for tool in ("by-line", "second-level", "to-din", "trace"):
             subprocess.run([TOOLS / tool, "--build"], check=True)
         copy_tools(cls.tools, *(path.name for path in TOOLS.iterdir() if path.is_file()))
         shutil.copytree(TOOLS / "lab", cls.tools / "lab")
@@ -82,7 +82,8 @@ class FailureTest(ToolTest):
         real |= {"cachesim": PROGRAM, QEMU: program_of(TRACED / "fake_qemu.c", "-rdynamic")}
         for name, path in real.items():
             cls.replace(cls.commands / name, path)
-        cls.replace(cls.tools / "out/to-din", TOOLS / "out/to-din")
+        for name in ("second-level", "to-din"):
+            cls.replace(cls.tools / "out" / name, TOOLS / "out" / name)
 
         given = cls.given
         given.mkdir()
@@ -214,7 +215,7 @@ class Commands(FailureTest):
         for tool in RUNS:
             whole, calls = self.whole(tool)
             called = {call.rpartition(".")[0] for call in calls}
-            for command in called - {"cachesim", "to-din"}:
+            for command in called - {"cachesim", "second-level", "to-din"}:
                 few = self.folder / f"few {tool} {command}".replace("/", "")
                 few.mkdir()
                 for path in self.commands.iterdir():

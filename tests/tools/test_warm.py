@@ -57,6 +57,7 @@ class Warm(reading_base.Reading, base.ToolTest):
         for lines in (0, 1, 2500, 5845):
             self.judge(text, lines)
         self.judge(text, 1000, kind="d")
+        self.judge(text * 6, 30000)  # more lines than are read at once
 
     def test_lackey(self):
         self.judge((base.EXAMPLES / "transpose.lackey").read_bytes(), 3000, "l", "d")

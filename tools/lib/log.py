@@ -43,13 +43,8 @@ def asked(own=None, value=None):
     return trace, options, values.get(f"--{own}"), values.get("--cache")
 
 
-def is_there(cache, options):
-    """Whether an option is of a cache whose name begins so."""
-    return any(re.match(f"--?{cache}", word) for word in options)
-
-
 def judge_cache(cache, options):
-    if cache != "l1-" and not is_there(cache, options):
+    if cache != "l1-" and not any(re.match(f"--?{cache}", word) for word in options):
         tool.misused(f"no option is of {cache}")
 
 
