@@ -1,6 +1,5 @@
 """Sweeps by several processes, and the pages that they write."""
 
-import functools
 import itertools
 import math
 import os
@@ -20,10 +19,7 @@ SMALL = "--bsize 16-32 --sets 1-64 --assoc 1-4 --size 1k-4k".split()
 # of the nine configurations only these have 64 bytes to 1k: 16,2,2, then 16,4,1 and 16,4,2
 THREE = "--bsize 16 --sets 1-4 --assoc 1-2 --size 64-1k".split()
 DEEP = "--bsize 4-64 --sets 1-256 --assoc 1-64 --size 0-1g".split()
-MANY = "--bsize 16-32 --sets 512-16384 --assoc 1-12 --size 0-1g".split()
-LONG = "--pow2 --bsize 16-32 --sets 1-1024 --assoc 1-4096 --size 0-64k".split()
-ONE = "--bsize 64 --sets 1 --assoc 1-300 --size 0-1m".split()
-SPACES = SPACE, SMALL, THREE, DEEP, MANY, LONG, ONE
+SPACES = (SPACE, SMALL, THREE, DEEP, "--bsize 64 --sets 1 --assoc 1-300 --size 0-1m".split())
 PAGES = "sweep-parallel", "--pages"
 LACKEY, DIN = EXAMPLES / "transpose.lackey", EXAMPLES / "sort.din"
 
@@ -32,23 +28,14 @@ def pair(row):
     return tuple(map(int, row.split(",")[:2]))
 
 
-def left(bsize, sets):
-    return 25 / (25 + bsize**0.7 * sets**0.6)
-
-
-@functools.cache
-def searches(bsize, sets, assoc):
-    if 12 <= assoc <= 16 and sets <= 4096:
-        return 3 * left(bsize, sets)
-    return math.fsum(left(bsize, sets * way) for way in range(1, min(assoc, 256) + 1))
-
-
 def cost(pairs):
     """The cost of a page of pairs, each with its greatest associativity, as the help says."""
-    whole, before = 0, (None, None)
+    whole, last = 0, None
     for bsize, sets, assoc in pairs:
-        whole += left(bsize, before[1] if bsize == before[0] else 1) + searches(bsize, sets, assoc)
-        before = bsize, sets
+        behind = last and last[0] == bsize
+        looks = min(1, 4 / (last[0] * last[1]) ** 0.35) if behind else 1
+        whole += looks + 3 * math.log2(1 + min(assoc, 256)) / (bsize * sets**0.2)
+        last = bsize, sets
     return whole
 
 

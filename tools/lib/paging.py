@@ -1,6 +1,5 @@
 """The pages of a sweep's table: `sweep-parallel --pages` lists them, else it runs them."""
 
-import functools
 import math
 import os
 import sys
@@ -10,8 +9,6 @@ from lib import processes, tool
 
 # The number of ways from which on a search costs about the same
 DEEPEST = 256
-# Lists of so many blocks, with at most so many sets, are searched without a walk
-SLOTTED, FEW_SETS = range(12, 17), 4096
 
 
 def number_of_jobs(word):
@@ -32,26 +29,18 @@ class Pair:
     def last(self):
         return f"{self.bsize},{self.sets},{self.assoc}"
 
-    def left(self, sets):
-        """About which part of a program's references does not find its block in front with so many
-        sets. About as many pass the first two blocks of a list with half as many sets, and so on:
-        there is room for as many blocks."""
-        return 25 / (25 + int(self.bsize)**0.7 * sets**0.6)
-
-    @functools.cached_property
-    def searches(self):
-        """What searching takes for references that do not find their block in front."""
-        sets, ways = int(self.sets), int(self.assoc)
-        if ways in SLOTTED and sets <= FEW_SETS:
-            return 3 * self.left(sets)
-        return sum(self.left(place * sets) for place in range(1, min(ways, DEEPEST) + 1))
+    @property
+    def size(self):
+        """The bytes of one block in each set."""
+        return int(self.bsize) * int(self.sets)
 
     def cost(self, before):
         """What a pair adds to a page behind another pair, or None: the part of the references that
-        it looks at, and its searches. It need not look at what the pair before it finds in front,
-        and no pair looks at a reference to the block of the one before."""
-        led = before and before.bsize == self.bsize
-        return self.left(int(before.sets) if led else 1) + self.searches
+        it looks at, and its searches for those that it does not find in front. What the pair before
+        it finds in front it need not look at. A search costs about the same from some depth on."""
+        looks = min(1, 4 / before.size**0.35) if before and before.bsize == self.bsize else 1
+        depth = math.log2(1 + min(int(self.assoc), DEEPEST))
+        return looks + 3 * depth / (int(self.bsize) * int(self.sets) ** 0.2)
 
 
 class Page:
