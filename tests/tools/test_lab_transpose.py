@@ -114,11 +114,12 @@ class Transpose(LabTest):
         for name, line in (("changes", "A is changed"),
                            ("beyond B", "it writes beyond B: B[32][1]"),
                            ("beyond A", "it writes beyond A: A[-1][30]"),
-                           ("before B", "it writes beyond B: B[-1][31]")):
+                           ("before B", "it writes beyond B: B[-1][31]"),
+                           ("child", "the result is not the transpose of A")):
             self.assertEqual(told[name][1:], [line])
         self.assertEqual(len(told["prints @ 0"]), 1)
         kept = sorted(path.stem for path in (self.folder / "kept").iterdir())
-        self.assertEqual(kept, sorted(f"32x32-{number}" for number in (1, *range(4, 10))))
+        self.assertEqual(kept, sorted(f"32x32-{number}" for number in (1, *range(4, 11))))
         self.assertEqual(list(self.private.iterdir()), [])
 
     @needs("valgrind")

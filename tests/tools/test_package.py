@@ -147,8 +147,8 @@ class Package(unittest.TestCase):
     def test_what_the_tools_name_is_suggested(self):
         """And nothing else, but what runs the list that cachesim-pages writes."""
         named = {"parallel"} | packages_named(TOOLS)
-        # all is compiled there; gzip and an awk are always there
-        named -= {"gcc", "make", "gzip", "mawk"}
+        # all is compiled there, and gzip is always there
+        named -= {"gcc", "make", "gzip"}
         suggested = self.field("Suggests")
         there = set(re.findall(r"[a-z][\w+.-]*", f"{self.field('Recommends')}, {suggested}"))
         self.assertEqual(named - there, set())

@@ -3,6 +3,8 @@
 #include "cachelab.h"
 #include <stdio.h>
 #include <stdlib.h>
+#include <sys/wait.h>
+#include <unistd.h>
 
 static void good(int M, int N, int A[N][M], int B[M][N])
 {
@@ -47,6 +49,14 @@ static void before_B(int M, int N, int A[N][M], int B[M][N])
     B[0][-1] = A[0][0];
 }
 
+static void child(int M, int N, int A[N][M], int B[M][N])
+{
+    if (fork())
+        wait(NULL);
+    else
+        good(M, N, A, B);
+}
+
 static void prints(int M, int N, int A[N][M], int B[M][N])
 {
     good(M, N, A, B);
@@ -79,6 +89,7 @@ void registerFunctions(void)
     registerTransFunction(beyond_A, "beyond A");
     registerTransFunction(prints, "prints\n@ 0");
     registerTransFunction(before_B, "before B");
+    registerTransFunction(child, "child");
     registerTransFunction(good, "after");
     (void)spins;
 }
