@@ -38,7 +38,7 @@ def packages_named(tools):
     built there."""
     found, package = set(), r"([a-z][\w+.-]*\w)"
     # after a command for it, in a call of tool.needs, and in a row of runs.UNPACKERS
-    named = rf'apt-get install {package}|(?:\bneeds\([^\s,]+|": \("\w+"), "{package}"\)'
+    named = rf'apt-get install {package}|(?:\bneeds\([^\s,]+|"\.\w+": \("\w+"), "{package}"\)'
     for path in tools.rglob("[!.]*"):
         is_built = {"out", "__pycache__"} & {*path.relative_to(tools).parts}
         if path.is_file() and not is_built and path.suffix not in (".c", ".h", ".md"):
