@@ -200,8 +200,8 @@ class StandIn(TraceTest):
     def test_a_signal_gives_no_table_of_a_part(self):
         """Neither where the reader comes only after the tool has ended."""
         sweep, run = f"cachesim sweep {' '.join(SPACE)}", f'{TOOLS}/trace "$PROGRAM"'
-        for number, wait in (("TERM", 0), ("INT", 0), ("HUP", 0), ("TERM", 3)):
-            line = f"timeout -s {number} 0.5 {run} loop | {{ sleep {wait}; {sweep}; }}"
+        for number, wait in (("TERM", 0), ("INT", 0), ("HUP", 0), ("TERM", 5)):
+            line = f"timeout -s {number} 2 {run} loop | {{ sleep {wait}; {sweep}; }}"
             ran = self.in_shell(line)
             self.assertEqual(ran.stdout, b"124 1\n")
             self.assertRegex(ran.stderr, rb"cachesim: line \d+: bad (label|address)\n")
