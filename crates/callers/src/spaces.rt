@@ -22,5 +22,9 @@ pub fn geometry_within(space: &Space, config: &Config) -> Option<Geometry>
     ensures bytes { IfSome result (λ geometry. size_of geometry ≡ bytes_of config.now) }
 {
     configs_are_geometries();
-    if space.has(config) { config.geometry() } else { None }
+    if space.has(config) {
+        config.geometry()
+    } else {
+        None
+    }
 }
