@@ -2,9 +2,9 @@
 use Rattle.std.proofs.Common.{◌≡◌, ◌≤◌, ◌<◌, ℕ, Bool, true, false, List, [], ◌∷◌, ◌++◌, None, Some}
 use Rattle.std.proofs.Common.{Option, refl, ap, sym, ◌∙◌, subst, arith}
 use Rattle.std.specs.Prelude.{IfSome, MatchOption, nat_lt}
+use Rattle.std.specs.List.{AllByRecursion as Each}
 use Rattle.std.proofs.lemmas.Bool.{ltb-true, ltb-false, false≢true}
-use Rattle.std.proofs.lemmas.List.Elements.{All-push, All-weaker, Contains-append_left}
-use Rattle.std.proofs.lemmas.List.Elements.{Contains-push}
+use Rattle.std.proofs.lemmas.List.Elements.{Contains-append_left, Contains-push}
 use Rattle.std.proofs.lemmas.Option.{IfSome_then}
 use Rattle.trace_core.specs.Reading.{events}
 use Rattle.cache_core.specs.declared.outcome.Counts.{Counts}
@@ -14,6 +14,14 @@ use Rattle.sweep_core.specs.SweepText.{rows_of}
 use Rattle.sweep_core.specs.declared.request.Request.{Request}
 use Rattle.sweep_core.specs.declared.space.Config.{Config}
 use Rattle.callers.specs.Smallest.{IsSmallest, IsSmallestIfAny}
+
+-- what is true of each row so far and of the next
+one_more : (P Q : Config × Counts → Type 0) (rows : List (Config × Counts)) (row : Config ×
+    Counts) → ((r : Config × Counts) → P r → Q r)
+    → Each P rows → Q row → Each Q (rows ++ row ∷ [])
+one_more P Q [] row weaker each new = (new, tt)
+one_more P Q (r ∷ rows) row weaker each new =
+    (weaker r each.0, one_more P Q rows row weaker each.1 new)
 
 abbrev TooMany : ℕ → Config × Counts → Type 0
 TooMany most row = most < row.1.misses
@@ -30,15 +38,15 @@ chosen most rows None c n so_far few less = record {
   counts = n;
   among = Contains-push rows (c, n);
   few = few;
-  least = All-push (AtLeast most c) rows (c, n) (All-weaker (TooMany most) (AtLeast most c)
-      (λ row above low. absurd (omega (arith, above, low))) rows so_far) (λ _. omega arith);
+  least = one_more (TooMany most) (AtLeast most c) rows (c, n)
+      (λ row above low. absurd (omega (arith, above, low))) so_far (λ _. omega arith);
 }
 chosen most rows (Some b) c n so_far few less = record {
   counts = n;
   among = Contains-push rows (c, n);
   few = few;
-  least = All-push (AtLeast most c) rows (c, n) (All-weaker (AtLeast most b) (AtLeast most c)
-      (λ row above low. omega (arith, above low, less)) rows so_far.least) (λ _. omega arith);
+  least = one_more (AtLeast most b) (AtLeast most c) rows (c, n)
+      (λ row above low. omega (arith, above low, less)) so_far.least (λ _. omega arith);
 }
 
 -- it misses too often, or is no smaller
@@ -46,12 +54,14 @@ pub kept : (most : ℕ) (rows : List (Config × Counts)) (best : Option Config) 
     (n : Counts) → IsSmallestIfAny most rows best
     → (best ≡ None → most < n.misses) → IfSome best (λ b. n.misses ≤ most →
     bytes_of b ≤ bytes_of c) → IsSmallestIfAny most (rows ++ (c, n) ∷ []) best
-kept most rows None c n so_far none some = All-push (TooMany most) rows (c, n) so_far (none refl)
+kept most rows None c n so_far none some = one_more (TooMany most) (TooMany most) rows (c, n)
+    (λ row above. above) so_far (none refl)
 kept most rows (Some b) c n so_far none some = record {
   counts = so_far.counts;
   among = Contains-append_left rows ((c, n) ∷ []) (b, so_far.counts) so_far.among;
   few = so_far.few;
-  least = All-push (AtLeast most b) rows (c, n) so_far.least some;
+  least = one_more (AtLeast most b) (AtLeast most b) rows (c, n) (λ row above. above)
+      so_far.least some;
 }
 
 -- why the best so far stays before a row
