@@ -13,7 +13,7 @@ use Rattle.sweep_core.specs.Rows.{CountedSweep, counted_rows, counted_sweep}
 use Rattle.sweep_core.specs.SweepText.{rows_of}
 use Rattle.sweep_core.specs.declared.request.Request.{Request}
 use Rattle.sweep_core.specs.declared.space.Config.{Config}
-use Rattle.callers.specs.Smallest.{IsSmallest, IsSmallestIfAny}
+use Rattle.callers.specs.Smallest.{IsSmallestIfAny}
 
 -- what is true of each row so far and of the next
 one_more : (P Q : Config × Counts → Type 0) (rows : List (Config × Counts)) (row : Config ×

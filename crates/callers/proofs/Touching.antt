@@ -8,7 +8,7 @@ use Rattle.trace_core.specs.Task.{entries_of}
 use Rattle.trace_core.specs.declared.events.Entry.{Entry}
 use Rattle.trace_core.specs.declared.events.Event.{Event}
 use Rattle.trace_core.specs.declared.events.Kind.TheVariants.{All}
-use Rattle.cache_core.specs.Geometry.{GeometryValue, IsGeometry}
+use Rattle.cache_core.specs.Geometry.{GeometryValue}
 use Rattle.cache_core.specs.Windows.{held}
 use Rattle.profile_core.specs.internal.State.{ProfileState, empty, after_event}
 use Rattle.profile_core.specs.internal.ProfileStandsFor.{ProfileStandsFor}

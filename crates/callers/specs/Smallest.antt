@@ -1,5 +1,5 @@
 -- The smallest cache that misses at most so often.
-use Rattle.std.specs.Prelude.{◌≡◌, ◌≤◌, ◌<◌, ℕ, List, Option, MatchOption, Contains}
+use Rattle.std.specs.Prelude.{◌≤◌, ◌<◌, ℕ, List, Option, MatchOption, Contains}
 use Rattle.std.specs.List.{AllByRecursion}
 use Rattle.cache_core.specs.declared.outcome.Counts.{Counts}
 use Rattle.sweep_core.specs.Space.{bytes_of}

@@ -1,11 +1,11 @@
-use Rattle.std.proofs.Common.{ℕ, ◌≡◌, ◌∙◌, ◌++◌, ◌∷◌, [], Ok, ap, sym, refl, arith, append-nil}
+use Rattle.std.proofs.Common.{ℕ, ◌≡◌, ◌∙◌, ◌++◌, ◌∷◌, [], Ok, ap, sym, arith, append-nil}
 use Rattle.std.proofs.Common.{fold}
 use Rattle.trace_core.specs.Events.{events_of}
 use Rattle.trace_core.specs.Reading.{events}
 use Rattle.trace_core.specs.declared.events.Entry.{Entry}
 use Rattle.trace_core.specs.declared.events.Kind.TheVariants.{All}
 use Rattle.trace_core.specs.declared.limits.TheConstants.{MAX_LINES}
-use Rattle.cache_core.specs.Geometry.{geometry_value, IsGeometry}
+use Rattle.cache_core.specs.Geometry.{geometry_value}
 use Rattle.cache_core.specs.Windows.{held}
 use Rattle.profile_core.specs.internal.State.{empty, after_event, fed_of}
 use Rattle.callers.proofs.Touching.{events_in, fed_more, held_at_end, if_known}

@@ -1,4 +1,4 @@
-use Rattle.std.proofs.Common.{◌≡◌, ◌∷◌, ◌++◌, ◌∙◌, [], ap, sym, append_assoc}
+use Rattle.std.proofs.Common.{◌∷◌, ◌++◌, ◌∙◌, [], ap, sym, append_assoc}
 use Rattle.cache_core.specs.declared.outcome.Counts.{Counts}
 use Rattle.sweep_core.specs.declared.space.Config.{Config}
 use Rattle.callers.proofs.Choosing.{Stays, chosen, kept, is_less, is_no_less, misses_more}

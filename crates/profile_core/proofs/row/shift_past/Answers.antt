@@ -3,7 +3,7 @@ use Rattle.std.proofs.Common.{◌≡◌, ◌+◌, ◌<◌, false, eqb, get_or, l
 use Rattle.profile_core.proofs.Shifting.{IsPassed, passed_long, passed_next, found_shifted}
 use Rattle.profile_core.proofs.Shifting.{found_moved, nowhere_shifted, nowhere_moved}
 use Rattle.profile_core.proofs.row.shift_past.Goals as goal
-use Rattle.profile_core.proofs.row.shift_past.Goals.{After-loop-compared, After-pass-found}
+use Rattle.profile_core.proofs.row.shift_past.Goals.{After-pass-found}
 use Rattle.profile_core.proofs.row.shift_past.Goals.{After-pass-found-in-loop-compared}
 use Rattle.profile_core.proofs.row.shift_past.Goals.{After-pass-found-2}
 

@@ -4,7 +4,7 @@ use Rattle.std.specs.List.{sum_by}
 use Rattle.deep_list.specs.Deep.{Deep}
 use Rattle.profile_core.proofs.LongListLemmas.{length-joined, sum-joined, far_few, far_held}
 use Rattle.profile_core.proofs.long_lists.LongListsSetLists.held.Goals as goal
-use Rattle.profile_core.proofs.long_lists.LongListsSetLists.held.Goals.{After-deref, After-held_by}
+use Rattle.profile_core.proofs.long_lists.LongListsSetLists.held.Goals.{After-deref}
 
 behind : (c : After-deref) → sum_by (λ (d : Deep). length d.blocks) c.deref.result.now ≤ length
     c.self.inside.near.lists * c.self.inside.beyond
