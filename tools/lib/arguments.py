@@ -6,6 +6,9 @@ import os
 
 from lib import tool
 
+# its texts stay as they are: to look for those of the locale takes 2 of a tool's 30 milliseconds
+argparse._ = str
+
 
 def columns():
     """Those of the terminal; 80 where there is none."""

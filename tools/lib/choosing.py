@@ -1,6 +1,6 @@
 """The best caches of a table, of those that `best` is asked for."""
 
-from lib import costs, table, table_din, tool
+from lib import costs, table, tool
 
 
 def by_measure(row):
@@ -57,11 +57,12 @@ def of_sweep(asked, lines, name):
     yield ",".join([table.HEADER, *added, *["percent"] * is_count])
     for row in chosen(asked, rows, is_count):
         values = [number_text(row.value) for _ in added]
-        yield ",".join([*map(str, row[:7]), *values, *[f"{float(row.share):.3f}"] * is_count])
+        yield ",".join([*map(str, row[:7]), *values, *[f"{row.shown:.3f}"] * is_count])
 
 
 def of_din(asked, lines, name):
     """The same for a table of din."""
+    from lib import table_din
     costs.refuse_din(asked)
     given = table_din.read_table(lines, name, asked.measure)
     spread = ["runs", "deviation", "least", "greatest"] if given.has_seeds else []
@@ -77,4 +78,4 @@ def of_din(asked, lines, name):
 
 def answer(asked, lines, name):
     """The lines of the answer for a table."""
-    return (of_din if table_din.is_din(lines) else of_sweep)(asked, lines, name)
+    return (of_din if table.is_din(lines) else of_sweep)(asked, lines, name)

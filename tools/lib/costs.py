@@ -1,33 +1,23 @@
 """What the misses of a sweep's caches cost, which the block size has a part in."""
 
-import fractions
 import re
-from typing import NamedTuple
 
-from lib import table, tool
+from lib import tool
 
 TRAFFIC, ACCESS_TIME = "traffic", "AMAT"
 NUMBER = "([0-9]{1,9}(?:[.][0-9]{1,9})?)"
 HIT = 1  # cycles of a hit
 
 
-class MissCost(NamedTuple):
-    """The cycles that a miss takes: those of each, and more for each byte of its block."""
-
-    fixed: fractions.Fraction
-    of_byte: fractions.Fraction
-
-    def of_block(self, bsize):
-        return self.fixed + self.of_byte * bsize
-
-
 def miss_cost(text):
-    """What A, A+B or A+B/N says: A cycles, and B for each byte of the block, or each N bytes."""
+    """The cycles that a miss takes, exactly, and those of each byte of its block more, as A, A+B or
+    A+B/N says: A cycles, and B for each byte, or for each N bytes."""
     match = re.fullmatch(rf"{NUMBER}(?:[+]{NUMBER}(?:/0*([1-9][0-9]{{0,8}}))?)?", text)
     if not match:
         raise tool.no_argument(f"{text!r} is no cost such as 100, 80+0.125 or 80+2/16")
-    fixed, more, bytes_of_it = (fractions.Fraction(part or 0) for part in match.groups())
-    return MissCost(fixed, more / (bytes_of_it or 1))
+    from fractions import Fraction
+    fixed, more, bytes_of_it = (Fraction(part or 0) for part in match.groups())
+    return fixed, more / (bytes_of_it or 1)
 
 
 def add_to(parser):
@@ -40,7 +30,8 @@ def add_to(parser):
 
 def access_time(row, cost):
     """The cycles of a reference in the mean: those of a hit, and what misses add."""
-    return HIT + fractions.Fraction(row.misses, max(1, row.references)) * cost.of_block(row.bsize)
+    fixed, of_byte = cost
+    return HIT + row.misses * (fixed + of_byte * row.bsize) / max(1, row.references)
 
 
 def column_of(asked):
@@ -51,13 +42,14 @@ def column_of(asked):
 def rows_of(asked, lines, name):
     """The rows of a sweep's table with what is asked for. A column named so comes before what would
     be made of the block size and the misses."""
+    from lib import table
     column = column_of(asked)
     if asked.miss_cost:
         def made(row):
             return access_time(row, asked.miss_cost)
     elif column == TRAFFIC and TRAFFIC not in "".join(lines[:1]).strip().split(","):
         def made(row):
-            return fractions.Fraction(row.bsize * row.misses)
+            return row.bsize * row.misses
     else:
         return table.read_table(lines, name, column)
     return [row._replace(value=made(row), is_count=False)

@@ -1,8 +1,7 @@
 """The table that `cachesim sweep` writes, for the tools of this folder that read one."""
 
-import fractions
 import re
-from typing import NamedTuple
+from collections import namedtuple
 
 from lib.tool import faults_of, spare, warn
 
@@ -16,21 +15,15 @@ MAY_BE_EMPTY = ("capacity", "conflict")
 WHOLE = re.compile("[0-9]{1,64}")
 # conflict misses may be below 0
 NUMBER = re.compile("-?[0-9]{1,64}([.][0-9]{1,64})?")
+# an option of a cache, as a column of a table of din-table has it
+OPTION = re.compile("(l[12]-[diu])(size|sets|bsize|assoc|repl|walloc|wback)")
 
 
-class Row(NamedTuple):
+class Row(namedtuple("Row", f"{HEADER},value,is_count", defaults=(None, True))):
     """A cache, and what a sweep counted for it. `value` is that of the measure, where this is not
     its misses, and `is_count` whether it counts references."""
 
-    bsize: int
-    sets: int
-    assoc: int
-    size: int
-    hits: int
-    misses: int
-    evictions: int
-    value: fractions.Fraction = None
-    is_count: bool = True
+    __slots__ = ()
 
     @property
     def references(self):
@@ -42,14 +35,21 @@ class Row(NamedTuple):
         return self.misses if self.value is None else self.value
 
     @property
+    def hundred(self):
+        """What is shown as 100: all references, if the measure counts some, or 100 of its unit."""
+        return self.references if self.is_count else 100
+
+    @property
     def share(self):
         """What is shown of the measure, exactly: per cent of the references, 0 where there are
         none, or its value where it counts none."""
-        if not self.is_count:
-            return self.measured
-        if not self.references:
-            return fractions.Fraction()
-        return fractions.Fraction(100 * self.measured, self.references)
+        from fractions import Fraction
+        return Fraction(100 * self.measured, self.hundred) if self.hundred else Fraction()
+
+    @property
+    def shown(self):
+        """The same, correctly rounded, as Python's quotient of whole numbers is, too."""
+        return float(100 * self.measured / self.hundred) if self.hundred else 0.0
 
     @property
     def cache(self):
@@ -71,7 +71,10 @@ def number_of(text, column, place):
     if not NUMBER.fullmatch(text):
         is_long = re.fullmatch("-?[0-9.]{65,}", text)
         raise BadTable(f"{place}: {column} is {'too long a' if is_long else 'no'} number")
-    return fractions.Fraction(text)
+    if "." not in text:
+        return int(text)
+    from fractions import Fraction
+    return Fraction(text)
 
 
 def column_of(columns, measure, name):
@@ -140,6 +143,12 @@ def lines_of(name):
     text = {"encoding": "utf-8-sig", "errors": "replace"}
     with faults_of(shown), open(0 if name == "-" else name, closefd=name != "-", **text) as file:
         return list(file), shown
+
+
+def is_din(lines):
+    """Whether a text is a table of `din-table`, by its header."""
+    return bool(lines) and (bool(OPTION.fullmatch(lines[0].split(",")[0]))
+                            or lines[0].startswith("seed,"))
 
 
 def pareto(rows):

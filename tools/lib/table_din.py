@@ -2,12 +2,11 @@
 
 import math
 import re
-from typing import NamedTuple
+from collections import namedtuple
+from fractions import Fraction
 
-from lib.table import BadTable, column_of, judge_end, number_of, rows_of
+from lib.table import OPTION, BadTable, column_of, judge_end, number_of, rows_of
 
-# an option of a cache, as a column has it
-OPTION = re.compile("(l[12]-[diu])(size|sets|bsize|assoc|repl|walloc|wback)")
 # a count of the report, or what din-table makes of these: it has a share of the references
 COUNT = re.compile("l[12]-[diu]-.+|memory-(reads|writes)|bypassed")
 NUMBERS = ("size", "sets", "bsize", "assoc")
@@ -18,15 +17,9 @@ WORDS = {
 }
 
 
-class Case(NamedTuple):
+class Case(namedtuple("Case", "given size values ties shares", defaults=((),))):
     """A combination of values: the texts of its options, the bytes of all its caches, the measure
     for each seed, its place, and what is shown of it: for a count, per cent of references."""
-
-    given: tuple
-    size: int
-    values: tuple
-    ties: int
-    shares: tuple = ()
 
     @property
     def measured(self):
@@ -45,13 +38,8 @@ class Case(NamedTuple):
         return statistics.stdev(map(float, self.values)) if len(self.values) > 1 else 0.0
 
 
-class Table(NamedTuple):
+class Table(namedtuple("Table", "options measure references cases")):
     """The options, those of a cache alone, the measure, the trace's references, and the cases."""
-
-    options: list
-    measure: str
-    references: int
-    cases: list
 
     @property
     def is_count(self):
@@ -61,12 +49,6 @@ class Table(NamedTuple):
     @property
     def has_seeds(self):
         return any(len(case.values) > 1 for case in self.cases)
-
-
-def is_din(lines):
-    """Whether a text is such a table, by its header."""
-    return bool(lines) and (bool(OPTION.fullmatch(lines[0].split(",")[0]))
-                            or lines[0].startswith("seed,"))
 
 
 def kind(option):
@@ -141,7 +123,7 @@ def read_table(lines, name, measure=None):
         seen.add(named)
         size = sum(math.prod(int(fields[at]) for at in numbers) for numbers in factors)
         first = found.setdefault(given, Case(given, size, (), len(found)))
-        value = number_of(fields[measured], measure, place)
+        value = Fraction(number_of(fields[measured], measure, place))
         share = share_of(columns, fields, measure, value, references)
         found[given] = first._replace(values=(*first.values, value), shares=(*first.shares, share))
     if not found:

@@ -1,8 +1,8 @@
 """What the tools share: their name, faults and arguments, sizes, files and the program. A tool in a
-folder below tools/ reads it so:
+folder below tools/ finds it so:
 
-    sys.path.insert(1, str(pathlib.Path(__file__).resolve().parents[1]))
-    tool = importlib.import_module("lib.tool")
+    sys.path.insert(1, os.path.realpath(f"{os.path.realpath(__file__)}/../.."))
+    from lib import tool  # noqa: E402
 
 What few tools need is imported where it is used, since each module takes a millisecond or more.
 """

@@ -5,7 +5,6 @@ import collections
 import functools
 import itertools
 import os
-from typing import NamedTuple
 
 from parts.mistakes import MISTAKES, NUMBERED, RARE, USUAL
 from parts.simulator import Cache, Habits, counts, read
@@ -19,16 +18,9 @@ OUTCOMES = {"": ("hit", "miss", "eviction"), " that hits": ("hit",),
 COUNTS = "hit", "miss", "eviction"
 
 
-class Run(NamedTuple):
-    """A case that is looked at: what a program counted there, and what makes numbers matter."""
-
-    name: str
-    accesses: list
-    cache: tuple
-    got: tuple
-    is_right: bool
-    highest: int  # address
-    longest: int  # address, in digits
+class Run(collections.namedtuple("Run", "name accesses cache got is_right highest longest")):
+    """A case that is looked at: what a program counted there, and what makes numbers matter: the
+    highest address, and how many digits the longest one has."""
 
     def is_of(self, habits):
         """Whether its numbers are those of a simulator with these habits."""

@@ -1,19 +1,15 @@
 """Mistakes that programs for the cache lab often have. Each stands for a simulator that makes it;
 `reason` of evidence.py tells which of these count exactly as a student's program did."""
 
-from typing import Callable, NamedTuple
+from collections import namedtuple
 
 from parts.simulator import short
 
 
-class Numbered(NamedTuple):
-    """Mistakes that differ by a number. In a run it makes no difference where it does not
-    matter."""
-
-    text: str  # what is said of them, with {} for the number
-    numbers: range
-    usual: tuple  # those of types of C, of the addresses of x86-64, of arrays
-    matters: Callable
+class Numbered(namedtuple("Numbered", "text numbers usual matters")):
+    """Mistakes that differ by a number: what is said of them, with {} for it; the numbers, and the
+    usual ones, those of types of C, of the addresses of x86-64, of arrays; and whether a number
+    matters in a run: else it makes no difference there."""
 
 
 def counts_of(bits):

@@ -1,79 +1,30 @@
 """The sets of a cache as `replay` draws them, step by step, and why each step does what it does."""
 
-from dataclasses import dataclass, field, replace
-from typing import NamedTuple, Optional
+from collections import namedtuple
+
+from parts.cache import number_of
 
 ACCESSES = ("read", "write", "fetch")
 
 
-class Cache(NamedTuple):
-    """A cache, and its options for `cachesim log`, which judges them."""
-
-    options: list
-    place: str
-    sets: int
-    block: int
-    ways: int
-    repl: str = "l"
-    walloc: str = "a"
-    wback: str = "a"
-    digits: str = "x"  # how addresses, tags and sets are shown: hexadecimal, or "d" decimal
-
-    def text(self, number):
-        return format(number, self.digits)
-
-    @property
-    def set_bits(self):
-        return self.sets.bit_length() - 1
-
-    @property
-    def block_bits(self):
-        return self.block.bit_length() - 1
-
-    def set_of(self, address):
-        return address // self.block % self.sets
-
-    def __str__(self):
-        parts = [f"{number_of(self.sets, 'set')} of {number_of(self.ways, 'way')}"]
-        parts += [f"blocks of {number_of(self.block, 'byte')}"]
-        parts += ["LRU" if self.repl == "l" else "FIFO"]
-        parts += ["no write-allocate"] * (self.walloc == "n")
-        parts += ["write-through"] * (self.wback == "n")
-        return ", ".join(parts)
+class Block(namedtuple("Block", "tag since line dirty", defaults=(False,))):
+    """A block in a way of a set. It is there since the step in which it was used last, or with FIFO
+    in which it came, and in that line of the trace. The one with the least `since` is evicted
+    next."""
 
 
-def number_of(count, name):
-    return f"{count:,} {name}{'s' * (count != 1)}"
-
-
-@dataclass
-class Block:
-    """A block in a way of a set. The one with the least `since` is evicted next."""
-
-    tag: int
-    since: int  # the step in which it was used last, or with FIFO in which it came
-    line: int  # of the trace, in that step
-    dirty: bool = False
-
-
-@dataclass
 class Step:
     """What a reference or a flush does, with its set as it is afterwards."""
 
-    number: int
-    line: int  # of the trace
-    access: str  # as the trace has it
-    address: int = 0
-    tag: int = 0
-    set: int = 0
-    offset: int = 0
-    outcome: str = "hit"
-    is_write: bool = False
-    way: Optional[int] = None  # the way that is hit or filled
-    held: list = field(default_factory=list)  # the set: a block for each way, None for a free one
-    evicted: Optional[Block] = None
-    written_back: int = 0  # by a flush
-    sent: list = field(default_factory=list)  # what the log says that memory gets
+    address = tag = set = offset = 0
+    outcome, is_write = "hit", False
+    way = evicted = None  # the way that is hit or filled, and the block that was there
+    held = ()  # the set: a block for each way, None for a free one
+    written_back = 0  # by a flush
+
+    def __init__(self, number, line, access):
+        self.number, self.line, self.access = number, line, access  # as the trace has them
+        self.sent = []  # what the log says that memory gets
 
     @property
     def next(self):
@@ -104,33 +55,34 @@ class Picture:
         blocks = [block for lines in self.sets.values() for block in lines]
         dirty = sum(1 for block in blocks if block and block.dirty)
         self.sets = {}
-        self.add(Step(self.count + 1, line, "flush", outcome="flush", written_back=dirty))
+        step = Step(self.count + 1, line, "flush")
+        step.outcome, step.written_back = "flush", dirty
+        self.add(step)
         return f"{self.cache.place} flush {dirty}"
 
     def access(self, line, access, label, address):
-        block, offset = divmod(address, self.cache.block)
-        tag, index = divmod(block, self.cache.sets)
-        step = Step(self.count + 1, line, access, address, tag, index, offset)
-        lines = self.sets.setdefault(index, [None] * self.cache.ways)
-        is_write = ACCESSES[label] == "write"
-        step.is_write = is_write
-        self.find(step, lines, is_write)
-        if step.way is not None and is_write and self.cache.wback == "a":
-            lines[step.way].dirty = True
-        step.held = [block and replace(block) for block in lines]
+        step = Step(self.count + 1, line, access)
+        step.address, step.is_write = address, ACCESSES[label] == "write"
+        block, step.offset = divmod(address, self.cache.block)
+        step.tag, step.set = divmod(block, self.cache.sets)
+        lines = self.sets.setdefault(step.set, [None] * self.cache.ways)
+        self.find(step, lines)
+        if step.way is not None and step.is_write and self.cache.wback == "a":
+            lines[step.way] = lines[step.way]._replace(dirty=True)
+        step.held = tuple(lines)
         self.add(step)
         return f"{self.cache.place} {label} {address:x} {step.outcome}{self.victim_of(step)}"
 
-    def find(self, step, lines, is_write):
+    def find(self, step, lines):
         """Finds the block of a step in its set, or brings it in."""
         tags = [block and block.tag for block in lines]
         step.way = tags.index(step.tag) if step.tag in tags else None
         if step.way is not None:
             if self.cache.repl == "l":
-                lines[step.way].since, lines[step.way].line = step.number, step.line
+                lines[step.way] = lines[step.way]._replace(since=step.number, line=step.line)
             return
         step.outcome = "miss"
-        if is_write and self.cache.walloc == "n":
+        if step.is_write and self.cache.walloc == "n":
             return
         if None in lines:
             step.way = lines.index(None)

@@ -1,58 +1,54 @@
 """A simulator for the cache lab with the habits of students' programs, right ones and others."""
 
 import collections
-from dataclasses import dataclass
-from typing import Callable, NamedTuple
 
 MOST = 200000  # accesses: longer traces are not looked at
 MANY = 1 << 20  # no limit
 
 
-class Access(NamedTuple):
+class Access(collections.namedtuple("Access", "kind address size digits")):
     """A line of a trace. The digits are those that its address is written with."""
 
-    kind: str
-    address: int
-    size: int
-    digits: str
 
-
-@dataclass(frozen=True)
-class Habits:
-    """How a simulator works. As it stands it is right."""
-
-    evicts: str = "used"  # the block used first, or that which came first, was used last, ..
-    age_of: Callable = lambda age: age  # how an age is kept where the oldest is evicted
-    hit: str = "now"  # what a hit does to the time of its block's last use: it is now, or one
+# how a right simulator works
+RIGHT = dict(
+    evicts="used",  # the block used first, or that which came first, was used last, ..
+    age_of=lambda age: age,  # how an age is kept where the oldest is evicted
+    hit="now",  # what a hit does to the time of its block's last use: it is now, or one
     # "later", or its block and the one used last "swap" theirs
-    fresh: bool = True  # the reference bit of a new block
-    clears: str = ""  # the reference bits of all, or of all "others", once all are set; or late
-    address_bits: int = 64
-    tag_bits: int = 64
-    index_bits: int = 64  # of a set's number
-    clock_bits: int = 64
-    has_signed_clock: bool = False
-    has_own_clock: bool = False  # each set
-    ticks: str = ""  # the clock stands at a hit, and at a miss goes on "before" or "after" its use
-    is_signed: bool = False
-    kinds: str = "LSM"
-    stores: Callable = lambda went: 1  # how often the store of an M counts after what its load did
-    no_use: str = ""  # the kinds of a hit that is no use of its block
-    is_old: bool = False  # a new block is older than all others
-    passes: bool = False  # a store that misses brings no block in
-    crosses: bool = False  # an access touches the block of its last byte too
-    is_valid: bool = True  # whether a line's valid bit is looked at
-    ways: int = MANY  # a set uses at most so many lines
-    apart: int = MANY  # the array has so many lines for a set; more run into the next
-    is_early: bool = False  # a set's last free line counts as an eviction when it is filled
-    by_size: bool = False  # evictions are the misses less the lines of all sets
-    held: int = MANY  # a line is read into so many bytes, the last of them 0; the rest is ignored
-    kept: int = MANY  # the same, where lines that do not fit are not taken
-    taken: Callable = lambda accesses: accesses
-    cache_of: Callable = lambda s, lines, b: (s, lines, b)
-    set_of: Callable = lambda address, s, b: address >> b & (1 << s) - 1
-    tag_of: Callable = lambda address, s, b: address >> s + b
-    report: Callable = lambda hits, misses, evictions: (hits, misses, evictions)
+    fresh=True,  # the reference bit of a new block
+    clears="",  # the reference bits of all, or of all "others", once all are set; or late
+    address_bits=64,
+    tag_bits=64,
+    index_bits=64,  # of a set's number
+    clock_bits=64,
+    has_signed_clock=False,
+    has_own_clock=False,  # each set
+    ticks="",  # the clock stands at a hit, and at a miss goes on "before" or "after" its use
+    is_signed=False,
+    kinds="LSM",
+    stores=lambda went: 1,  # how often the store of an M counts after what its load did
+    no_use="",  # the kinds of a hit that is no use of its block
+    is_old=False,  # a new block is older than all others
+    passes=False,  # a store that misses brings no block in
+    crosses=False,  # an access touches the block of its last byte too
+    is_valid=True,  # whether a line's valid bit is looked at
+    ways=MANY,  # a set uses at most so many lines
+    apart=MANY,  # the array has so many lines for a set; more run into the next
+    is_early=False,  # a set's last free line counts as an eviction when it is filled
+    by_size=False,  # evictions are the misses less the lines of all sets
+    held=MANY,  # a line is read into so many bytes, the last of them 0; the rest is ignored
+    kept=MANY,  # the same, where lines that do not fit are not taken
+    taken=lambda accesses: accesses,
+    cache_of=lambda s, lines, b: (s, lines, b),
+    set_of=lambda address, s, b: address >> b & (1 << s) - 1,
+    tag_of=lambda address, s, b: address >> s + b,
+    report=lambda hits, misses, evictions: (hits, misses, evictions),
+)
+
+
+class Habits(collections.namedtuple("Habits", RIGHT, defaults=RIGHT.values())):
+    """How a simulator works. As it stands it is right."""
 
 
 def short(number, bits, is_signed=False):

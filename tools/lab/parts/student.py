@@ -1,18 +1,15 @@
 """A student's program and its runs: each has a private folder and limits, and on request bubblewrap
-around it. At the end what else the tools that run programs share: a private folder, traces and
-arguments."""
+around it. At the end what else the tools that run programs share: texts and a private folder."""
 
 import contextlib
 import os
-import pathlib
-import re
 import resource
 import shutil
 import signal
 import subprocess
 import sys
 import tempfile
-from typing import NamedTuple, Optional
+from collections import namedtuple
 
 from lib import processes
 from lib.signals import heed_stops, put_off_stops, stop_at_signals
@@ -28,14 +25,9 @@ FILLED = {"MALLOC_PERTURB_": "165"}
 UNFILLED = ["env", "MALLOC_PERTURB_=0"]
 
 
-class Case(NamedTuple):
+class Case(namedtuple("Case", "cache trace name is_turned", defaults=(False,))):
     """A cache, as '4,2,4', a trace, the name that is shown for the trace, and whether the options
     come in another order than the lab's own."""
-
-    cache: str
-    trace: str
-    name: str
-    is_turned: bool = False
 
     def arguments(self, trace):
         set_bits, lines, block_bits = self.cache.split(",")
@@ -46,22 +38,16 @@ class Case(NamedTuple):
         return " ".join(self.arguments(self.name))
 
 
-class Run(NamedTuple):
-    """What a run of a student's program left. The fault is empty where it ended well. A run that
-    was killed had no time to flush."""
-
-    fault: str
-    is_slow: bool
-    is_killed: bool
-    output: pathlib.Path
-    results: Optional[bytes]
+class Run(namedtuple("Run", "fault is_slow is_killed output results")):
+    """What a run of a student's program left: a file of its output, and its results, or None. The
+    fault is empty where it ended well. A run that was killed had no time to flush."""
 
 
 class Student:
     """A student's program, the folder and time that its runs have, and what stands before it."""
 
     def __init__(self, program, folder, seconds, around=None):
-        self.program, self.folder = without_links(program), pathlib.Path(folder)
+        self.program, self.folder = without_links(program), folder
         self.around, self.seconds = around or (lambda room: []), seconds
         self.few_seconds, self.slow_runs = min(seconds, max(1, seconds / 10)), 0
 
@@ -71,7 +57,7 @@ class Student:
         that hangs costs its time once; one that hangs only with flags keeps its time for runs
         without them."""
         seconds = self.few_seconds if flags and self.slow_runs else self.seconds
-        output, messages = self.folder / "output", self.folder / "messages"
+        output, messages = f"{self.folder}/output", f"{self.folder}/messages"
         trace = os.path.join("traces", os.path.basename(case.trace))
         with temporary_folder(dir=self.folder) as room:
             os.mkdir(os.path.join(room, "traces"))
@@ -221,7 +207,7 @@ def confinement(program, cachesim, folder):
     if not shutil.which("bwrap"):
         tool.fail("bwrap is missing: apt-get install bubblewrap")
     around = bubblewrap(program, cachesim)
-    tried = subprocess.run([*around(str(folder)), "true"], stdin=subprocess.DEVNULL,
+    tried = subprocess.run([*around(folder), "true"], stdin=subprocess.DEVNULL,
                            capture_output=True, text=True, check=False)
     if tried.returncode:
         tool.fail(f"bubblewrap doesn't work here: {tried.stderr.strip()}")
@@ -278,19 +264,7 @@ def in_private_folder(work):
     try:
         prefix = f"cachesim-{tool.NAME}."
         with temporary_folder(prefix=prefix) as folder:
-            return work(pathlib.Path(folder))
+            return work(folder)
     except OSError as fault:
         place = f"{fault.filename}: " if fault.filename else ""
         return tool.fail(f"{place}{fault.strerror}")
-
-
-def geometry(text):
-    if not re.fullmatch("[0-9]+,[0-9]+,[0-9]+", text):
-        raise ValueError
-    return text
-
-
-def seconds(text):
-    if not 0 < float(text) < 1e6:
-        raise ValueError
-    return float(text)

@@ -2,6 +2,7 @@
 finds mistakes that others miss; `grade --help` tells which. The random ones come from Python's
 generator with fixed seeds. No access to data crosses a block of 8 bytes."""
 
+import os
 import random
 
 # Each letter is a block. They share one set in every cache of grade; the first has tag 0 in most.
@@ -62,9 +63,9 @@ def traces():
 
 def write(folder):
     """Writes them to a folder, and returns their names."""
-    folder.mkdir(parents=True, exist_ok=True)
     names = []
     for name, lines in traces():
         names.append(f"{name}.trace")
-        (folder / names[-1]).write_text("".join(lines), encoding="ascii")
+        with open(os.path.join(folder, names[-1]), "w", encoding="ascii") as file:
+            file.writelines(lines)
     return names

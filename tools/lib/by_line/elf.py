@@ -6,7 +6,6 @@ import collections
 import functools
 import os
 import re
-from typing import NamedTuple
 
 from lib import tool
 from lib.by_line.binutils import debug_file, line_finder, mended, output_of, sources_of
@@ -28,48 +27,29 @@ UNIT = re.compile(r"\.\w+-cgu\.\d+$")
 STACKS = [(0x1FFE000000, 0x2000000000), (0x7FF000000000, 0x800000000000)]
 
 
-class Range(NamedTuple):
+class Range(collections.namedtuple("Range", "start end name")):
     """Addresses from `start` to before `end`, and what is there."""
 
-    start: int
-    end: int
-    name: str
 
-
-class Symbol(NamedTuple):
+class Symbol(collections.namedtuple("Symbol", "place kind source")):
     """What has a name in a program; the letter of nm for its kind; and the source file of what only
     this file knows, else nothing."""
 
-    place: Range
-    kind: str
-    source: str
 
-
-class Function(NamedTuple):
+class Function(collections.namedtuple("Function", "name program file source is_one",
+                                      defaults=(None, None, "", True))):
     """A function. Its file is None where there are no lines; then `source` is the name of the file,
     if the symbols of the program have it. Code without a function has a name in brackets; outside
     of all programs, the program is None."""
 
-    name: str
-    program: str = None
-    file: str = None
-    source: str = ""
-    is_one: bool = True
 
-
-class Line(NamedTuple):
+class Line(collections.namedtuple("Line", "file number", defaults=(None, 0))):
     """A line of a source file, which is None where it isn't known."""
 
-    file: str = None
-    number: int = 0
 
-
-class Code(NamedTuple):
+class Code(collections.namedtuple("Code", "function lines")):
     """The function that has an instruction; the line in it, and then those of functions that are
     inlined there."""
-
-    function: Function
-    lines: list
 
 
 @functools.cache

@@ -7,7 +7,6 @@ import collections
 import csv
 import io
 import os
-from typing import NamedTuple
 
 COUNTS = ("references", "misses", "compulsory", "capacity", "conflict")
 HEADERS = {"line": ["line", "inlined"], "site": ["site", "site-function"]}
@@ -15,13 +14,8 @@ MOST_INLINED = 8
 NO_FETCH = elf.Code(elf.Function("(no fetch before it)", is_one=False), [elf.Line()])
 
 
-class Cell(NamedTuple):
+class Cell(collections.namedtuple("Cell", "code object counts site", defaults=(None,))):
     """What was counted for an instruction and an object, or for a site of the heap."""
-
-    code: elf.Code
-    object: str
-    counts: list
-    site: elf.Code = None
 
 
 class Names:

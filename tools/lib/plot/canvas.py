@@ -2,7 +2,7 @@
 pictures stand."""
 
 import re
-from typing import NamedTuple
+from collections import namedtuple
 
 from lib.tool import misused
 
@@ -14,20 +14,9 @@ LEAST = 36, 11  # letters and lines that a picture needs
 NARROW = 72  # in fewer letters a legend has no room beside its picture
 
 
-class Canvas(NamedTuple):
+class Canvas(namedtuple("Canvas", "setting width height letter line is_text large small mark "
+                        "stroke is_mono", defaults=(False, 0, 0, 1, 2, False))):
     """A terminal of gnuplot: how it is set, its size, that of a letter, of large and small type."""
-
-    setting: str
-    width: float
-    height: float
-    letter: float
-    line: float
-    is_text: bool = False
-    large: float = 0
-    small: float = 0
-    mark: float = 1
-    stroke: float = 2
-    is_mono: bool = False
 
     def at(self, x, y):
         """A place in parts of width and height. Text has the whole at its last column and line."""
@@ -43,21 +32,12 @@ class Canvas(NamedTuple):
         return self.columns < NARROW
 
 
-class Frame(NamedTuple):
+class Frame(namedtuple("Frame", "left bottom right top")):
     """A part of a canvas. Heights are counted from below, as gnuplot does."""
 
-    left: float
-    bottom: float
-    right: float
-    top: float
 
-
-class Size(NamedTuple):
+class Size(namedtuple("Size", "width height is_length")):
     """What --size says, in pixels of 1/96 inch; the height may be None. A length is for print."""
-
-    width: float
-    height: float
-    is_length: bool
 
 
 def size(text):

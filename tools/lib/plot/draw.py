@@ -1,21 +1,16 @@
 """What tools/plot draws of the tables that it is given, and where that goes."""
 
 import os
-import shutil
 
-from lib import costs, table_din
+from lib import costs, table
 from lib.plot import canvas as plot_canvas
-from lib.plot import din as plot_din
-from lib.plot import gnuplot as plot_gnuplot
-from lib.plot import page as plot_page
-from lib.plot import sweep as plot_sweep
-from lib.plot import three_c as plot_three_c
 from lib.tool import fail, faults_of, replace, write_lines
 
 
 def canvas_of(asked, count):
     """The canvas for the ending of OUT."""
     if asked.out == "-":
+        import shutil
         terminal = shutil.get_terminal_size()
         return plot_canvas.text(terminal.columns, terminal.lines - 1)
     return plot_canvas.KINDS[asked.ending](count, asked.size, asked.mono, asked.scale)
@@ -44,10 +39,12 @@ def counts_of(rows):
 def of_sweeps(asked, tables):
     """The pictures of tables of sweeps, their measure, what a page says of a single table, and a
     function of what may be chosen there in place of a picture."""
+    from lib.plot import sweep as plot_sweep
     if asked.across:
         fail(f"{asked.table}: --across is for a table of din")
     column, one = costs.column_of(asked), tables[0]
-    if asked.only == plot_three_c.NAME and len(tables) == 1:
+    if asked.only == "three-c" and len(tables) == 1:
+        from lib.plot import three_c as plot_three_c
         if column != "misses":
             fail("--only three-c draws misses by their kinds, and no other measure")
         picture, choices, one = plot_three_c.drawn(asked, one)
@@ -63,6 +60,7 @@ def of_sweeps(asked, tables):
 
 def of_dins(asked, tables):
     """The same of tables of din."""
+    from lib.plot import din as plot_din
     costs.refuse_din(asked)
     picture, measure, counts = plot_din.drawn(asked, tables)
     return [picture], measure, counts, lambda _: {picture.fixed: picture}
@@ -70,16 +68,18 @@ def of_dins(asked, tables):
 
 def draw(asked, tables):
     """Draws some tables, and writes what is asked for."""
-    kinds = {table_din.is_din(given.lines) for given in tables}
+    kinds = {table.is_din(given.lines) for given in tables}
     if len(kinds) > 1:
         fail("tables of sweeps and of din have no picture in common")
     drawn, measure, counts, choices = (of_dins if kinds.pop() else of_sweeps)(asked, tables)
     if asked.ending == ".html":
+        from lib.plot import page as plot_page
         counts = f"{len(tables)} tables" if len(tables) > 1 else counts
         offered = list(map(choices, drawn))
         page = plot_page.page(drawn, offered, measure, asked.title, counts, asked.mono)
         write_file(asked.out, page.encode())
         return
+    from lib.plot import gnuplot as plot_gnuplot
     canvas = canvas_of(asked, len(drawn))
     script = plot_gnuplot.script(drawn, canvas, asked.title, measure)
     if asked.script:

@@ -3,7 +3,7 @@
 import math
 import os
 import textwrap
-from typing import NamedTuple
+from collections import namedtuple
 
 from lib import processes, tool
 from lib.plot import pictures
@@ -13,12 +13,8 @@ MARKS = (7, 5, 9, 11, 13, 6, 4)
 DASHES = ("solid", "(9,4)", "(2,3)", "(9,3,2,3)", "(16,5)", "(5,3)", "(9,3,2,3,2,3)")
 
 
-class Place(NamedTuple):
+class Place(namedtuple("Place", "area title legend")):
     """Where a picture stands: what its axes enclose, its title, and a legend's lines below that."""
-
-    area: Frame
-    title: list
-    legend: int
 
     def title_lines(self, canvas):
         """Each line of the title with its height."""

@@ -2,7 +2,7 @@
 
 import math
 import re
-from typing import NamedTuple
+from collections import namedtuple
 
 from lib.plot import MOST_LINES
 from lib.tool import size_text
@@ -17,32 +17,18 @@ GREYS = ("#f4f4f4", "#dcdcdc", "#c0c0c0", "#a2a2a2", "#848484", "#606060", "#202
 PALE, FRONT, BLACK = "#bbbbbb", "#d55e00", "#000000"
 
 
-class Point(NamedTuple):
+class Point(namedtuple("Point", "x y values label ends", defaults=("", ()))):
     """A cache in a picture: its place, what is said of it, its label, ends over several seeds."""
 
-    x: int
-    y: float
-    values: tuple
-    label: str = ""
-    ends: tuple = ()
 
-
-class Line(NamedTuple):
+class Line(namedtuple("Line", "name runs")):
     """A line of a picture: its name in the legend, and its points, cut where one is missing."""
 
-    name: str
-    runs: list
 
-
-class Measure(NamedTuple):
+class Measure(namedtuple("Measure", "up name about is_percent is_linear",
+                         defaults=("miss ratio in per cent", "Miss ratio", "", True, False))):
     """The vertical axis: its name there and above pictures, what points tell, if it is per cent,
     and whether it must begin at 0."""
-
-    up: str = "miss ratio in per cent"
-    name: str = "Miss ratio"
-    about: str = ""
-    is_percent: bool = True
-    is_linear: bool = False
 
     @property
     def least(self):
@@ -52,24 +38,13 @@ class Measure(NamedTuple):
         return f"The smallest caches with the least {UNIT.sub('', self.up)}"
 
 
-class Picture(NamedTuple):
+class Picture(namedtuple("Picture", "name fixed title across legend lines cloud labels is_curve "
+                         "is_front is_stack", defaults=([], "", False, False, False))):
     """A picture of some caches. `fixed` is the block size, or the ways, that all its caches have.
     The picture of a Pareto front has one line, the front, above a cloud of all caches, and says
     what their labels are; those of several tables have a line for each, and no cloud. A curve is a
     line without marks. In a stack all below a line is filled, and later lines lie on earlier ones.
     """
-
-    name: str
-    fixed: int
-    title: str
-    across: str
-    legend: str
-    lines: list
-    cloud: list = []
-    labels: str = ""
-    is_curve: bool = False
-    is_front: bool = False
-    is_stack: bool = False
 
     @property
     def points(self):
@@ -77,15 +52,8 @@ class Picture(NamedTuple):
         return self.cloud or [point for line in self.lines for run in line.runs for point in run]
 
 
-class Axis(NamedTuple):
+class Axis(namedtuple("Axis", "low high log ticks minor foot")):
     """An axis: its ends, whether it is logarithmic, ticks with and without texts, where 0 is."""
-
-    low: float
-    high: float
-    log: bool
-    ticks: list
-    minor: list
-    foot: float
 
     def fraction(self, value):
         """How far along the axis a value stands: 0 at its low end, 1 at the high one."""

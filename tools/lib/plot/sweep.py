@@ -51,8 +51,7 @@ def measure_of(column, is_named=False):
 
 
 def point(row, x):
-    shown = float(row.share)
-    return Point(x, shown, (*row[:7], shown), ",".join(map(str, row.cache)))
+    return Point(x, row.shown, (*row[:7], row.shown), ",".join(map(str, row.cache)))
 
 
 def line(name, rows, across="size", step="size", steps=()):

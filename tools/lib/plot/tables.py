@@ -1,21 +1,15 @@
 """The tables that tools/plot is given, and what a legend calls them."""
 
 import os
-from typing import NamedTuple
+from collections import namedtuple
 
 from lib import table
 
 LONGEST = 24  # letters of a table's name in the legend
 
 
-class Given(NamedTuple):
+class Given(namedtuple("Given", "file name lines shown rows", defaults=((),))):
     """A table: its file, its name in the legend, its lines, what faults call it, and its rows."""
-
-    file: str
-    name: str
-    lines: list
-    shown: str
-    rows: list = ()
 
 
 def names_of(files):

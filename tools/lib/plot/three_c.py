@@ -1,7 +1,7 @@
 """The stacked picture of the three C's by cache size, as Hennessy and Patterson draw it, of a table
 of `three-c`."""
 
-from typing import NamedTuple
+from collections import namedtuple
 
 from lib import table
 from lib.plot import pictures
@@ -16,12 +16,8 @@ MEASURE = Measure(about="%{customdata[0]:,} bytes<br>%{customdata[1]}<extra></ex
                   is_linear=True)
 
 
-class Kinds(NamedTuple):
+class Kinds(namedtuple("Kinds", "row compulsory capacity")):
     """A cache with the numbers of its misses of two kinds; the other misses are conflict ones."""
-
-    row: table.Row
-    compulsory: int
-    capacity: int
 
     @property
     def unshared(self):
