@@ -324,8 +324,9 @@ class Sources(Hand):
                   f"by-line: {source}: 2 references are at lines behind its end, 6: is it the file "
                   "that was compiled?\n", expected)
 
-    def test_a_program_newer_than_the_map(self):
-        """It is told, and the table comes. It may be as old as the map, and other files newer."""
+    def test_a_program_that_is_not_as_it_was(self):
+        """It is told where it is newer than the map, or gone, and the table comes. It may be as old
+        as the map, and other files newer."""
         program = self.compiled("inlined.c", text=INLINED)
         data = self.write("data", "no program\n")
         headers = self.good(self.run_command("readelf", "-lW", program))
@@ -343,6 +344,10 @@ class Sources(Hand):
         self.ends(self.run_tool(*given, stdin=text), 0,
                   f"by-line: {program} is newer than map: if it was built again since, its names "
                   "and lines are wrong; then trace it again\n", table)
+        os.unlink(program)
+        self.ends(self.run_tool(*given, stdin=text), 0,
+                  f"by-line: {program} can't be read, so nothing in it has a name\n",
+                  f"{table.partition(chr(10))[0]}\n(?),,?,1,1,1,0,0,100.000\n")
 
     def test_data_without_a_name(self):
         """Between two variables and behind the last one they are those of the program."""

@@ -42,6 +42,14 @@ class Script(LooksTest):
         self.assertTrue(all(len(set(grey)) == 1 for grey in greys), greys)
         self.assertEqual((len(greys), greys), (4, sorted(greys, reverse=True)))
 
+    def test_ways_of_a_single_size(self):
+        """They have no area, so a mark shows their misses."""
+        self.write("t.csv", HEAD + "".join(ROWS) + "64,1,4,256,800,200,196,50,150,0\n")
+        script = self.script("--only", "three-c", "t.csv", "a.svg")
+        self.assertEqual(data_of(script)["stack_3"], [[(256, 20)]])
+        edges = re.findall(r"\$stack_(\d) with (lines|points)", script)
+        self.assertEqual("".join(number + style[0] for number, style in edges), "1l2l3p4l5l")
+
     def test_many_ways(self):
         """At most five of them, in even steps of their powers of two."""
         rows = "".join(f"16,{sets},{ways},{16 * sets * ways},{1000 - 9 * ways},{9 * ways},1,5,4,"

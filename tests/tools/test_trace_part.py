@@ -102,12 +102,17 @@ class Parts(TraceTest):
         self.fault(ran, 125, f"{program} has no function walk: ", "; there is Tree::walk(int)\n")
 
     def test_stripped_programs(self):
-        """They have those that libraries use, if any."""
+        """They have those that libraries use, if any, or those of a file with debug information."""
         plain, program = (program_of(TRACED / "parts.c", "-fpie", "-pie", *more)
                           for more in ((), ("-rdynamic",)))
         subprocess.run(["strip", "-o", self.folder / "stripped", plain], check=True)
         ran = self.trace("--from", "main", "./stripped")
         self.fault(ran, 125, "./stripped has no function main: it is stripped")
+        subprocess.run(["objcopy", "--only-keep-debug", plain, self.folder / "apart"], check=True)
+        subprocess.run(["objcopy", "--add-gnu-debuglink=apart", "stripped"], check=True,
+                       cwd=self.folder)
+        lines, _ = self.traced_to_file("--from", "main", "--kind", "i", "--count", 1, "./stripped")
+        self.assertEqual(lines, [("2", self.place(plain, "main", self.base_of(plain)))])
         subprocess.run(["strip", "-o", self.folder / "stripped", program], check=True)
         lines, _ = self.traced_to_file("--from", "enter", "--kind", "i", "--count", 1, "./stripped")
         self.assertEqual(lines, [("2", self.place(program, "enter", self.base_of(program)))])

@@ -184,7 +184,8 @@ class Layout:
         self.stacks = [Range(start, end, "(stack)") for start, end in ([] if map_file else STACKS)]
         # a path, and no option, where its name begins with a dash
         self.files = [Loaded(os.path.join(".", program), base)] if program else []
-        self.others = []  # mapped files that are not ELF
+        self.others = []  # mapped files that are not ELF, or can't be read
+        self.unread = set()  # the paths of the latter
         if program and not self.files[0].regions:
             tool.fail(f"{program}: no ELF program that can be read")
         if map_file:
@@ -221,6 +222,8 @@ class Layout:
                 return
         if not segments_of(path):
             self.others.append(Range(start, end, f"({os.path.basename(path)})"))
+            if not os.access(path, os.R_OK):
+                self.unread.add(path)
 
     def variables(self):
         """The variables by address. Where several have a name, static ones have that of their

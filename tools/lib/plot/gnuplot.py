@@ -184,7 +184,9 @@ def of_stack(picture, up, place, canvas):
         border = f"border linecolor rgb '{pictures.BLACK}'"
         fill = f"fillstyle solid 1 {border} linecolor rgb '{colour}'"
         areas.append(f"$stack_{number} with filledcurves y1=0 {fill} title {quoted(line.name)}")
-        edges.append(f"$stack_{number} with lines {edge}")
+        is_point = len(line.runs[0]) == 1  # which has neither area nor line
+        style = f"points pointtype 7 pointsize {0.7 * canvas.mark:.3g}" if is_point else "lines"
+        edges.append(f"$stack_{number} with {style} {edge}")
     data.append("set key samplen 1.5")
     return data + plot(areas + edges)
 

@@ -26,13 +26,17 @@ def start_of_code(path):
 
 
 def address_of(path, name):
-    """The address of a function in the program's own file."""
+    """The address of a function in the program's own file, by its names or those of a file with its
+    debug information."""
     missing = "those of shared libraries can't be named"
-    table = []
+    named, table = path, []
     if not symbols(path):
-        table, missing = ["-D"], "it is stripped"
+        from lib.by_line.binutils import debug_file  # few programs need it
+        named = debug_file(path)
+        if not named:
+            named, table, missing = path, ["-D"], "it is stripped"
     for style in ("--no-demangle", "--demangle"):
-        known = symbols(path, *table, style)
+        known = symbols(named, *table, style)
         found = {at: letter for at, letter, symbol in known
                  if name in (symbol.partition("@")[0], symbol.partition("(")[0])}
         if found:
