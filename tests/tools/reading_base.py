@@ -69,6 +69,14 @@ class Reading:
             self.assertEqual((ran.returncode, is_told), (1, True), told)
             self.assertTrue(ran.stdout.endswith(self.MARK) if self.MARK else not ran.stdout)
 
+    def test_a_line_that_is_cut(self):
+        """Where what unpacks a trace fails, its fault is told, and none of the line."""
+        env = self.stand_in("gzip", 'printf "0 10\\n7"; echo no such disk >&2; exit 1')
+        (self.folder / "cut.gz").write_bytes(gzip.compress(SORT))
+        ran = self.read("cut.gz", env=env)
+        told = f"{self.TOOL}: cut.gz can't be read: no such disk\n"
+        self.assertEqual((ran.returncode, ran.stderr.decode()), (1, told))
+
     def test_no_program(self):
         """A name without a slash is a path too, and no word that is looked up."""
         self.executable("cachesim", "exit 0")

@@ -240,6 +240,8 @@ class Submitting(ToolTest):
             *((("run", 2, trace, *THREE), 1, f"{trace}: no file that each task can read\n")
               for trace in ("none", "-", ".", "/dev/stdin")),
             (("run", "auto", TRACE, *THREE), 2, "auto is no number of tasks"),
+            *(((name, 2, TRACE, *THREE), 2, f"{self.folder}/{name}: Slurm takes % and \\ for its")
+              for name in ("50%a", "a\\b")),
         ):
             self.refused(self.submit(*arguments), status, f"submit: {message}")
         ran = self.submit("run", 2, TRACE, "--bsize", "24", *THREE[2:])

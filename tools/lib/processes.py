@@ -5,6 +5,7 @@ import contextlib
 import fcntl
 import os
 import signal
+import time
 
 from lib import tool
 from lib.signals import heed_stops, put_off_stops, stop_at_signals
@@ -150,6 +151,19 @@ class Unpacker(Process):
         text = self.message().split("\n")[-1] or f"{self.name} ended with {end_text(code)}"
         return Fault(f"{tool.NAME}: {self.trace} can't be read: {text}")
 
+    def own_fault(self):
+        """That with which it ends now that its reader has gone, or has ended, or None."""
+        for _ in range(100):  # a second, where it waits for its own source
+            number, status = os.waitpid(self.number, os.WNOHANG)
+            if number:
+                try:
+                    self.ended(status)
+                except Fault as fault:
+                    return fault
+                return None
+            time.sleep(0.01)
+        return None
+
 
 class Group:
     """Processes that a tool starts, all of which are ended with it. A fault of one ends the tool
@@ -184,7 +198,13 @@ class Group:
 
     def __exit__(self, _, fault, __):
         with uninterrupted():
+            unpackers = [process for process in self.processes if isinstance(process, Unpacker)]
             for process in self.processes:
+                if process not in unpackers:
+                    process.kill()
+            for process in unpackers:
+                if process.is_running and isinstance(fault, Fault):
+                    fault = process.own_fault() or fault  # a line that was cut is its fault
                 process.kill()
         if isinstance(fault, Fault):
             tool.end(fault.text, fault.status)
