@@ -1,4 +1,3 @@
-#!/usr/bin/python3
 """A Slurm of one node on this machine, for trying what is meant for a cluster:
 
     python3 tests/tools/one_node.py start FOLDER && export SLURM_CONF=FOLDER/slurm.conf

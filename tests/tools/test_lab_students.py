@@ -35,6 +35,14 @@ TAG_WITHOUT_SET  mixed  2,1,4   the tag is the address without s bits, with b bi
 ONE_SET          mixed  4,2,4   all blocks share one set
 MASK_SETS        mixed  2,4,3   the mask of the set is 1 << (s - 1), which is how C reads 1 << s - 1
 XOR_SETS         mixed  4,2,4   the set is that of 2 ^ s, which is an exclusive or in C
+XOR_MASK         mixed  4,2,4   the mask of the set is (2 ^ s) - 1, where ^ is an exclusive or in C
+TWICE_MASK       mixed  4,2,4   the mask of the set is 2 * s - 1 and not 2 to the power of s, less 1
+SHIFTED_BY_S     mixed  2,4,3   the set is shifted by s bits and not by b
+NO_TAG           order  2,4,3   tags are not compared
+STICKS           order  2,4,3   all accesses after the first hit count as hits (a flag is not reset)
+STAYS            order  2,4,3   but the old block stays, and the new one is not kept
+FILLS_ALL        order  2,4,3   unless it is the first in its set (or it fills all free lines)
+COUNTS_OTHERS    order  2,4,3   all counts are 0: no line of a trace is taken for an access, or
 LOADS_NO_USE     mixed  2,4,3   a load that hits does not count as a use of its block
 FORGETS_MISSED   order  2,4,3   the store of an M that misses does not count
 NO_MODIFIES      order  2,4,3   M is ignored
@@ -126,6 +134,8 @@ class Students(StudentTest):
         for mistake, words in (
             ("AT_RANDOM", "the wrong block is evicted, since all is right where "),
             ("MODIFIES_THRICE", "there is 1 hit too many for each M\n"),
+            ("MODIFIES_FOURFOLD", "there are 2 hits too many for each M\n"),
+            ("NEEDS_TWO", "it crashes only with -E 1\n"),
             ("FEW_ROOM", "it crashes only where there are 16,384 sets or 32,768 lines or more: an "
              "array may be too short\n"),
             ("ENDS_AT_FETCH", "of the accesses only the first count ({wide} of wide.trace, "

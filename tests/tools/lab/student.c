@@ -54,6 +54,8 @@ static void miss(struct line *victim, address_t tag)
         hits += HAS(EVICTION_HITS);
         misses -= HAS(EVICTION_NO_MISS);
     }
+    if (HAS(STAYS) && victim->valid)
+        return;
     now += HAS(TICKS_AT_MISSES);
     address_t used = HAS(NEW_IS_OLD) ? 0 : now;
     *victim = (struct line){!HAS(NEVER_VALID), tag, used, !HAS(NEW_UNUSED)};
@@ -80,6 +82,12 @@ static address_t place(address_t address)
         return address % sets;
     if (HAS(MASK_IS_S))
         return block & set_bits;
+    if (HAS(XOR_MASK))
+        return block & ((2 ^ set_bits) - 1);
+    if (HAS(TWICE_MASK))
+        return block & (2 * set_bits - 1);
+    if (HAS(SHIFTED_BY_S))
+        return address >> set_bits & (sets - 1);
     if (HAS(BLOCKS_OF_16))
         return (address >> 4) % sets;
     return block % sets;
@@ -158,7 +166,8 @@ static void touch(address_t address, char kind)
     now &= HAS(BYTE_CLOCK) ? 0xff : ~0ul;
     now = HAS(SIGNED_CLOCK) ? (unsigned long)(signed char)now : now;
     for (struct line *line = set; line < end; line++)
-        if ((line->valid || HAS(NO_VALID)) && line->tag == tag) {
+        if (((line->valid || HAS(NO_VALID)) && (line->tag == tag || HAS(NO_TAG)))
+            || (HAS(STICKS) && hits)) {
             hit(line, kind);
             return;
         }
@@ -173,11 +182,15 @@ static void touch(address_t address, char kind)
     if (victim->valid && (HAS(NRU) || HAS(HAND)))
         victim = unused(set, end);
     miss(victim, tag);
+    for (struct line *line = set; HAS(FILLS_ALL) && line < end; line++)
+        if (!line->valid)
+            *line = *victim;
 }
 
 static void step(char kind, address_t address, int size)
 {
-    if ((HAS(CRASHES) && kind == 'S') || (HAS(FEW_ROOM) && set_bits > 12))
+    if ((HAS(CRASHES) && kind == 'S') || (HAS(FEW_ROOM) && set_bits > 12)
+        || (HAS(NEEDS_TWO) && ways == 1))
         abort();
     if (HAS(LOOPS) && kind == 'S')
         for (;;)
@@ -259,7 +272,9 @@ static void leave_junk(const char *trace)
 /* What it does after its work. */
 static void end(const char *trace)
 {
-    hits += HAS(COUNTS) + modifies * HAS(MODIFIES_THRICE);
+    hits += HAS(COUNTS) + modifies * (HAS(MODIFIES_THRICE) + 2 * HAS(MODIFIES_FOURFOLD));
+    if (HAS(COUNTS_OTHERS))
+        hits = misses = evictions = 0;
     if (HAS(SHORT_COUNTS))
         hits &= 0xffff, misses &= 0xffff, evictions &= 0xffff;
     if (HAS(BYTE_COUNTS))

@@ -16,6 +16,9 @@ OUTCOMES = {"": ("hit", "miss", "eviction"), " that hits": ("hit",),
             " that misses": ("miss", "eviction"), " that evicts": ("eviction",),
             " that fills a free line": ("miss",)}
 COUNTS = "hit", "miss", "eviction"
+LEAST = ("-s", 0), ("-E", 1), ("-b", 0)
+NOTHING = ("all counts are 0: no line of a trace is taken for an access, or what counts them is "
+           "not what is printed")
 
 
 class Run(collections.namedtuple("Run", "name accesses cache got is_right highest longest")):
@@ -113,6 +116,8 @@ def reason(runs, crashed):
     """Why a program is wrong, as a text: mistakes that give exactly its numbers, or else where its
     mistake must be; nothing where it can't be said. Runs are cases with what was wanted and what
     was got; the other cases crashed."""
+    if runs and not any(any(got) for _, _, got in runs):
+        return NOTHING
     seen = looked_at(runs)
     is_right = all(run.is_right for run in seen)
     found = [] if is_right else single(seen)
@@ -131,7 +136,8 @@ def place(runs, seen, crashed):
     """Where a mistake must be that is not known."""
     if crashed:
         is_else_right = all(wanted == got for _, wanted, got in runs)
-        return too_large([case for case, _, _ in runs], crashed) if is_else_right else ""
+        fine = [case for case, _, _ in runs]
+        return too_large(fine, crashed) or too_small(fine, crashed) if is_else_right else ""
     if is_of_victims(runs):
         return ("the wrong block is evicted, since all is right where a set has one line or "
                 "nothing is evicted: uses are noted, or the one longest ago is found, wrongly")
@@ -154,6 +160,14 @@ def too_large(fine, crashed):
             more.append(f"{min(sizes[0]):,} {name}")
     where = f"it crashes only where there are {' or '.join(more)} or more"
     return f"{where}: an array may be too short" if more else ""
+
+
+def too_small(fine, crashed):
+    """The options of which all cases that crash have the least value, and others have not."""
+    common = [f"{option} {value}" for at, (option, value) in enumerate(LEAST)
+              if {int(case.cache.split(",")[at]) for case in crashed} == {value}
+              and any(int(case.cache.split(",")[at]) > value for case in fine)]
+    return f"it crashes only with {' and '.join(common)}" if common else ""
 
 
 def is_of_victims(runs):
@@ -227,4 +241,5 @@ def miscounted(runs):
         [(name, times)] = fitting
         said.append(f"{abs(times)} {count}{'s' * (times > 1)} too {'many' if times > 0 else 'few'} "
                     f"for each {name}")
-    return f"there is {' and '.join(said)}" if said else ""
+    verb = "are" if said and said[0].startswith("2") else "is"
+    return f"there {verb} {' and '.join(said)}" if said else ""

@@ -23,7 +23,8 @@ class Step:
     written_back = 0  # by a flush
 
     def __init__(self, number, line, access):
-        self.number, self.line, self.access = number, line, access  # as the trace has them
+        self.number = number
+        self.line, self.access = line, access  # of the trace, as it has them
         self.sent = []  # what the log says that memory gets
 
     @property

@@ -35,7 +35,10 @@ RIGHT = dict(
     is_valid=True,  # whether a line's valid bit is looked at
     ways=MANY,  # a set uses at most so many lines
     apart=MANY,  # the array has so many lines for a set; more run into the next
-    is_early=False,  # a set's last free line counts as an eviction when it is filled
+    # whether a set's free line counts as an eviction when it is filled
+    early=lambda place, ways: False,
+    stays=False,  # an eviction counts, but the old block stays, and the new one does not
+    sticks=False,  # after the first hit all accesses hit
     by_size=False,  # evictions are the misses less the lines of all sets
     held=MANY,  # a line is read into so many bytes, the last of them 0; the rest is ignored
     kept=MANY,  # the same, where lines that do not fit are not taken
@@ -98,7 +101,8 @@ class Cache:
         index &= (1 << habits.index_bits) - 1
         lines = self.sets.setdefault(index, {})
         line = lines.get(tag)
-        is_hit = line or not habits.is_valid and tag == 0 and len(lines) < self.ways
+        is_hit = (line or habits.sticks and self.hits
+                  or not habits.is_valid and tag == 0 and len(lines) < self.ways)
         if not habits.ticks or habits.ticks == "before" and not is_hit:
             self.tick(index)
         if is_hit:
@@ -139,9 +143,11 @@ class Cache:
         place = len(lines)
         if place >= self.ways:
             self.evictions += 1
+            if self.habits.stays:
+                return
             place = lines.pop(self.victim(index, lines)).place
-        elif place == self.ways - 1:
-            self.evictions += self.habits.is_early
+        else:
+            self.evictions += self.habits.early(place, self.ways)
         used = 0 if self.habits.is_old else self.now(index)
         lines[tag] = Line(used, self.misses, place, self.habits.fresh)
         self.mark(lines, lines[tag], self.habits.fresh)
