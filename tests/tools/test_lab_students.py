@@ -35,13 +35,6 @@ TAG_WITHOUT_SET  mixed  2,1,4   the tag is the address without s bits, with b bi
 ONE_SET          mixed  4,2,4   all blocks share one set
 MASK_SETS        mixed  2,4,3   the mask of the set is 1 << (s - 1), which is how C reads 1 << s - 1
 XOR_SETS         mixed  4,2,4   the set is that of 2 ^ s, which is an exclusive or in C
-XOR_MASK         mixed  4,2,4   the mask of the set is (2 ^ s) - 1, where ^ is an exclusive or in C
-TWICE_MASK       mixed  4,2,4   the mask of the set is 2 * s - 1 and not 2 to the power of s, less 1
-SHIFTED_BY_S     mixed  2,4,3   the set is shifted by s bits and not by b
-NO_TAG           order  2,4,3   tags are not compared
-STICKS           order  2,4,3   all accesses after the first hit count as hits (a flag is not reset)
-STAYS            order  2,4,3   but the old block stays, and the new one is not kept
-FILLS_ALL        order  2,4,3   unless it is the first in its set (or it fills all free lines)
 COUNTS_OTHERS    order  2,4,3   all counts are 0: no line of a trace is taken for an access, or
 LOADS_NO_USE     mixed  2,4,3   a load that hits does not count as a use of its block
 FORGETS_MISSED   order  2,4,3   the store of an M that misses does not count
@@ -112,17 +105,24 @@ class Students(StudentTest):
                 self.assertTrue(said.endswith("\n0 of 1 right\n"), said)
 
     def test_rare_mistakes(self):
-        """They are looked for where there are cases enough, here all of one set."""
-        caches = [f"--geometry=0,{ways},{bits}" for ways in (2, 8, 20, 40, 60)
-                  for bits in range(2, 6)]
-        for mistakes, words in (
-            (["NRU", "NEW_UNUSED"], "are cleared; that of a new block is clear (NRU)"),
-            (["SIGNED_AGE"], "ages are signed and have only 8 bits"),
-            (["YOUNGER_BY_ONE"], "a hit makes its block younger by one only"),
-            (["ONE_DIGIT"], "of the number behind -E only the first digit is taken"),
+        """They are looked for where there are cases enough, here all of one set or of many."""
+        one = [f"--geometry=0,{ways},{bits}" for ways in (2, 8, 20, 40, 60) for bits in range(2, 6)]
+        many = [f"--geometry={sets},2,{bits}" for sets in range(3, 7) for bits in range(2, 7)]
+        for mistakes, caches, words in (
+            (["NRU", "NEW_UNUSED"], one, "are cleared; that of a new block is clear (NRU)"),
+            (["SIGNED_AGE"], one, "ages are signed and have only 8 bits"),
+            (["YOUNGER_BY_ONE"], one, "a hit makes its block younger by one only"),
+            (["ONE_DIGIT"], one, "of the number behind -E only the first digit is taken"),
+            (["STAYS"], one, "an eviction counts, but the old block stays, and the new one is not"),
+            (["FILLS_ALL"], one, "unless it is the first in its set (or it fills all free lines)"),
+            (["STICKS"], one, "all accesses after the first hit count as hits (a flag is not"),
+            (["NO_TAG"], many, "tags are not compared"),
+            (["XOR_MASK"], many, "the mask of the set is (2 ^ s) - 1, where ^ is an exclusive or"),
+            (["TWICE_MASK"], many, "the mask of the set is 2 * s - 1 and not 2 to the power of s"),
+            (["SHIFTED_BY_S"], many, "the set is shifted by s bits and not by b"),
         ):
             said = self.grade(*caches, "--verbose-lines=no", self.student(*mistakes), "mixed.trace")
-            self.assertRegex(said, f"\nwhy: all results .*{re.escape(words)}")
+            self.assertRegex(said, f"\nwhy: all results .*{re.escape(words)}", mistakes)
 
     def test_where_an_unknown_mistake_is(self):
         """In all cases together. Reading that ends at a fetch leaves what stands before it."""

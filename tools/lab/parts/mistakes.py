@@ -61,8 +61,6 @@ MISTAKES = {
         "evicts": "rarest, oldest"},
     "a full set always evicts the block in its first line": {"evicts": "first"},
     "a new block counts as the oldest of its set": {"is_old": True},
-    "an eviction counts, but the old block stays, and the new one is not kept": {"stays": True},
-    "all accesses after the first hit count as hits (a flag is not reset)": {"sticks": True},
     "a store that hits does not count as a use of its block": {"no_use": "S"},
     "a load that hits does not count as a use of its block": {"no_use": "L"},
     "a store that misses brings no block in": {"passes": True},
@@ -100,24 +98,17 @@ MISTAKES = {
         "set_of": lambda address, s, b: (address >> b) % (2 * s) if s else 0},
     "the set is that of 2 ^ s, which is an exclusive or in C": {
         "set_of": lambda address, s, b: (address >> b) % max(1, 2 ^ s)},
-    "the mask of the set is (2 ^ s) - 1, where ^ is an exclusive or in C": {
-        "set_of": lambda address, s, b: address >> b & (2 ^ s) - 1},
-    "the mask of the set is 2 * s - 1 and not 2 to the power of s, less 1": {
-        "set_of": lambda address, s, b: address >> b & 2 * s - 1},
     "the mask of the set is 1 << (s - 1), which is how C reads 1 << s - 1": {
         "set_of": lambda address, s, b: address >> b & 1 << s - 1 if s else 0},
     "the set is in the highest of 32 bits": {
         "set_of": lambda address, s, b: address >> max(0, 32 - s) & (1 << s) - 1},
     "the mask of the set is s and not 2 to the power of s, less 1": {
         "set_of": lambda address, s, b: address >> b & s},
-    "tags are not compared": {"tag_of": lambda address, s, b: 0},
     "the offset is taken for a part of the tag": {"tag_of": lambda address, s, b: address},
     "the tag is the address without s bits, with b bits of the offset": {
         "tag_of": lambda address, s, b: address >> s},
     "the tag is shifted by one bit too many": {
         "tag_of": lambda address, s, b: address >> s + b + 1},
-    "the set is shifted by s bits and not by b": {
-        "set_of": lambda address, s, b: address >> s & (1 << s) - 1},
     "the set is shifted by one bit too many": {
         "set_of": lambda address, s, b: address >> b + 1 & (1 << s) - 1},
     "the set is shifted by one bit too few": {
@@ -136,8 +127,6 @@ MISTAKES = {
     "evictions are the misses less the lines of all sets": {"by_size": True},
     "a set's last free line counts as an eviction when it is filled": {
         "early": lambda place, ways: place == ways - 1},
-    "a miss counts as an eviction unless it is the first in its set (or it fills all free lines)": {
-        "early": lambda place, ways: place > 0},
     "all accesses count as misses": {"report": lambda h, m, e: (h, h + m, e)},
     "hits are one too many": {"report": lambda h, m, e: (h + 1, m, e)},
     "hits and misses are exchanged": {"report": lambda h, m, e: (m, h, e)},
@@ -162,6 +151,17 @@ RARE = {
         "ticks": ticks, "has_own_clock": owner == "its set", "evicts": evicts}
        for owner in ("its set", "LRU") for ticks, when in (("before", ""), ("after", THEN))
        for evicts, equal in (("used", ""), ("used, last", LAST))},
+    "an eviction counts, but the old block stays, and the new one is not kept": {"stays": True},
+    "a miss counts as an eviction unless it is the first in its set (or it fills all free lines)": {
+        "early": lambda place, ways: place > 0},
+    "all accesses after the first hit count as hits (a flag is not reset)": {"sticks": True},
+    "tags are not compared": {"tag_of": lambda address, s, b: 0},
+    "the mask of the set is (2 ^ s) - 1, where ^ is an exclusive or in C": {
+        "set_of": lambda address, s, b: address >> b & (2 ^ s) - 1},
+    "the mask of the set is 2 * s - 1 and not 2 to the power of s, less 1": {
+        "set_of": lambda address, s, b: address >> b & 2 * s - 1},
+    "the set is shifted by s bits and not by b": {
+        "set_of": lambda address, s, b: address >> s & (1 << s) - 1},
     "a set has a line too many": {"cache_of": lambda s, lines, b: (s, lines + 1, b)},
     "of the number behind -E only the first digit is taken": {
         "cache_of": lambda s, lines, b: (s, digit(lines), b)},
