@@ -4,7 +4,9 @@ import os
 import re
 import shutil
 import subprocess
+import types
 import unittest
+from unittest import mock
 
 import base
 
@@ -52,14 +54,29 @@ class Bench(base.ToolTest):
 class Runs(Bench):
     def test_what_it_prints(self):
         self.workloads("usual user_jobs SEED + program 10 / sweep", "",
-                       "other user_jobs SEED + lackey 10 / csim")
+                       "usually user_jobs SEED + lackey 10 / csim")
         lines = self.good(self.bench()).splitlines()
         self.assertEqual(lines[0].split(), "old (least) new (least) old/new".split())
-        self.assertEqual([line.split()[0] for line in lines[1:]], ["usual", "other"])
+        self.assertEqual([line.split()[0] for line in lines[1:]], ["usual", "usually"])
         for line in lines[1:]:
             self.assertRegex(line, r"^\w+( +\d+\.\d{3}  \(\d+\.\d{3}\)){2} +(\d+\.\d{3}|inf)$")
-        lines = self.good(self.bench("--only", "other")).splitlines()
-        self.assertEqual([line.split()[0] for line in lines[1:]], ["other"])
+        lines = self.good(self.bench("--only", "usual", "--turns", "7")).splitlines()
+        self.assertEqual([line.split()[0] for line in lines[1:]], ["usual"])
+
+    def test_numbers(self):
+        """By hand: behind the first turn the medians are 0.4 and 0.2 seconds, and the least 0.1 and
+        0.05. The time of a run is that of the user and of the system."""
+        bench, lines, wait = base.script("../bench/run"), [], os.wait4
+        times = {"old": [9, 0.7, 0.1, 0.2, 0.5, 0.4, 0.3, 0.6],
+                 "new": [0.01, 0.3, 0.05, 0.1, 0.2, 0.25, 0.1, 0.9]}
+        used = types.SimpleNamespace(ru_utime=1.5, ru_stime=2.25)
+        with mock.patch.object(os, "wait4", lambda *given: (*wait(*given)[:2], used)):
+            self.assertEqual(bench.run(self.folder / "old", ["user_jobs"], 1)[1], 3.75)
+        with mock.patch.multiple(bench, write=lines.append, run=lambda checkout, *_: (
+                b"", times[checkout.name].pop(0))):
+            bench.compare_all(types.SimpleNamespace(
+                old=self.folder / "old", new=self.folder / "new", only=None, seed=1, turns=7))
+        self.assertEqual(lines[1].split(), "usual 0.400 (0.100) 0.200 (0.050) 2.000".split())
 
     def test_what_it_runs(self):
         """By turns, with the words of the line, the seed in place of its word, in bench/."""
@@ -77,9 +94,9 @@ class Runs(Bench):
     def test_a_file_that_is_read(self):
         """Of a crate that prints no digests."""
         for checkout in ("old", "new"):
-            self.program(checkout, "read line", 'echo "$1 $line"', crate="cachesim")
+            self.program(checkout, "read line", 'echo "$1 $line"', crate="other")
             self.write(f"{checkout}/bench/trace", "0 10\n")
-        self.workloads("piped cachesim sweep <trace")
+        self.workloads("piped other sweep <trace")
         self.good(self.bench())
         self.write("old/bench/trace", "0 20\n")
         self.stops(1, "piped: the outputs differ")
@@ -162,14 +179,17 @@ class Faults(Bench):
                     wanted = f"bench/run: standard output: {told}\n", 1
                     self.assertEqual((ran.stderr.decode(), ran.returncode), wanted)
 
-    def test_a_fault_of_no_file(self):
-        """It has no place: there is no folder for what the programs write."""
-        lines = ("import runpy, sys, tempfile", "sys.argv = sys.argv[1:]",
-                 "def refuse(*_): raise FileNotFoundError(2, 'No usable temporary directory')",
-                 "tempfile.TemporaryFile = refuse", "runpy.run_path(sys.argv[0], None, '__main__')")
-        ran = self.run_command("python3", "-c", "\n".join(lines), RUN, "old", "new")
-        told = "bench/run: No usable temporary directory\n"
-        self.assertEqual((ran.stderr.decode(), ran.returncode), (told, 1))
+    def test_a_fault_of_a_file_and_of_none(self):
+        """There is no folder for what the programs write."""
+        for given, told, status in (("'No usable folder'", "No usable folder", 1),
+                                    ("'Not there', 'a'", "a: Not there", 2)):
+            lines = ("import runpy, sys, tempfile", "sys.argv = sys.argv[1:]",
+                     f"def refuse(*_): raise FileNotFoundError(2, {given})",
+                     "tempfile.TemporaryFile = refuse",
+                     "runpy.run_path(sys.argv[0], None, '__main__')")
+            ran = self.run_command("python3", "-c", "\n".join(lines), RUN, "old", "new")
+            wanted = f"bench/run: {told}\n", status
+            self.assertEqual((ran.stderr.decode(), ran.returncode), wanted)
 
 
 class WrongInput(Bench):

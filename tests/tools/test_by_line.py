@@ -350,6 +350,7 @@ class Faults(ByLineTest):
         absent, some = "No such file or directory\n", b"0 1\n"
         by = "argument --by: 'lines' is not one or more of line, function and object"
         empty = "an empty map; if the trace comes through a pipe"
+        self.write("bad.map", "1000-2000 rw-p 00000000 00:00 0\n1000-2000 rw-p\n")
         for words, status, fault, *text in (
             ("-t x", 2, "the trace is the first argument"),
             ("-- x", 2, "-- is no option; "),
@@ -360,8 +361,10 @@ class Faults(ByLineTest):
             ("--base 10", 2, "--base is for a --program"),
             ("--map m --program p", 2, "--map leaves nothing to --program and --base"),
             ("--callgrind - --map ./-", 2, "--callgrind and --map are one file"),
+            ("--callgrind - --by site --heap ./-", 2, "--callgrind and --heap are one file"),
             ("--map none", 1, f"none: {absent}"),
             ("--map /dev/null", 1, f"/dev/null: {empty}", some),
+            ("--map bad.map", 1, "bad.map: line 2 is none of a map\n"),
             ("--program none", 1, "none: no ELF program that can be read\n"),
         ):
             with self.subTest(words):
@@ -376,11 +379,15 @@ class Faults(ByLineTest):
         given, bad = ("by-line", "-", *CACHE.split()), ("2 0x", "2 12345678901234567", "2")
         for fetches in (1, 20, 20_000, 500_000):
             start = "2 401136\n" * fetches
-            for text, fault in (("7 1", "bad label"), *((text, "bad address") for text in bad)):
+            for text, fault in (("7 1", "bad label"), ("2401136", "bad label"),
+                                *((text, "bad address") for text in bad)):
                 ran = self.run_tool(*given, stdin=f"{start}0 10\n{text}\n0 20\n".encode())
                 self.refused(ran, 1, f"cachesim: line {fetches + 2}: {fault}\n")
             ran = self.run_tool(*given, stdin=f"{start}2 {'0' * 600_000}".encode())
             self.refused(ran, 1, f"cachesim: line {fetches + 1}: ")
+        for text in ("I  401136,", "I  401136,1234567890", "I  12345678901234567,4", "I  401136 4"):
+            ran = self.run_tool(*given, "-informat", "l", stdin=f" L 10,4\n{text}\n".encode())
+            self.refused(ran, 1, "cachesim: line 2: bad ")
 
     def test_few_lines(self):
         """None, and a reference without a fetch."""

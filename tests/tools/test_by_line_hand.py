@@ -13,11 +13,12 @@ from test_by_line import COUNTS, ByLineTest
 # a page of the stack of a thread; all else is heap
 MAP = "1000-2000 rw-p 00000000 00:00 0 [stack]\n"
 ONE_LINE = ("-l1-dsize", "16", "-l1-dbsize", "16")
-# what stands in line 3 is a part of main, inlined in line 6
+# what stands in line 3 of another file is a part of main, inlined in line 6
+AT = "\n\n    numbers[at] = at;\n"
 INLINED = """\
 static int numbers[64];
 static inline __attribute__((always_inline)) void set(int at) {
-    numbers[at] = at;
+#include "at.h"
 }
 int main(void) {
     set(1);
@@ -40,8 +41,11 @@ static int own(int number) {
     return number + 1;
 }
 """
-# data with and without a name
+# data with and without a name, and of other kinds
 GAPS = """\
+const int known[2] = {1, 2};
+__attribute__((used)) static const int kept[2] = {3, 4};
+__attribute__((weak)) int weak[2];
 int first[2] = {1, 2};
 asm(".data\\n.zero 32");
 int last[3] = {3, 4, 5};
@@ -87,8 +91,11 @@ class Misses(Hand):
         ):
             with self.subTest(text, options=options):
                 self.assertEqual(self.counts(text, *options), counts)
-        rows = self.rows("-", *cache("128k", 1), stdin=b"0 0\n0 20000\n0 0\n")
+        given = "-", *cache("128k", 1), "--callgrind", "out"
+        rows = self.rows(*given, stdin=b"0 0\n0 20000\n0 0\n")
         self.assertEqual(self.values(rows, *COUNTS), [(3, 3, 2, "", "")])
+        told = (self.folder / "out").read_text().splitlines()
+        self.assertEqual(told[4:6], ["events: References Misses Compulsory", "summary: 3 3 2"])
 
     def test_the_cache_that_counts(self):
         """Without --at it is the first of l1-d, l1-i, l1-u and l2-u."""
@@ -176,6 +183,10 @@ class Evictions(Hand):
 
 @base.needs("binutils", "gcc", "llvm")
 class Sources(Hand):
+    def setUp(self):
+        super().setUp()
+        self.write("at.h", AT)
+
     def compiled(self, *words, text=None, compiler="cc"):
         """A program of sources, of which the last one may have its text written here."""
         if text:
@@ -205,7 +216,7 @@ class Sources(Hand):
         names = "line", "inlined", "function", "references", "misses", "share"
         self.assertEqual(sorted(self.values(self.rows(*given, stdin=text), *names)), [
             ("(?)", "", "?", 4, 4, "66.667"),
-            ("inlined.c:6", "inlined.c:3", "main", 2, 1, "16.667"),
+            ("inlined.c:6", "at.h:3", "main", 2, 1, "16.667"),
             ("inlined.c:7", "", "main", 2, 1, "16.667"),
         ])
 
@@ -219,7 +230,8 @@ class Sources(Hand):
         self.assertEqual(out.read_text().splitlines(), [
             "# callgrind format", "version: 1", "creator: by-line of cachesim", "positions: line",
             "events: References Misses Compulsory Capacity", "summary: 6 3 3 0", "",
-            f"ob={given[3]}", f"fl={self.folder}/inlined.c", "fn=main", "3 2 1 1 0", "7 2 1 1 0",
+            f"ob={given[3]}", f"fl={self.folder}/inlined.c", "fn=main",
+            f"fi={self.folder}/at.h", "3 2 1 1 0", f"fe={self.folder}/inlined.c", "7 2 1 1 0",
             "", "ob=???", "fl=???", "fn=(no fetch before it)", "0 1 1 1 0", "",
             "ob=???", "fl=???", "fn=?", "0 1 0 0 0", "", "totals: 6 3 3 0"])
         ran = self.run_command("callgrind_annotate", "--auto=yes", "--threshold=100", "out")
@@ -236,11 +248,11 @@ class Sources(Hand):
     def test_progress(self):
         """On a terminal the lines read so far are told, and taken away at the end."""
         words = " ".join((f"{base.TOOLS}/by-line", "-", *ONE_LINE, "--by", "object"))
-        feed = "for i in 1 2 3; do echo 0 10; sleep 0.8; done"
+        feed = "yes 0 10 | head -n 59998; for i in 1 2; do sleep 1.1; echo 0 10; done"
         ran = self.run_command("script", "-qec", f"({feed}) | {words}", "/dev/null")
         table = "object,references,misses,compulsory,capacity,conflict,share\r\n"
-        table = re.escape(f"{table}(heap),3,1,1,0,0,100.000\r\n")
-        told = rf"\A(\rby-line: 0\.0 million lines )+\r\x1b\[K{table}\Z"
+        table = re.escape(f"{table}(heap),60000,1,1,0,0,100.000\r\n")
+        told = rf"\A(\rby-line: 0\.1 million lines )+\r\x1b\[K{table}\Z"
         self.assertRegex(ran.stdout.decode(), told)
         self.good(self.run_command("bash", "-c", f"({feed}) | {words}"))
 
@@ -268,7 +280,7 @@ class Sources(Hand):
             name = re.sub(r"\W", "", path)
             self.write(path, f"static int table[4]; int *{name}(void) {{ static int only_{name}; "
                              f"table[0]++; return only_{name}++ ? &table[1] : table; }}\n")
-        self.write("m.c", "__thread int own[4];\nint main(void) { return own[0]; }\n")
+        self.write("m.c", "__thread int own[30000];\nint main(void) { return own[0]; }\n")
         self.compiled("-fpie", "-pie", "m.c", *sources)
         start, names = 0x10000000000, self.good(self.run_command("nm", "-S", "-p", "program"))
         tables, (alone,), (own,) = (
@@ -302,7 +314,8 @@ class Sources(Hand):
         rows = self.rows(*given, "--by", "function", stdin=text)
         self.assertEqual(self.values(rows, "function", "references"), [("all(int*)", len(places))])
         inlined = [row["inlined"] for row in self.rows(*given, "--by", "line", stdin=text)]
-        self.assertIn(re.sub(r"(\d+)", r"w.cc:\1", "32 29 26 23 .. 14 11 8 5"), inlined)
+        for lines in ("32 29 26 23 .. 14 11 8 5", "32 29 26 23 20 17 14 11"):
+            self.assertIn(re.sub(r"(\d+)", r"w.cc:\1", lines), inlined)
 
     def test_without_llvm(self):
         """Binutils' own command names lines too, and tells the parts of a loop in one line apart. A
@@ -323,10 +336,12 @@ class Sources(Hand):
         self.ends(self.run_tool(*given, stdin=text), 0,
                   f"by-line: {source}: 2 references are at lines behind its end, 6: is it the file "
                   "that was compiled?\n", expected)
+        self.write("inlined.c", "\n" * 6 + "the seventh line")
+        self.assertEqual(self.good(self.run_tool(*given, stdin=text)), expected)
 
     def test_a_program_that_is_not_as_it_was(self):
         """It is told where it is newer than the map, or gone, and the table comes. It may be as old
-        as the map, and other files newer."""
+        as the map, and other files newer, which have data of their own."""
         program = self.compiled("inlined.c", text=INLINED)
         data = self.write("data", "no program\n")
         headers = self.good(self.run_command("readelf", "-lW", program))
@@ -340,6 +355,8 @@ class Sources(Hand):
             os.utime(path, ns=(0, 10 ** 18 + later))
         table = self.good(self.run_tool(*given, stdin=text))
         self.assertIn("\ninlined.c:7,,main,1,1,", table)
+        rows = self.rows(*given[1:], "--by", "object", stdin=text)
+        self.assertEqual(self.references(rows), {"(data)": 1})
         os.utime(program, ns=(0, 10 ** 18 + 1))
         self.ends(self.run_tool(*given, stdin=text), 0,
                   f"by-line: {program} is newer than map: if it was built again since, its names "
@@ -364,6 +381,9 @@ class Sources(Hand):
         self.assertEqual((wanted["first"], wanted["last"], wanted["(program)"] >= 24), (2, 3, True))
         given = "-", "--program", program, *ONE_LINE, "--by", "object"
         self.assertEqual(self.references(self.rows(*given, stdin=reads(places))), dict(wanted))
+        others = dict.fromkeys(("known", "kept", "weak"), 1)
+        text = reads(symbols[name][0] for name in others)
+        self.assertEqual(self.references(self.rows(*given, stdin=text)), others)
 
     def test_functions_without_lines(self):
         """Without lines an instruction belongs to a function from its first byte to its last."""

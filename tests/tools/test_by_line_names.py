@@ -2,7 +2,9 @@
 own, and of Rust."""
 
 import os
+import pathlib
 import re
+import shutil
 import unittest.mock
 
 import base
@@ -193,18 +195,22 @@ class Apart(Names):
                 os.remove(self.folder / place)
                 self.assertEqual(self.objects(variables), {"(program)": 2})
 
-    def test_by_its_build_id(self):
-        """Below the system's folder for them, of which another stands for it here."""
+    def test_below_the_folder_of_the_system(self):
+        """By its name in the program's own folder there, and by its build ID. Another folder stands
+        for the system's here."""
         self.stripped()
         identity = self.good(self.run_command("readelf", "-n", "program"))
         identity = re.search(r"Build ID: (\w+)", identity)[1]
-        program, folder = self.folder / "program", self.folder / ".build-id" / identity[:2]
-        folder.mkdir(parents=True)
-        place = folder / f"{identity[2:]}.debug"
-        os.rename(self.folder / "program.debug", place)
-        binutils.debug_file.cache_clear()
-        with unittest.mock.patch.object(binutils, "DEBUG_FOLDER", str(self.folder)):
-            self.assertEqual(binutils.debug_file(str(program)), str(place))
+        program, folder = self.folder / "program", f"{self.folder}/system"
+        place = self.folder / "program.debug"
+        with unittest.mock.patch.object(binutils, "DEBUG_FOLDER", folder):
+            for name in (f"{os.path.realpath(self.folder)}/program",
+                         f"/.build-id/{identity[:2]}/{identity[2:]}"):
+                found = pathlib.Path(f"{folder}{name}.debug")
+                found.parent.mkdir(parents=True)
+                place = place.rename(found)
+                binutils.debug_file.cache_clear()
+                self.assertEqual(binutils.debug_file(str(program)), str(place))
             binutils.debug_file.cache_clear()
             self.good(self.run_command("gcc", "-g", "-o", "other", *self.statics()))
             self.good(self.run_command("objcopy", "--only-keep-debug", "other", place))
@@ -221,6 +227,18 @@ class Apart(Names):
         self.assertIn(b"\n(program),2,", ran.stdout)
         told = f"by-line: {self.folder}/program.debug is of another build of ./program\n"
         self.assertEqual(ran.stderr.decode(), told)
+
+    def test_another_machine(self):
+        """The package with its binutils is named where they are missing."""
+        commands = self.executable("bin/addr2line").parent
+        elf = pathlib.Path(shutil.which("true")).read_bytes()
+        for machine, name in ((40, "arm-linux-gnueabihf"), (183, "aarch64-linux-gnu"),
+                              (243, "riscv64-linux-gnu")):
+            self.write("program", elf[:18] + bytes([machine]) + elf[19:])
+            ran = self.run_tool("by-line", "-", "--program", "program", *CACHE,
+                                env={"PATH": str(commands)})
+            told = f"{name}-readelf is missing: apt-get install binutils-{name}\n"
+            self.refused(ran, 1, f"by-line: {told}")
 
 
 @base.needs("binutils", "llvm", "rustc")

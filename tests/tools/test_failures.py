@@ -12,39 +12,60 @@ import tempfile
 
 from base import (EXAMPLES, PROGRAM, TOOLS, TOP, ToolTest, comes, copy_tools, needs,
                   processes)
+from lab_base import STUDENTS
+from lib.trace.functions import start_of_code
 from trace_base import TRACED, program_of, symbols_of
 
 SPACE = "--bsize 16 --sets 1-4 --assoc 1-2 --size 64".split()
 CACHE = "-l1-dsize 128 -l1-dbsize 16 -l1-dassoc 2".split()
 QEMU = f"qemu-{platform.machine()}"
 FAKE = {"FAKE_VERSION": "7.2.22", "FAKE_HELP": "-plugin ..", "FAKE_START": "0"}
-# what each tool is given: files, and in the place of INPUT a trace. Behind a blank stands what it
-# is asked for beside its usual work, by options that call other commands
+# what each tool is given: files, and in the place of INPUT a trace, and of MAIN how far a function
+# is behind the start of the code. Behind a blank stands what it is asked for beside its usual work,
+# by options that call other commands
 RUNS = {
     "best": ["table.csv"],
     "by-line": ["INPUT", *CACHE],
     "by-line names": ["lines.din", *CACHE, "--program", "traced", "--callgrind", "counts"],
     "by-page": ["INPUT", *CACHE],
+    "cluster/submit": ["run", "2", "INPUT", *SPACE],
     "din-table": ["2", "INPUT", *CACHE[:2], "-l1-dbsize", "16,32"],
+    "lab/grade": ["./csim", "handout.lackey", "--geometry", "1,1,4"],
+    "lab/grade-class": ["students/ann", "--trace", "handout.lackey", "--geometry", "1,1,4"],
     "lab/lab-trace": ["./program"],
+    "lab/lab-transpose": ["--size", "8x8", "trans.c"],
     "lab/replay": "-s 1 -E 2 -b 4 -t handout.lackey --text".split(),
     "over-time": ["INPUT", *CACHE, "--each", "50"],
     "plot": ["--script", "table.csv", "-"],
+    "plot png": ["table.csv", "a.png"],
     "plot text": ["table.csv", "-"],
     "second-level": ["INPUT", *CACHE],
     "sweep-parallel": ["2", "INPUT", *SPACE],
     "three-c": ["INPUT", *SPACE],
     "to-din": ["lackey", "handout.lackey"],
     "trace": ["./program", "2:1", "many:100"],
+    "trace from": ["--from", "main", "./traced", "2:1", "2:MAIN", "many:100"],
     "trace lackey": ["--with", "lackey", "--kind", "d", "./program"],
     "trace to": ["--to", "main", "./traced", "2:1", "many:100"],
     "warm": ["9", "INPUT", *SPACE],
 }
 OF_A_TRACE = [tool for tool, words in RUNS.items() if "INPUT" in words]
 WRITES_A_TRACE = ("lab/lab-trace", "second-level", "to-din", "trace")
-OF_VALGRIND = ("lab/lab-trace", "trace lackey")  # which has no room in some limits
+TO_A_FILE = {"plot png"}  # which is all that they write
+OF_VALGRIND = ("lab/lab-trace", "lab/lab-transpose", "trace lackey")  # no room in some limits
+# what they run is limited as they are, and judged
+OF_STUDENTS = ("lab/grade", "lab/grade-class", "lab/lab-transpose")
 # all that they run; a command that is not here is not found
-COMMANDS = "addr2line gnuplot gzip llvm-addr2line nm readelf valgrind xz zstd".split()
+COMMANDS = "addr2line cc gnuplot gzip llvm-addr2line nm readelf valgrind xz zstd".split()
+# stand-ins for those of a cluster, which do nothing
+OF_CLUSTERS = {"sbatch": "echo 7", "scancel": "", "squeue": "exit 1"}
+TRANS = """\
+void registerTransFunction(void (*)(int M, int N, int[N][M], int[M][N]), char *);
+static void by_rows(int M, int N, int A[N][M], int B[M][N]) {
+    for (int i = 0; i < N; i++) for (int j = 0; j < M; j++) B[j][i] = A[i][j];
+}
+void registerFunctions(void) { registerTransFunction(by_rows, "by rows"); }
+"""
 # counts the calls of a command, and fails in that one which the environment names
 STAND_IN = """\
 #!/bin/bash
@@ -72,7 +93,8 @@ class FailureTest(ToolTest):
         for tool in ("by-line", "second-level", "to-din", "trace"):
             subprocess.run([TOOLS / tool, "--build"], check=True)
         copy_tools(cls.tools, *(path.name for path in TOOLS.iterdir() if path.is_file()))
-        shutil.copytree(TOOLS / "lab", cls.tools / "lab")
+        for folder in ("cluster", "lab"):
+            shutil.copytree(TOOLS / folder, cls.tools / folder)
         (cls.tools / "out").mkdir()
         # after the end of trace-run nothing is left that could mark the end of the trace
         for name in ("by-line", "trace-plugin.so", "trace-run", "to-din"):
@@ -80,6 +102,16 @@ class FailureTest(ToolTest):
         cls.commands.mkdir()
         real = {name: path for name in COMMANDS if (path := shutil.which(name))}
         real |= {"cachesim": PROGRAM, QEMU: program_of(TRACED / "fake_qemu.c", "-rdynamic")}
+        cls.scripts = cls.place / "scripts"
+        cls.scripts.mkdir()
+        for name, line in {**OF_CLUSTERS, "cc": f'PATH=/usr/bin {real["cc"]} "$@"'}.items():
+            real[name] = cls.scripts / name
+            real[name].write_text(f"#!/bin/bash\n{line}\n")
+            real[name].chmod(0o755)
+        cls.system = cls.place / "system"  # students' programs find no folder that has cachesim
+        cls.system.mkdir()
+        for name in ("env", "stdbuf"):
+            (cls.system / name).symlink_to(shutil.which(name))
         for name, path in real.items():
             cls.replace(cls.commands / name, path)
         for name in ("second-level", "to-din"):
@@ -103,6 +135,11 @@ class FailureTest(ToolTest):
         lines = [f"2 {at:x}\n0 {symbols_of(traced)['first_array'][0]:x}\n"
                  for at in range(start, start + size)]
         (given / "lines.din").write_text("".join(lines))
+        cls.main = f"{symbols_of(traced)['main'][0] - start_of_code(traced):x}"
+        (given / "students/ann").mkdir(parents=True)
+        for name in ("csim", "students/ann/csim"):
+            shutil.copy(program_of(STUDENTS / "student.c"), given / name)
+        (given / "trans.c").write_text(TRANS)
         sweep = [PROGRAM, "sweep", *SPACE, "-t", given / "trace.din"]
         (given / "table.csv").write_bytes(subprocess.check_output(sweep))
 
@@ -119,7 +156,8 @@ class FailureTest(ToolTest):
         path.chmod(0o755)
 
     def words(self, tool, trace="trace.din"):
-        words = (trace if word == "INPUT" else word for word in RUNS[tool])
+        words = (trace if word == "INPUT" else word.replace("MAIN", self.main)
+                 for word in RUNS[tool])
         return [str(self.tools / tool.split()[0]), *words]
 
     def environment(self, calls, **more):
@@ -127,7 +165,8 @@ class FailureTest(ToolTest):
         for folder in (calls, private):
             folder.mkdir()
             folder.chmod(0o777)  # also where umask is another
-        own = {"PATH": self.commands, "CACHESIM": self.commands / "cachesim", "CALLS": calls}
+        own = {"PATH": f"{self.commands}:{self.system}",
+               "CACHESIM": self.commands / "cachesim", "CALLS": calls}
         own = {name: str(path) for name, path in {**own, "TMPDIR": private}.items()}
         return {**own, "LC_ALL": "C.UTF-8", "PYTHONDONTWRITEBYTECODE": "1", **FAKE, **more}
 
@@ -143,6 +182,9 @@ class FailureTest(ToolTest):
         command = [*self.confined(), *command]
         with subprocess.Popen(command, **given) as running:
             out, told = self.end_of(running)
+        out = out.replace(str(folder).encode(), b"its folder")
+        if (made := folder / words[-1]).suffix == ".png" and made.exists():
+            out = made.read_bytes()
         ran = subprocess.CompletedProcess(words, running.returncode, out, told)
         self.assertTrue(comes(lambda: not processes(running.pid)), f"{name} leaves a process")
         ran.private = [path.name for path in (calls / "private").iterdir()]
@@ -167,6 +209,8 @@ class FailureTest(ToolTest):
             self.assertAlmostEqual(len(ran.stdout) / len(whole), 1, delta=0.1, msg=what)
         elif ran.returncode == 0:
             self.assertEqual(ran.stdout, whole, what)
+        elif tool in OF_STUDENTS and ran.returncode == 1:
+            pass  # an answer too: something is wrong with what they judge
         elif tool.split()[0] not in WRITES_A_TRACE:
             self.assertIn(ran.stdout, (b"", whole), what)
         elif ran.stdout != whole and (ran.stdout or not ran.is_at_begin):
@@ -208,7 +252,9 @@ class Commands(FailureTest):
         for what, ran in self.each(tool, whole, runs):
             command, told = what.rpartition(".")[0], ran.stderr.decode()
             if ran.returncode and command not in ("valgrind", QEMU):  # the program's own status
-                self.assertRegex(told, rf"(?m)\A.*({command}|page \d|the run of|row).*$", what)
+                # some have told themselves why they failed
+                named = command if "killed" in what else f"{command}|no job|compiled"
+                self.assertRegex(told, rf"(?m)\A.*({named}|page \d|the run of|row).*$", what)
 
     def test_each_command_missing(self):
         """It is named with its package."""
@@ -221,7 +267,8 @@ class Commands(FailureTest):
                 for path in self.commands.iterdir():
                     if path.name != command:
                         (few / path.name).symlink_to(path)
-                runs = [(f"without {command}", (self.words(tool),), {"PATH": str(few)})]
+                path = f"{few}:{self.system}"
+                runs = [(f"without {command}", (self.words(tool),), {"PATH": path})]
                 for what, ran in self.each(tool, whole, runs):
                     told = ran.stderr.decode()
                     self.assertIn(f"{command} is missing: apt-get install", told, (tool, what))
@@ -235,7 +282,7 @@ class Surroundings(FailureTest):
                 places = ("<&-", "2>&-", ">&-", "<&- 2>&-", "<&- >&- 2>&-")
                 runs = [(place, (self.words(tool), "", place), {}) for place in places]
                 for place, ran in self.each(tool, whole, runs):
-                    if ">&-" in place.replace("2>&-", ""):
+                    if ">&-" in place.replace("2>&-", "") and tool not in TO_A_FILE:
                         self.assertNotEqual(ran.returncode, 0, f"{tool} {place}")
 
     def test_few_descriptors(self):
@@ -253,8 +300,8 @@ class Surroundings(FailureTest):
 class Limits(FailureTest):
     """What the system may refuse: sizes of files, memory, processes, processor time, room."""
 
-    def judge_limits(self, limits, tools=RUNS):
-        for tool in tools:
+    def judge_limits(self, limits, others=()):
+        for tool in (tool for tool in RUNS if tool not in (*OF_STUDENTS, *others)):
             with self.subTest(tool):
                 whole, _ = self.whole(tool)
                 runs = [(limit, (self.words(tool), limit), {}) for limit in limits]
@@ -265,8 +312,8 @@ class Limits(FailureTest):
         self.judge_limits(f"ulimit -f {blocks};" for blocks in (0, 1, 4))
 
     def test_memory(self):
-        tools = [tool for tool in RUNS if tool not in OF_VALGRIND]
-        self.judge_limits([f"ulimit -v {size};" for size in (30000, 40000, 60000, 120000)], tools)
+        limits = [f"ulimit -v {size};" for size in (30000, 40000, 60000, 120000)]
+        self.judge_limits(limits, OF_VALGRIND)
 
     def test_processes(self):
         """As another user, for whom there is a limit: no tool waits for one that isn't there."""
@@ -284,8 +331,8 @@ class Limits(FailureTest):
     def test_outputs_that_fail(self):
         """A full device, which one line tells of; and a reader that goes where signals are ignored,
         as after `trap '' PIPE`."""
-        ignored = "trap '' PIPE; PATH=/usr/bin:$PATH; set -o pipefail;"
-        for tool in RUNS:
+        ignored = "trap '' PIPE; PATH=$PATH:/usr/bin; set -o pipefail;"
+        for tool in RUNS.keys() - TO_A_FILE:
             for before, after, least in ("", "> /dev/full", 1), (ignored, "| true", 0):
                 with self.subTest(tool=tool, after=after):
                     ran = self.run_in("output", self.words(tool), before, after)

@@ -22,7 +22,7 @@ class Gate(ToolTest):
 
     def test_each_edit_is_refused(self):
         self.assertGreater(EDITS, 0)
-        self.judge(["rt: ok; handles allowed: none", ALL], 0, (CRATES + EDITS, 0))
+        self.judge(["1 passed, 0 failed", "rt: ok", ALL], 0, (CRATES + EDITS, 0))
         self.judge([f"rt: ok; must-fail edits: {EDITS} refused", ALL], 0, (CRATES + EDITS, 0))
 
     def test_an_edit_that_is_taken_for_refused(self):
@@ -39,14 +39,18 @@ class Gate(ToolTest):
 
     def ended(self, failed=0, **others):
         """The status of the whole gate, where each of its parts passes, or one fails."""
-        gate, removed = script("all"), []
+        gate, removed, self.run = script("all"), [], []
         gate.common.LEFT = self.folder
 
         class Program(type(TOP)):
             def unlink(self, **_):
                 removed.append(self.name)
 
-        stand_ins = {"judged": lambda *_: (1, failed), "gate": mock.Mock(return_value=(2, 0)),
+        def judged(*command):
+            self.run.append(command[1:])
+            return 1, failed
+
+        stand_ins = {"judged": judged, "gate": mock.Mock(return_value=(2, 0)),
                      "PROGRAM": Program(gate.PROGRAM), "SECOND": Program(gate.SECOND), **others}
         stand_ins["gate"].__name__ = "gate"
         told = io.StringIO()
@@ -60,7 +64,11 @@ class Gate(ToolTest):
     def test_a_part_that_is_left_out(self):
         """Its parts are those that tests/sums keeps, with their arguments and their program."""
         self.assertEqual(self.ended()[0], 0)
-        scripts = script("all").SCRIPTS
+        gate = script("all")
+        scripts = gate.SCRIPTS
+        of = [(gate.SECOND, "run"), *((gate.PROGRAM, *words) for words in scripts)]
+        self.assertEqual(self.run, [("tests/spec-names",), ("tests/ledger",), *(
+            (f"tests/{name}", "--program", str(program), *words) for program, name, *words in of)])
         fewer = [["fuzz", "--cases", "9999"] if name == "fuzz" else [name, *words]
                  for name, *words in scripts]
         for wrong in (scripts[1:], fewer):

@@ -111,7 +111,7 @@ class Known(HeapTest):
         self.write("heap", "2 + 500000 10 400010\n3 - 500000\n3 + 500008 8 400020\n"
                            "3 + 500000 8 400020\n6 m 600000 100\n7 s 5ff000 2000\n8 t 600000 8\n"
                            "9 end\n")
-        self.write("heap.map", "400000-401000 r-xp 0 0:0 0 /none\n")
+        self.write("heap.map", f"400000-401000 r-xp 0 0:0 0 {self.folder}/heap.din\n")
         self.assertEqual(self.sites(), {"(other)": 2, "(?)": 3, "(malloc)": 1, "(thread stacks)": 1,
                                         "(thread-local)": 1})
 

@@ -144,6 +144,7 @@ class OfTrace(InputTest):
 
     def test_what_is_read(self):
         self.spared("-o input", "--output and NAME are one file")
+        self.spared("-o t --program-output input", "--program-output and NAME are one file")
 
     def test_a_fault_before(self):
         """One that is found before it is known what is read."""

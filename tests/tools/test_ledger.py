@@ -2,6 +2,7 @@
 
 import contextlib
 import io
+import os
 import re
 import shutil
 
@@ -79,6 +80,8 @@ class TheLedger(ToolTest):
                          "FAILED trace_core.limits MAX_LINES: new")
         some = r"OnOk}\nuse Rattle.trace_core.proofs.Runs.{IfSome}"
         self.fails_after(TASK, r"IfSome, OnOk\}", some, "FAILED trace_core.Task: IfSome")
+        self.fails_after(READ, "^", "ghost use Rattle.trace_core.proofs.Runs.{a_lemma};\n",
+                         "FAILED trace_core.io: a_lemma of ")
         self.fails_after("sweep_core/specs/Space.antt", "nat_lt, nat_le,",
                          "nat_le as nat_lt, nat_le,", "Space: nat_le as nat_lt of ")
         self.fails_after("callers/proofs/readers/all_entries/Invariants.antt", "^",
@@ -184,11 +187,28 @@ class Sums(ToolTest):
         self.assertEqual(self.ended("at most 2", "one"), (0, "2 passed, 0 failed\n"))
         for names in ("one",), ("one", "at most 2", "three"), ("one", "at most 3"):
             self.assertEqual(self.ended(*names)[0], 1)
+        self.assertEqual(self.ended(), (1, "FAILED: nothing was tested\n0 passed, 1 failed\n"))
         # of a run of some cases, or one that has failed, nothing is compared or left
         shutil.rmtree(self.folder / "out")
         self.assertEqual(self.ended("one", script=None)[0], 0)
         self.assertEqual(self.ended("one", failed=1), (1, "1 passed, 1 failed\n"))
         self.assertFalse((self.folder / "out").exists())
+
+    def test_a_program_that_is_older(self):
+        """Than a source or a definition; not than a proof, or what is not built."""
+        self.common.TOP = self.folder
+        program = self.write("program", "")
+        for name, is_older in (
+            ("low/proofs/a/Answers.antt", False), ("worked_rows/src/rows.rt", False),
+            ("callers/src/readers.rt", False), ("low/specs/in/Sets.antt", True),
+            ("low/src/in/sets.rt", True),
+        ):
+            path = self.folder / "crates" / name
+            path.parent.mkdir(parents=True)
+            self.write(path, "")
+            os.utime(program, (path.stat().st_mtime - 1,) * 2)
+            self.assertEqual(self.common.changed_since(program), path if is_older else None)
+            os.remove(path)
 
     def test_scripts_are_compared(self):
         """Where a line of tests/sums is another one, the run fails, and tests/ledger mends it."""

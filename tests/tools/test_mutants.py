@@ -22,7 +22,7 @@ impl Half {
 """
 EDIT = "file: src/lib.rt\nold:         number / 2\nnew:         number / 3\n"
 NOT_PROVED = "it is not proved that what the function ensures holds when it returns"
-IN_CODE = f"note: src/lib.rt:6:5: {NOT_PROVED} (`returns-in-Some-clause-value`); and more\n"
+IN_CODE = f"note: src/lib.rt:5:5: {NOT_PROVED} (`returns-in-Some-clause-value`); and more\n"
 FALSE = (
     f"note: src/lib.rt:6:5: {NOT_PROVED} (`returns-clause-small`);"
     " the facts known there allow values at which this goal is false\n"

@@ -237,6 +237,7 @@ TABLES = {
     "zero": f"{COLUMNS}\n{ONE_DIN.replace('64', '0', 1)}\n",
     "traces": f"{COLUMNS}\n{ONE_DIN}{ONE_DIN.replace(',1000,', ',999,').replace('l', 'f')}\n",
     "word": f"{COLUMNS}\n{ONE_DIN.replace('100,', 'x,', 1)}",
+    "sets": f"{COLUMNS}\n{ONE_DIN}".replace("l1-usize", "l1-usets"),
 }
 NO_CACHE, NO_ROW = "eight.csv: no cache has the", "line 2: no row of a table of din"
 FAULTS = (
@@ -277,6 +278,7 @@ FAULTS = (
     ("--only block eight.csv other.csv a.png",
      "several tables have the pictures size, curve, pareto, and not block\n"),
     ("--only pareto din.csv din.csv a.png", "several tables of din have the picture size alone\n"),
+    ("din.csv sets.csv a.png", "sets.csv: no option l1-usize with numbers; there are l1-usets, "),
     ("eight.csv din.csv a.png", "tables of sweeps and of din have no picture in common\n"),
     ("eight.csv none.csv a.png", "none.csv: 0,2,1 is no cache of a sweep"),
     ("--measure x other.csv eight.csv a.png", "other.csv: no column x; there are "),
@@ -329,11 +331,13 @@ class Refused(PlotTest):
 
     def test_a_failure_leaves_what_was_there(self):
         self.write("a.png", "as before")
-        fault = "line 0: no such terminal"
-        path = self.stand_in(f"cat > /dev/null; echo half a picture; echo '{fault}' >&2; exit 1")
-        ran = self.plot("eight.csv", "a.png", env=path)
-        self.refused(ran, 1, f"plot: gnuplot failed: {fault}\n")
-        self.write("bin/gnuplot", "#!/bin/sh\ncat > /dev/null; head -c 100000 /dev/zero\n")
+        half = "echo half a picture; "
+        for does, fault in ((f"{half} echo 'no such terminal' >&2; exit 1", ": no such terminal"),
+                            (f"{half} kill -KILL $$", " with signal 9: it drew nothing"),
+                            ("", ": it drew nothing")):
+            ran = self.plot("eight.csv", "a.png", env=self.stand_in(f"cat > /dev/null; {does}"))
+            self.refused(ran, 1, f"plot: gnuplot failed{fault}\n")
+        path = self.stand_in("cat > /dev/null; head -c 100000 /dev/zero")
         limited = f"ulimit -f 50; exec {base.TOOLS}/plot eight.csv a.png"
         ran = self.run_command("bash", "-c", limited, env=path)
         self.refused(ran, 1, "plot: a.png: File too large\n")

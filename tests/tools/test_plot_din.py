@@ -69,12 +69,17 @@ class Measure(PlotTest):
             "'Evictions by cache size: blocks of 16 bytes'",
             "set ylabel 'evictions in per cent of references'"])
         self.assertEqual(data_of(script)["size_2"], [[(64, 21), (128, 2)]])
-        rows = "64,1,1,64,100,100,49,14,580\n64,2,1,128,120,80,38,0,302.5\n"
+        rows = ("64,1,1,64,500,500,49,70,580\n64,2,1,128,600,400,38,6,302.5\n"
+                "64,4,1,256,650,350,9,-11,200\n")
         self.write("t.csv", f"{table.HEADER},conflict,cost\n{rows}")
-        self.shows("--measure conflict --only size t.csv", {"size_1": [[(64, 7), (128, 0)]]})
+        script = self.shows("--measure conflict --only size t.csv", {
+            "size_1": [[(64, 7), (128, 0.6), (256, -1.1)]]}, texts=["unset logscale y"])
+        low = re.search(r"(?m)^set yrange \[(.*):", script)[1]  # a tick below the least
+        self.assertTrue(float(low) <= -1.1 and f"set ytics ('{low}' {low}, " in script, script)
         ticks = ", ".join(f"'{hundred}00' {hundred}00" for hundred in range(1, 7))
-        self.shows("--measure cost --only size t.csv", {"size_1": [[(64, 580), (128, 302.5)]]},
-                   texts=["set ylabel 'cost'\n", f"set ytics ('0' 0, {ticks})\n"])
+        self.shows("--measure cost --only size t.csv", {
+            "size_1": [[(64, 580), (128, 302.5), (256, 200)]]},
+            texts=["set ylabel 'cost'\n", f"set ytics ('0' 0, {ticks})\n"])
         self.write("t.csv", f"{table.HEADER},cost\n64,1,1,64,50,50,49,{'9' * 64}\n")
         self.shows("--measure cost --only size t.csv", texts=["'2e63' 2e+63, '4e63' 4e+63, "])
 
@@ -170,7 +175,7 @@ class Din(PlotTest):
                                        "set ylabel 'local miss ratio of l2-u in per cent'"])
         more = rows + rows.replace("64,", "32,").replace(",50,50.000,50,", ",60,60.000,60,")
         self.write("t.csv", f"{header}\n{more}")
-        self.shows("--across l2-usize t.csv", None, [
+        self.shows("t.csv", None, [
             f"l1-d {size} bytes, l2-u {policy}" for size in (64, 32) for policy in ("LRU", "FIFO")])
         # what the first level counts does not depend on the second
         self.shows("--across l1-dsize t.csv", {"size_1": [[(32, 60), (64, 50)]]}, [],
@@ -238,3 +243,4 @@ class Several(PlotTest):
         self.assertEqual(data_of(script)["size_4"], [[(64, 30), (128, 25)]])
         self.write_din("last.csv", {(64, "f"): (300,)})
         self.shows("din.csv din.csv lru.csv last.csv", texts=[f"'{BY_SIZE}: 5 of 8 lines'"])
+        self.assertEqual(len(names_of(self.shows("lru.csv " * 7))), 7)

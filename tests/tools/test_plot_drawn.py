@@ -91,7 +91,7 @@ class Drawn(PlotTest):
             for text in [*TITLES, *AXES, "A*** 1 way\n", "B### 2 ways\n", ". all caches",
                          "32,2,2\n"]:
                 self.assertIn(text, drawn)
-            self.assertEqual(drawn.count("Eight"), 3)
+            self.assertEqual(len(re.findall(r"(\A|\n\n) +Eight\n", drawn)), 3)
             alone = self.good(self.plot("--only", "block", "eight.csv", "-", env=size))
             alone = alone.splitlines()
             self.assertTrue(columns - 8 < max(map(len, alone)) <= columns)

@@ -85,7 +85,8 @@ class Script(LooksTest):
             ("640x480px", "a.svg", "svg size 640,480 font 'DejaVu Sans,Verdana,sans-serif,14'"),
             ("1600x900 --scale 2", "a.png", "pngcairo size 1600,900 font 'Sans,21' fontscale 1 "),
             ("10x6in --scale 2.5", "a.pdf", "pdfcairo size 10in,6in font 'DejaVu Sans,20'"),
-            ("860 --scale 0.5", "a.svg", "svg size 860,482 font 'DejaVu Sans,Verdana,sans-serif,7"),
+            ("860 --scale 0.2", "a.pdf", "pdfcairo size 8.958in,5.017in font 'DejaVu Sans,1.6'"),
+            ("20000x20000 --scale 20", "a.png", "pngcairo size 20000,20000 font 'Sans,210'"),
             ("", "a.png", "pngcairo size 860,480 font 'Sans,10.5'"),
             ("1in", "a.pdf", small),
             ("3.3x0.5in", "a.pdf", small),
@@ -94,8 +95,9 @@ class Script(LooksTest):
             ("x", "a.png", "'x' is no size such as 3.3in, 80x60mm or 800x600; "),
             ("8cmx5cm", "a.svg", "'8cmx5cm' is no size"),
             ("3ft", "a.png", "'3ft' is no size"),
-            ("999999", "a.png", "'999999' is no size"),
-            ("3in --scale 0.1", "a.png", "'0.1' is no scale from"),
+            ("20001", "a.png", "'20001' is no size"),
+            ("3in --scale 0.19", "a.png", "'0.19' is no scale from"),
+            ("3in --scale 20.1", "a.png", "'20.1' is no scale from"),
             ("3in --scale x", "a.png", "'x' is no scale from"),
             ("3in --scale 9", "a.png", "--size is too small for 1 picture"),
         ):
@@ -165,9 +167,9 @@ class Drawn(LooksTest):
             self.good(self.plot("--title", "é", "eight.csv", out, env=env))
 
     def test_forty_columns(self):
-        """All of a text picture is within, and no text runs into another."""
-        for columns in (40, 50, 71):
-            env = {"COLUMNS": str(columns), "LINES": "30"}
+        """All of a text picture is within, and no text runs into another; it has no fewer."""
+        for asked, columns in (20, 40), (50, 50), (71, 71):
+            env = {"COLUMNS": str(asked), "LINES": "30"}
             for arguments, *named in (
                 (["--only", "size", self.sort], "***A*** 1 way", "@@@E@@@ 16 ways",
                  "blocks of 64 bytes", "Miss ratio by cache size"),

@@ -77,6 +77,7 @@ T342625 read         8 byte(s) @ 0x00007ffe5ac78ac8 by PC 0x00007f8b5d1a8093 => 
      7   1:  3264604 ifetch       2 byte(s) @ 0x0000000000401030 non-fetched instruction =>
      7   1:  3264604 pref-w-L2    1 byte(s) @ 0x0000000000401030 by PC 0x0000000000401000 =>
      7   1:  3264604 dflush       8 byte(s) @ 0x0000000000401030 by PC 0x0000000000401000 =>
+     7   1:  3264604 iflush       8 byte(s) @ 0x0000000000401030 by PC 0x0000000000401000 =>
      7   1:  3264604                               00 00 40 =>
      7   1:  3264604 <marker: kernel xfer from 0x7f8b5d1a8090 to handler> =>
 <marker: version 3> =>
@@ -122,7 +123,7 @@ Format: <data address>: <data size> =>""",
 0x401000: W (nil) => 1 0
 00007FF6C0401000: R 000000E5C7DAF9D8 => 0 e5c7daf9d8
 0x401000: R     0x7ffd1230 16 0x0102030405060708090a0b0c0d0e0f10 => 0 7ffd1230
-0x401000: R     0x7ffd1230  0 => 0 7ffd1230
+0x401000: R   000X7ffd1230  0 => 0 7ffd1230
 0x401000: W 00000x7ffd12345678 04 0000000000000x1f => 1 7ffd12345678
 #eof =>""",
     "spike": r"""
@@ -234,9 +235,10 @@ class Formats(ToDin):
                 self.assertIn(f"`{sample}`", (SAMPLES / "README.md").read_text())
 
     def test_bad_lines(self):
-        """NUL, which ends the list of Dinero's labels in C, is none of them."""
-        told = "line 1: not a line of Dinero IV's extended din format: ? 0x10 8"
-        self.faulty("dinero", told, stdin=b"\0 0x10 8\n")
+        """NUL, which ends the list of Dinero's labels in C, is none of them. What could change a
+        terminal is shown as '?'."""
+        told = "line 1: not a line of Dinero IV's extended din format: ? 0x10 8 ?[7m?"
+        self.faulty("dinero", told, stdin=b"\0 0x10 8 \x1b[7m\x7f\n")
         for form, cases in BAD.items():
             good, told = next(iter(GOOD[form].items()))
             lines = {case.replace("{}", at) for case in cases.split("|") for at in NOT_HEXADECIMAL}
@@ -313,10 +315,10 @@ class Streams(ToDin):
 
     def test_long_lines(self):
         line = b'0, 0x401000, 0x8b, "%b", load, 0x7ffd1230\n'
-        long = line % (b"a, b" * (1 << 20))
-        self.assertEqual(self.din("execlog", stdin=long * 2), ["2 401000", "0 7ffd1230"] * 2)
-        too_long = line % b"" + line % (b"a" * (1 << 24))
-        self.faulty("execlog", "line 2: 16777216 bytes or more", stdin=too_long)
+        room, filler = (1 << 24) - len(line % b""), b"a, b" * (1 << 22)
+        longest, too_long = (line % filler[:size] for size in (room, room + 1))
+        self.assertEqual(self.din("execlog", stdin=longest * 2), ["2 401000", "0 7ffd1230"] * 2)
+        self.faulty("execlog", "line 2: 16777216 bytes or more", stdin=line % b"" + too_long)
 
     def test_decimal_addresses(self):
         """As those of an exercise, with the option on either side of the file."""
@@ -337,7 +339,8 @@ class Streams(ToDin):
     def test_names_and_packed_traces(self):
         text = (SAMPLES / "champsim.bin").read_bytes()
         packers = {".gz": "gzip", ".xz": "xz", ".zst": "zstd"}
-        for name in ("a trace", "-t", "--help", "a trace.gz", "-t.gz", "-a trace.xz", "-a.zst"):
+        for name in ("a trace", "-t", "--help", "--decimal", "a trace.gz", "-t.gz", "-a trace.xz",
+                     "-a.zst"):
             packer = packers.get(pathlib.Path(name).suffix)
             packed = self.run_command(packer, "-c", stdin=text).stdout if packer else text
             self.write(name, packed)
@@ -377,7 +380,8 @@ class Faults(ToDin):
         self.faulty("valgrind", "to-din: valgrind is no format", see, status=2)
         for name in ("missing", "missing.gz"):
             self.faulty(f"pin {name}", f"{name} can't be read")
-        self.faulty("pin .", "line 1: read failed: Is a directory")
+        for form, unit in ("pin", "line"), ("champsim", "record"):
+            self.faulty(f"{form} .", f"{unit} 1: read failed: Is a directory")
         told = re.findall(r"(?m)^  ([a-z0-9]+) {2,}", self.good(self.run_tool("to-din", "--help")))
         formats = re.findall(r'(?m)^    \{"(\w+)"', (TOOLS / "lib/to-din.c").read_text())
         self.assertEqual(sorted(told), formats)

@@ -72,10 +72,15 @@ class Parts(TraceTest):
             self.fault(ran, 125, f"{name} was never called, or only inlined")
 
     def test_a_map(self):
-        """It is that of the whole run, with the stack."""
+        """It is that of the whole run, with the stack, and all that is loaded of the program."""
         program = program_of(TRACED / "parts.c", "-fpie", "-pie")
         self.traced_to_file("--map", "map", program)
         whole = (self.folder / "map").read_text()
+        loaded = re.findall(rf"(?m)^(\w+)-(\w+) .* {re.escape(str(program))}$", whole)
+        loaded = [(int(start, 16), int(end, 16)) for start, end in loaded]
+        for name in ("main", "inside"):
+            place = self.place(program, name, loaded[0][0])
+            self.assertTrue(any(start <= place < end for start, end in loaded), whole)
         part = ("--from", "enter", "--to", "leave")
         for kind in "udi":
             lines, _ = self.traced_to_file("--map", "part", "--kind", kind, *part, program)

@@ -122,10 +122,11 @@ class Both:
         self.all_numbers_are_there()
 
     def test_an_interrupt_at_the_terminal(self):
+        """It comes to the program once."""
         terminal, end = pty.openpty()
         given = {"stdin": end, "stdout": end, "stderr": end,
                  "preexec_fn": lambda: fcntl.ioctl(0, termios.TIOCSCTTY, 0)}
-        started = self.begin(traced("ends"), "spin", **given)
+        started = self.begin(traced("ends"), "interrupt", **given)
         os.close(end)
         self.assertEqual(os.read(terminal, 100), b"spins\r\n")
         os.write(terminal, b"\x03")
@@ -142,7 +143,7 @@ class Both:
     def test_scripts(self):
         (self.folder / "bin").mkdir()
         env = {"PATH": f"{self.folder}/bin:{os.environ['PATH']}"}
-        for called, first in (("bin/plain", "#!/bin/sh"), ("-o ption", "#! /bin/sh -e"),
+        for called, first in (("bin/plain", "#!/bin/sh"), ("-o ption", "#! /bin/sh -e "),
                               ("by env", "#!/usr/bin/env sh")):
             script = self.folder / "bin" / called.removeprefix("bin/")
             script.write_text(f'{first}\necho "$0" "$#" "$@"; false; exit 4\n')

@@ -29,6 +29,7 @@ static void *in_a_thread(void *none) {
 
 int main(int count, char **words) {
     const char *way = count > 1 ? words[1] : "";
+    void *(*volatile by_pointer)(int) = f;
     pthread_t other;
     outside[0] = 1;
     if (!strcmp(way, "thread"))
@@ -38,7 +39,7 @@ int main(int count, char **words) {
     if (!strcmp(way, "never")) return 0;
     for (int i = 0; i < 2; i++) {
         outside[1] = 1;
-        f(i);
+        i ? by_pointer(i) : f(i);
         outside[5] = 1;
     }
     outer(2);

@@ -9,6 +9,19 @@
 
 volatile unsigned numbers[10007];
 
+static volatile sig_atomic_t interrupts;
+
+static void on_interrupt(int number) { interrupts += number == SIGINT; }
+
+// Ends with 129 and how many interrupts come within some time after the first one.
+static void count_interrupts(void) {
+    signal(SIGINT, on_interrupt);
+    puts("spins"), fflush(stdout);
+    while (!interrupts) usleep(1000);
+    usleep(300000);
+    exit(129 + interrupts);
+}
+
 static void *end_all(void *status) {
     syscall(SYS_exit_group, *(int *)status);
     return 0;
@@ -28,6 +41,7 @@ static void end(const char *way) {
     if (!strcmp(way, "kill")) kill(getpid(), SIGKILL);
     if (!strcmp(way, "exec")) execl("/bin/sh", "sh", "-c", "exit 7", (char *)0);
     if (!strcmp(way, "spin") && write(1, "spins\n", 6)) for (;;) status++;
+    if (!strcmp(way, "interrupt")) count_interrupts();
     if (!strcmp(way, "last")) syscall(SYS_exit, status);  // this thread, which is the last
     if (!strcmp(way, "beside")) pthread_create(&thread, 0, wait_for_ever, 0);
     if (!strcmp(way, "thread")) {

@@ -48,6 +48,8 @@ void qemu_plugin_register_atexit_cb(uint64_t id, ended *call, void *word)
 {
     (void)id, (void)word, on_end = call;
 }
+void qemu_plugin_register_vcpu_syscall_ret_cb(uint64_t id, void *call) { (void)id, (void)call; }
+char *qemu_plugin_insn_disas(const void *instruction) { return (void)instruction, NULL; }
 size_t qemu_plugin_tb_n_insns(const void *block) { return block != NULL; }
 void *qemu_plugin_tb_get_insn(void *block, size_t at) { return at ? NULL : block; }
 uint64_t qemu_plugin_insn_vaddr(const void *instruction) { return instruction ? address : 0; }

@@ -58,10 +58,12 @@ class Class:
         numbers = LAST.search(text)
         if numbers:
             return Judgement(text, *map(int, numbers.groups()), "")
-        if process.returncode != 2 and not self.is_stopped:
-            self.faults.append(f"{program}: grade ended with status {process.returncode}")
-        message = message.strip().removeprefix("grade: ").replace(f"{program}: ", "csim: ")
-        return Judgement(text, 0, 0, 0, message or "not judged")
+        message, ended = message.strip().removeprefix("grade: "), process.returncode
+        is_of_program = ended == 2 and message.startswith(f"{program}: ")
+        if not is_of_program and not self.is_stopped:
+            fault = message if ended == 2 else f"grade ended with status {ended}"
+            self.faults.append(f"{program}: {fault}")
+        return Judgement(text, 0, 0, 0, message.replace(f"{program}: ", "csim: ") or "not judged")
 
     def student(self, folder):
         """The judgement on a student; its text is kept in the folder."""

@@ -44,7 +44,8 @@ def reference(cachesim, case, *flags, output=subprocess.PIPE):
         ran = subprocess.run(command, stdin=trace, **given)
     if ran.returncode:
         message = ran.stderr.decode(errors="replace").strip().removeprefix("cachesim: ")
-        tool.fail(f"{case}: {message}")
+        ended = f"cachesim {student.status_in_words(ran.returncode)}"
+        tool.fail(f"{case}: {message or ended}")
     return ran.stdout
 
 

@@ -252,7 +252,18 @@ def temporary_folder(**given):
         try:
             folder.cleanup()
         except OSError:
-            shutil.rmtree(folder.name, ignore_errors=True)
+            remove(folder.name)
+
+
+def remove(folder):
+    """Removes a folder, as far as that can be done, by a descriptor at a time: shutil has more for
+    each level, and there may be none."""
+    for place, folders, files in os.walk(folder, topdown=False):
+        for path in (os.path.join(place, name) for name in [*folders, *files]):
+            with contextlib.suppress(OSError):
+                (os.rmdir if os.path.isdir(path) and not os.path.islink(path) else os.unlink)(path)
+    with contextlib.suppress(OSError):
+        os.rmdir(folder)
 
 
 def in_private_folder(work):

@@ -119,14 +119,18 @@ def compiled(source, folder):
     """The program that calls the functions. A cachelab.h beside the source comes first."""
     (folder / "cachelab.h").write_text(HEADER)
     (folder / "driver.c").write_text(DRIVER)
-    compiler = shlex.split(os.environ.get("CC") or "cc")
+    compiler = shlex.split(os.environ.get("CC", ""))
+    if not compiler:
+        tool.needs("cc", "gcc")
+        compiler = ["cc"]
     command = [*compiler, "-g", "-O0", "-std=gnu99", "-idirafter", folder, "-o", folder / "driver"]
     command += ["-x", "c", folder / "driver.c", os.path.join(".", source)]
     with tool.faults_of(compiler[0]):
         ran = subprocess.run(command, stderr=subprocess.PIPE, check=False)
     if ran.returncode:
         sys.stderr.write(ran.stderr.decode(errors="replace"))
-        tool.fail(f"{source} can't be compiled")
+        ended = f": {compiler[0]} {status_in_words(ran.returncode)}" * (ran.returncode < 0)
+        tool.fail(f"{source} can't be compiled{ended}")
     return folder / "driver"
 
 
@@ -220,7 +224,8 @@ def counted(result, cachesim):
     ran = subprocess.run([cachesim, "log", *CACHE], input=b"".join(result.lines),
                          capture_output=True, check=False)
     if ran.returncode:
-        tool.fail(ran.stderr.decode(errors="replace").strip())
+        message = ran.stderr.decode(errors="replace").strip()
+        tool.fail(message or f"cachesim {status_in_words(ran.returncode)}")
     for found in map(LOGGED.match, ran.stdout.decode().splitlines()):
         if found:
             own = counts[array_of(int(found[1], 16))]
