@@ -91,7 +91,8 @@ class Students(StudentTest):
         traces.write(self.folder)
 
     def grade(self, *arguments):
-        return self.run_tool("lab/grade", *arguments).stdout.decode()
+        """What the tool says. All mistakes are tried on a trace of 70,000 lines: a minute, alone."""
+        return self.run_tool("lab/grade", *arguments, seconds=600).stdout.decode()
 
     def test_each_is_told(self):
         """By its reason, or else by the place."""

@@ -211,7 +211,8 @@ class StandIn(TraceTest):
         self.assertEqual(ran.stdout, last + b"124 0\n")
 
     def test_signals_are_passed_on(self):
-        for number in (signal.SIGTERM, signal.SIGINT, signal.SIGHUP, signal.SIGUSR1):
+        for number in (signal.SIGTERM, signal.SIGINT, signal.SIGHUP, signal.SIGQUIT, signal.SIGUSR1,
+                       signal.SIGUSR2):
             started = self.begin("many:9000", "call", "say:begun", "wait")
             started.send_signal(number)
             self.assertEqual(started.wait(60), 128 + number)
