@@ -91,7 +91,7 @@ class Students(StudentTest):
         traces.write(self.folder)
 
     def grade(self, *arguments):
-        """What the tool says. All mistakes are tried on a trace of 70,000 lines: a minute, alone."""
+        """What the tool says. To try all mistakes on a trace of 70,000 lines takes a minute."""
         return self.run_tool("lab/grade", *arguments, seconds=600).stdout.decode()
 
     def test_each_is_told(self):
