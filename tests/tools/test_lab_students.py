@@ -1,11 +1,15 @@
 """Students' programs with one mistake each, judged in the one case that must find it, and what
 `grade` says of it; and the traces by which it judges."""
 
+import importlib
+import itertools
 import re
 import shlex
 
 from base import EXAMPLES
 from lab_base import LAB, StudentTest, traces
+
+mistakes, simulator = map(importlib.import_module, ("parts.mistakes", "parts.simulator"))
 
 # By mistake of student.c: a trace, a cache, and why; where grade can't know, the line that is told.
 # In wide.trace four bases differ in bits 40 to 46 and 48 to 63: with more bits than are told they
@@ -91,7 +95,7 @@ class Students(StudentTest):
         traces.write(self.folder)
 
     def grade(self, *arguments):
-        """What the tool says. To try all mistakes on a trace of 70,000 lines takes a minute."""
+        """What the tool says. On a trace of 70,000 lines this may take a third of a minute."""
         return self.run_tool("lab/grade", *arguments, seconds=600).stdout.decode()
 
     def test_each_is_told(self):
@@ -124,6 +128,22 @@ class Students(StudentTest):
         ):
             said = self.grade(*caches, "--verbose-lines=no", self.student(*mistakes), "mixed.trace")
             self.assertRegex(said, f"\nwhy: all results .*{re.escape(words)}", mistakes)
+
+    def test_which_need_not_be_counted(self):
+        """Mistakes with which each access counts as a hit or a miss, and nothing else does. They
+        are most."""
+        known = [*mistakes.MISTAKES.values(), *mistakes.RARE.values(),
+                 *({habit: each.usual[0]} for habit, each in mistakes.NUMBERED.items())]
+        all_taken = [made for made in (simulator.Habits(**habits) for habits in known)
+                     if simulator.takes_all(made)]
+        self.assertGreater(4 * len(all_taken), 3 * len(known))
+        for name in ("mixed", "order", "wide"):
+            lines = simulator.read(self.folder / f"{name}.trace")
+            data = "".join(one.kind for one in lines)
+            self.assertEqual(simulator.accesses_in(lines), sum(map(data.count, "LSMM")))
+            for made, cache in itertools.product(all_taken, ((0, 1, 0), (2, 4, 3), (4, 9, 4))):
+                found = simulator.counts(lines, cache, made)
+                self.assertEqual(sum(found[:2]), simulator.accesses_in(lines), made)
 
     def test_where_an_unknown_mistake_is(self):
         """In all cases together. Reading that ends at a fetch leaves what stands before it."""

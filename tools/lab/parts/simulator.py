@@ -50,6 +50,10 @@ RIGHT = dict(
 )
 
 
+# the habits by which other accesses count, or otherwise
+OF_ACCESSES = "kinds", "stores", "crosses", "kept", "taken", "report"
+
+
 class Habits(collections.namedtuple("Habits", RIGHT, defaults=RIGHT.values())):
     """How a simulator works. As it stands it is right."""
 
@@ -225,6 +229,17 @@ def taken(accesses, habits):
         accesses = [one for one in accesses
                     if 5 + len(one.digits) + len(str(one.size)) <= habits.kept]
     return habits.taken(accesses)
+
+
+def accesses_in(lines):
+    """How many accesses a right simulator makes of the lines of a trace."""
+    return sum({"I": 0, "M": 2}.get(one.kind, 1) for one in lines)
+
+
+def takes_all(habits):
+    """Whether a simulator with these habits counts each access that a right one makes, and no
+    other, as a hit or as a miss."""
+    return all(getattr(habits, name) == RIGHT[name] for name in OF_ACCESSES)
 
 
 def counts(accesses, cache, habits):
