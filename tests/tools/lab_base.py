@@ -25,15 +25,23 @@ def adopt_orphans(is_wanted):
     ctypes.CDLL(None).prctl(PR_SET_CHILD_SUBREAPER, is_wanted, 0, 0, 0)
 
 
+def children(process):
+    """The processes that one has started, if it is still there."""
+    with contextlib.suppress(OSError):
+        lists = pathlib.Path(f"/proc/{process}/task").glob("*/children")
+        return [number for path in lists for number in path.read_text().split()]
+    return []
+
+
 def running(by="self"):
     """The processes that this one has started, and theirs, which it adopts; no other is looked at.
     One that has ended is none, though nobody waits for it."""
     found = []
-    for path in pathlib.Path(f"/proc/{by}/task").glob("*/children"):
-        with contextlib.suppress(OSError):  # one may end meanwhile
-            for number in path.read_text().split():
-                state = pathlib.Path(f"/proc/{number}/stat").read_text().rpartition(")")[2].split()
-                found += [number] * (state[0] != "Z") + running(number)
+    for number in children(by):
+        with contextlib.suppress(OSError):  # it may end meanwhile
+            state = pathlib.Path(f"/proc/{number}/stat").read_text().rpartition(")")[2].split()
+            found += [number] * (state[0] != "Z")
+        found += running(number)
     return found
 
 

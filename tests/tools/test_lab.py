@@ -5,6 +5,7 @@ import re
 import shutil
 import signal
 import subprocess
+import sys
 import time
 
 from base import EXAMPLES, PROGRAM, TOP, catches, ended, needs
@@ -138,6 +139,22 @@ class Grade(StudentTest):
         for _ in range(10):
             self.says(self.grade(self.student("STOPS_GRADE"), "yi.trace"), "", 143)
             self.assertTrue(comes(lambda: not running()))
+
+    def test_a_signal_just_before_a_wait(self):
+        """Python takes note of it, and waits all the same: as of one that another thread got."""
+        lines = ("import signal, sys, threading, time",
+                 f"sys.path.insert(0, {str(LAB)!r})",
+                 "from parts.student import Limited, stop_at_signals",
+                 "def stop():",
+                 "    time.sleep(0.3)",
+                 "    signal.pthread_kill(threading.get_ident(), signal.SIGTERM)",
+                 "stop_at_signals()",
+                 "with Limited(['sleep', '60'], 1 << 26, 50) as run:",
+                 "    threading.Thread(target=stop).start()",
+                 "    run.status()")
+        ran = self.run_command(sys.executable, "-B", "-c", "\n".join(lines), seconds=40)
+        self.ends(ran, 143, "")
+        self.assertTrue(comes(lambda: not running()))
 
 
 class Trace(LabTest):

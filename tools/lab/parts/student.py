@@ -9,6 +9,7 @@ import signal
 import subprocess
 import sys
 import tempfile
+import time
 from collections import namedtuple
 
 from lib import processes
@@ -97,17 +98,21 @@ class Limited:
         with contextlib.suppress(ProcessLookupError):
             os.killpg(self.process.pid, signal.SIGKILL)
 
-    def late(self, *_):
-        self.is_late = True
-        self.kill()
+    def look(self, *_):
+        """Ends the run where its time is over. That this comes each second has a tool heed a signal
+        that came just before it waited."""
+        if time.monotonic() >= self.until:
+            self.is_late = True
+            self.kill()
 
     def __enter__(self):
         processes.adopt_orphans()
-        signal.signal(signal.SIGALRM, self.late)
+        signal.signal(signal.SIGALRM, self.look)
         put_off_stops()  # else a signal could come before the process is known
         self.process = subprocess.Popen(self.command, **self.given, start_new_session=True,
                                         preexec_fn=self.bound)
-        signal.setitimer(signal.ITIMER_REAL, self.seconds)
+        self.until = time.monotonic() + self.seconds
+        signal.setitimer(signal.ITIMER_REAL, self.seconds % 1 or 1, 1)
         try:
             heed_stops()
         except BaseException:
