@@ -8,6 +8,7 @@ import shutil
 import signal
 import struct
 import subprocess
+import sys
 import termios
 import time
 import unittest
@@ -142,6 +143,14 @@ class Signals(Shared):
                 got = *running.communicate(b"", 20), running.returncode
                 self.assertEqual(got, (mark_of(tool), b"", -signal.SIGTERM), tool)
             self.assertEqual(list(self.folder.iterdir()), [], tool)
+
+    def test_a_signal_as_signals_are_put_off(self):
+        """It ends the tool as a signal does, and not by a status."""
+        lines = ("import sys", f"sys.path.insert(0, {str(TOOLS)!r})", "from lib import signals",
+                 "with signals.ends_by_signal():", "    signals.put_off_stops()",
+                 "    signals.stop(15, None)")
+        ran = self.run_command(sys.executable, "-B", "-c", "\n".join(lines))
+        self.assertEqual((ran.returncode, ran.stdout, ran.stderr), (-15, b"", b""))
 
     def started(self, tool, stdin):
         """A tool over standard input, whose folder for temporary files is that of this test."""

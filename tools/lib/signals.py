@@ -45,6 +45,7 @@ def ends_by_signal():
     try:
         yield
     except Stopped as end:
+        heed_stops()  # it may have come as they were put off
         signal.signal(end.code - 128, signal.SIG_DFL)
         os.kill(os.getpid(), end.code - 128)
         sys.exit(end.code)
