@@ -144,13 +144,16 @@ class Signals(Shared):
                 self.assertEqual(got, (mark_of(tool), b"", -signal.SIGTERM), tool)
             self.assertEqual(list(self.folder.iterdir()), [], tool)
 
-    def test_a_signal_as_signals_are_put_off(self):
-        """It ends the tool as a signal does, and not by a status."""
-        lines = ("import sys", f"sys.path.insert(0, {str(TOOLS)!r})", "from lib import signals",
-                 "with signals.ends_by_signal():", "    signals.put_off_stops()",
-                 "    signals.stop(15, None)")
-        ran = self.run_command(sys.executable, "-B", "-c", "\n".join(lines))
-        self.assertEqual((ran.returncode, ran.stdout, ran.stderr), (-15, b"", b""))
+    def test_a_signal_at_an_odd_moment(self):
+        """As signals are put off, and as a class is made: it ends the tool as a signal does, and
+        not by a status or a fault."""
+        for moment in ("    signals.put_off_stops(); signals.stop(15, None)",
+                       "    type('Made', (), {'it': Sets()})"):
+            lines = ("import sys", f"sys.path.insert(0, {str(TOOLS)!r})", "from lib import signals",
+                     "class Sets:", "    def __set_name__(self, *_): signals.stop(15, None)",
+                     "with signals.ends_by_signal():", moment)
+            ran = self.run_command(sys.executable, "-B", "-c", "\n".join(lines))
+            self.assertEqual((ran.returncode, ran.stdout, ran.stderr), (-15, b"", b""), moment)
 
     def started(self, tool, stdin):
         """A tool over standard input, whose folder for temporary files is that of this test."""
