@@ -26,8 +26,8 @@ class Run(collections.namedtuple("Run", "name accesses cache got is_right highes
     highest address, and how many digits the longest one has."""
 
     def is_of(self, habits):
-        """Whether its numbers are those of a simulator with these habits. A long trace is counted
-        only where these may make as many accesses: else that takes most of a grading."""
+        """Whether its numbers are those of a simulator with these habits. None is run where they
+        can't make as many accesses: on a long trace that takes a third of a second."""
         made = Habits(**habits)
         if takes_all(made) and sum(self.got[:2]) != accesses_in(self.accesses):
             return False
@@ -196,7 +196,7 @@ def ended_early(runs):
     ends = {}
     for run in runs:
         accesses, count = beginning(run)
-        if count < sum(1 + (one.kind == "M") for one in run.accesses if one.kind != "I"):
+        if count < accesses_in(run.accesses):
             ends.setdefault(run.name, set()).add(count)
         if counts(accesses, run.cache, Habits()) != run.got:
             return ""

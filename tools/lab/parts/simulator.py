@@ -50,7 +50,7 @@ RIGHT = dict(
 )
 
 
-# the habits by which other accesses count, or otherwise
+# the habits that change which accesses count, or what is told of the counts
 OF_ACCESSES = "kinds", "stores", "crosses", "kept", "taken", "report"
 
 
