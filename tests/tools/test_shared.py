@@ -155,6 +155,29 @@ class Signals(Shared):
             ran = self.run_command(sys.executable, "-B", "-c", "\n".join(lines))
             self.assertEqual((ran.returncode, ran.stdout, ran.stderr), (-15, b"", b""), moment)
 
+    def test_a_signal_just_before_a_wait(self):
+        """Python takes note of it, and waits all the same: as of one that another thread got."""
+        lines = ("import signal, sys, threading, time", f"sys.path.insert(0, {str(TOOLS)!r})",
+                 "from lib import processes, signals",
+                 "def stop():",
+                 "    time.sleep(0.3)",
+                 "    signal.pthread_kill(threading.get_ident(), signal.SIGTERM)",
+                 "with signals.ends_by_signal(), processes.Group() as group:",
+                 "    threading.Thread(target=stop).start()",
+                 "    group.start(processes.Helper, ['sleep', '60']).wait()")
+        ran = self.run_command(sys.executable, "-B", "-c", "\n".join(lines), seconds=40,
+                               env={"TMPDIR": str(self.folder)})
+        self.ends(ran, -signal.SIGTERM, "")
+        self.assertTrue(comes(lambda: not self.waiting()))
+
+    def test_a_slow_end(self):
+        """What looks each second does not end the tool as Python ends."""
+        lines = ("import sys, time", f"sys.path.insert(0, {str(TOOLS)!r})",
+                 "from lib import signals",
+                 "class Slow:", "    def __del__(self, sleep=time.sleep): sleep(1.5)",
+                 "signals.stop_at_signals()", "slow = Slow()")
+        self.ends(self.run_command(sys.executable, "-B", "-c", "\n".join(lines)), 0, "")
+
     def started(self, tool, stdin):
         """A tool over standard input, whose folder for temporary files is that of this test."""
         given = {"stdout": subprocess.PIPE, "stderr": subprocess.PIPE, "start_new_session": True,
@@ -204,6 +227,7 @@ class PackedTraces(Shared):
         self.write("t.din", LINES)
         packages = {"gz": "gzip", "zst": "zstd", "xz": "xz-utils"}
         for tool in JOINING:
+            self.read_by(tool, "t.din")  # a tool's C part is compiled at its first use
             self.good(self.read_by(tool, "t.din", env={"PATH": "/none"}))
             for suffix, package in packages.items():
                 self.write(f"t.{suffix}", b"")

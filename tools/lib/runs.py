@@ -4,11 +4,11 @@ references: a pipe is read once and handed to all, and a file must not change me
 import contextlib
 import os
 import select
-import signal
 import stat
 
 from lib import tool
 from lib.processes import Fault, Group, Process, is_packed, uninterrupted, widen
+from lib.signals import look_each_second
 
 PIECE = 1 << 18  # the bytes that are read at once
 ROOM = 1 << 20  # the bytes that may wait for a run, so that it may fall behind for a while
@@ -159,12 +159,11 @@ def progress_of(runs):
     if not os.isatty(2):
         yield
         return
-    signal.signal(signal.SIGALRM, runs.tell)
-    signal.setitimer(signal.ITIMER_REAL, 1, 1)
+    look_each_second(runs.tell)
     try:
         yield
     finally:
-        signal.setitimer(signal.ITIMER_REAL, 0)
+        look_each_second()
         show("")
 
 

@@ -1,5 +1,6 @@
 """The signals that end a tool which has something to end or remove then."""
 
+import atexit
 import contextlib
 import os
 import signal
@@ -10,6 +11,10 @@ from lib import is_output_read, tool
 
 STOPS = (signal.SIGHUP, signal.SIGINT, signal.SIGTERM)
 LAST = 1 << 13  # the bytes that a last line may take the place of
+
+
+# at its end Python takes back what it calls at signals
+atexit.register(signal.setitimer, signal.ITIMER_REAL, 0)
 
 
 class Stopped(SystemExit):
@@ -32,11 +37,20 @@ def stop(number, _):
     raise Stopped(128 + number)
 
 
+def look_each_second(look=lambda *_: None, first=1):
+    """Calls `look` each second, in place of what was called before. Python only takes note of a
+    signal that comes just before a wait, and heeds it when the wait is interrupted: by this."""
+    signal.signal(signal.SIGALRM, look)
+    signal.setitimer(signal.ITIMER_REAL, first, 1)
+
+
 def stop_at_signals():
     """Has them end the tool so, but for those that it was started to ignore."""
     for number in STOPS:
         if signal.getsignal(number) != signal.SIG_IGN:
             signal.signal(number, stop)
+    if signal.getsignal(signal.SIGALRM) == signal.SIG_DFL:
+        look_each_second()
 
 
 @contextlib.contextmanager

@@ -13,7 +13,7 @@ import time
 from collections import namedtuple
 
 from lib import processes
-from lib.signals import heed_stops, put_off_stops, stop_at_signals
+from lib.signals import heed_stops, look_each_second, put_off_stops, stop_at_signals
 from parts import tool
 
 LEAST_LIMIT = 64 << 20
@@ -99,20 +99,18 @@ class Limited:
             os.killpg(self.process.pid, signal.SIGKILL)
 
     def look(self, *_):
-        """Ends the run where its time is over. That this comes each second has a tool heed a signal
-        that came just before it waited."""
+        """Ends the run where its time is over."""
         if time.monotonic() >= self.until:
             self.is_late = True
             self.kill()
 
     def __enter__(self):
         processes.adopt_orphans()
-        signal.signal(signal.SIGALRM, self.look)
         put_off_stops()  # else a signal could come before the process is known
         self.process = subprocess.Popen(self.command, **self.given, start_new_session=True,
                                         preexec_fn=self.bound)
         self.until = time.monotonic() + self.seconds
-        signal.setitimer(signal.ITIMER_REAL, self.seconds % 1 or 1, 1)
+        look_each_second(self.look, self.seconds % 1 or 1)
         try:
             heed_stops()
         except BaseException:
@@ -121,7 +119,7 @@ class Limited:
         return self
 
     def __exit__(self, *_):
-        signal.setitimer(signal.ITIMER_REAL, 0)
+        look_each_second()
         self.kill()
         self.process.wait()
         if self.process.stdout:
