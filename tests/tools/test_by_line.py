@@ -357,6 +357,7 @@ class Faults(ByLineTest):
             ("--at", 2, "--at is no option, or wants a value"),
             ("--at l2-u", 2, "there is no cache l2-u"),
             ("--at x", 2, "'x' is no cache"),
+            ("--cache x", 2, "'x' is no cache"),
             ("--by lines", 2, by),
             ("--base 10", 2, "--base is for a --program"),
             ("--map m --program p", 2, "--map leaves nothing to --program and --base"),

@@ -117,6 +117,33 @@ class Objects(Hand):
             rows = self.by_object(reads(places), *ONE_LINE)
             self.assertEqual(self.references(rows), {"(stack)": 3, "(heap)": 3}, places)
 
+    def test_nothing_known(self):
+        """A warning tells why, where a program was named."""
+        self.write("map", MAP)
+        no_fetch = "by-line: the trace has no fetches, so that no function is known: "
+        no_program = "by-line: no fetch is in a program that was named: "
+        for text, told in ((b"0 10\n", no_fetch), (b"2 10\n0 10\n", no_program)):
+            for options, wanted in ((["--map", "map"], told), ([], "\\Z"),
+                                    (["--map", "map", "--by", "object"], "\\Z")):
+                ran = self.run_tool("by-line", "-", *options, *ONE_LINE, stdin=text)
+                self.assertEqual(ran.returncode, 0)
+                self.assertRegex(ran.stderr.decode(), rf"\A{wanted}")
+
+    def test_a_second_level(self):
+        """What it reads for a reference is of that one's object; a copy-back is of the object where
+        its block begins. Here the stack begins in the middle of a block."""
+        self.write("map", MAP.replace("1000-", "1010-"))
+        levels = *cache(32, 32), *cache(128, 32, "-l2-uassoc", "4", place="l2-u"), "--at", "l2-u"
+        text = b"0 1010\n1 1008\n0 2000\n0 1018\n"
+        for options, *wanted in (
+            ([], ("(stack)", 2, 1), ("(heap)", 2, 1)),
+            (["-l1-dwback", "n"], ("(stack)", 2, 1), ("(heap)", 2, 1)),
+            (["-l1-dwback", "n", "-l1-dwalloc", "n"], ("(stack)", 2, 1), ("(heap)", 2, 1)),
+        ):
+            rows = self.rows("-", "--map", "map", "--by", "object", *levels, *options, stdin=text)
+            found = self.values(rows, "object", "references", "misses")
+            self.assertEqual(sorted(found), sorted(wanted), options)
+
     def test_the_stack_without_a_map(self):
         """Where Valgrind and Linux have it; other threads have theirs among the libraries."""
         stack, heap = (0x1FFF000520, 0x7FFD3A2B1C40, 0x7FFFFFFFE000), (0x7F5C12345678, 0x4A1F040)

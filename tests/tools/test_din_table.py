@@ -168,6 +168,8 @@ class Values(DinTableTest):
             ("-l1-usize 64 -l1-ubsize 16 -t x", "leave out -t"),
             ("-informat d,l -l1-usize 64 -l1-ubsize 16", "a trace has one format"),
             ("-l1-usize 16 -l1-ubsize 32", "no cache has such a geometry\n"),
+            ("-l1-usize 4k -l1-ubsize 32 -l1-uassoc 4 -l2-usize 64k -l2-ubsize 32 -l2-uassoc 10,12",
+             "no cache has such a geometry; give -l2-usets in place of -l2-usize\n"),
             ("-l1-usize 48 -l1-ubsize 16", "cachesim: -l1-usize: bad value\n"),
             ("-l1-usize 64-128 -l1-ubsize 16 -l1-urepl l,x", "cachesim: -l1-urepl: bad value\n"),
             ("-l1-usize 64-128 -l2-ubsize 16", "cachesim: l1-u: size and bsize are needed\n"),

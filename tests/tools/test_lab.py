@@ -109,12 +109,14 @@ class Grade(StudentTest):
     def test_nothing_to_judge(self):
         self.write("bad.trace", " L 10,1\n X 10,1\n")
         self.write("text", "no program\n").chmod(0o755)
+        self.write("csim.c", "int main(void) { }\n")
         one = [self.student(), "yi.trace"]
         for arguments, message in (
             (["absent", "yi.trace"], "absent: no such file\n"),
             (["private", "yi.trace"], "private: no such file\n"),
             (["yi.trace", "yi.trace"], f"{self.folder}/yi.trace: Permission denied\n"),
             (["text", "yi.trace"], f"{self.folder}/text: Exec format error\n"),
+            (["csim.c"], "csim.c is no program: compile it first\n"),
             ([*one, "absent"], "absent: no such file\n"),
             ([*one, "bad.trace"], "-s 1 -E 1 -b 1 -t bad.trace: line 2: bad label\n"),
             (["--geometry", "21,1,1", *one], "-s 21 -E 1 -b 1 -t yi.trace: bad geometry\n"),

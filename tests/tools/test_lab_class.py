@@ -100,6 +100,15 @@ class GradeClass(ClassTest):
             self.assertEqual(list(rows[name].values()), [name, "0", "6", "0", *["0"] * 6, reason])
             self.assertEqual(self.text_of(name), f"{reason}\n")
 
+    def test_a_folder_of_students(self):
+        """It gets 0 points as one without a program, and a line tells what may be meant."""
+        self.enrol("ann", self.student())
+        ran = self.grade_class(*self.SHORT, "students")
+        self.assertEqual(ran.returncode, 0)
+        told = "grade-class: students has no program csim, but students/ann has: is it a student's?"
+        self.assertEqual(ran.stderr.decode(), f"{told}\n")
+        self.assertIn("\nstudents,0,6,0,", ran.stdout.decode())
+
     def test_a_program_that_hangs_costs_its_time_once(self):
         """And a second for each other trace, and for the line at which it hangs."""
         self.enrol("ann", self.student("LOOPS"))

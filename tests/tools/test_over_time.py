@@ -61,6 +61,7 @@ class OverTime(log_base.Filtering, base.ToolTest):
             (["--each=1k"], "--each must be"),
             (["--each=1", "--cache", "l1"], "--cache is l1-i, l1-d, l1-u or l2-u; "),
             (["--each=1", "--cache"], "--cache is "),
+            (["--each=1", "--at", "l1"], "--cache is "),
             (["--each=1", "--cache=l2-u"], "no option is of l2-u; "),
         ):
             ran = self.run_tool("over-time", "-", *self.CACHE, *words)

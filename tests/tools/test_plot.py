@@ -269,6 +269,8 @@ FAULTS = (
     ("word.csv -", "word.csv: line 2: l1-u-misses is no number"),
     ("--only=block din.csv -", "din.csv: a table of din has the pictures size and pareto\n"),
     ("--measure=x din.csv -", "din.csv: no column x; there are l1-usize, "),
+    ("--measure=traffic din.csv -",
+     "din.csv: no column traffic, which is for a table of a sweep; there are l1-usize, "),
     ("--across=l1-urepl din.csv -", "din.csv: no option l1-urepl with numbers; there are l1-usize, "
      "l1-ubs"),
     # of several tables

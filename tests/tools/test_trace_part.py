@@ -105,6 +105,8 @@ class Parts(TraceTest):
             self.assertEqual(lines[0], ("2", self.place(program, "_ZN4Tree4walkEi")))
         ran = self.trace("--from", "walk", program)
         self.fault(ran, 125, f"{program} has no function walk: ", "; there is Tree::walk(int)\n")
+        ran = self.trace("--from", "Tree<int>::walk", program)
+        self.fault(ran, 125, ", nor those that were inlined; there is Tree::walk(int)\n")
 
     def test_stripped_programs(self):
         """They have those that libraries use, if any, or those of a file with debug information."""

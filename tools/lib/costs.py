@@ -24,8 +24,8 @@ def add_to(parser):
     """The option that asks for the access time."""
     parser.add_argument("--miss-cost", metavar="A+B/N", type=miss_cost, help="for a table of a "
                         "sweep, compare the average memory access time (AMAT) instead of misses: 1 "
-                        "cycle, and for a miss A cycles and B for each N bytes of its block; for "
-                        "example 80+2/16, or 100 whatever the block")
+                        "cycle, and for a miss A cycles and B for each N bytes of its block, or "
+                        "without /N for each byte; for example 80+2/16, or 100 whatever the block")
 
 
 def access_time(row, cost):

@@ -15,7 +15,7 @@ It is read once. The OPTIONs are those of
 `cachesim din`, but for -t: the caches, -informat and --seed.
 --format is another name for -informat.""", "{cache}": """\
   --cache CACHE     counts what comes to l1-i, l1-d, l1-u or l2-u; without it, all that the first
-                    level takes"""}
+                    level takes. --at is another name for it, as in by-line"""}
 
 
 def asked(own=None, value=None):
@@ -29,6 +29,7 @@ def asked(own=None, value=None):
     while left:
         word = left.pop(0)
         name, equals, text = word.partition("=")
+        name = "--cache" if name == "--at" and own else name
         if word.startswith("-t"):
             tool.misused("the trace is the first argument, and not given by -t")
         elif name == "--format":

@@ -82,7 +82,8 @@ def column_of(columns, measure, name):
     if measure == "percent":
         raise BadTable(f"{name}: percent is no count: name the column that it is of")
     if measure not in columns:
-        raise BadTable(f"{name}: no column {measure}; there are {', '.join(columns)}")
+        only = ", which is for a table of a sweep" * (measure == "traffic")
+        raise BadTable(f"{name}: no column {measure}{only}; there are {', '.join(columns)}")
     return columns.index(measure)
 
 

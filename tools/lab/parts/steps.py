@@ -16,7 +16,7 @@ ENTRIES = {
     "d": {"0": ["read"], "1": ["write"], "2": ["fetch"], "4": ["flush"]},
     "l": {"L": ["L"], "S": ["S"], "M": ["M load", "M store"], "I": ["I"]},
 }
-FORMATS = {"d": "din", "l": "lackey"}
+FORMATS = {"d": "din format, as '0 10'", "l": "lackey format, as ' L 10,4'"}
 # the label that the log has for such a step
 LABELS = {"read": "0", "L": "0", "M load": "0", "write": "1", "S": "1", "M store": "1",
           "fetch": "2", "I": "2"}
@@ -102,7 +102,7 @@ def replayed(cache, format, given):
         fail = tool.misused if running.code == tool.MISUSED else tool.fail
         message = running.told.removeprefix("cachesim: ")
         if message.endswith("bad label"):
-            message += f"; the trace is read in the {FORMATS[format]} format"
+            message += f"; the trace is read in the {FORMATS[format]}"
         fail(message or f"cachesim ended with status {running.code}")
     if not picture.steps:
         of = f"the cache {cache.place}" if given.set is None else f"set {cache.text(given.set)}"

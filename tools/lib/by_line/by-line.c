@@ -227,14 +227,15 @@ static const char *place;
 static unsigned shift;
 static int log_count;
 
-static void take_arrival(bool is_full, const char *outcome, uint64_t address) {
+// Takes what arrives at the place for a reference to `wanted`.
+static void take_arrival(bool is_full, const char *outcome, uint64_t address, uint64_t wanted) {
     uint64_t evicted;
     bool misses = *outcome == 'm', is_first = false;
     if (is_full) {
         meet(true, (struct reference){address, 0, 0, misses});
         return;
     }
-    uint32_t cell = cell_at(address);
+    uint32_t cell = cell_at(wanted);
     cell_of(cell)->references++;
     if (misses) is_first = count_miss(cell, address >> shift);
     if (misses && outcome[4] == ' ') {
@@ -247,8 +248,10 @@ static void take_arrival(bool is_full, const char *outcome, uint64_t address) {
 }
 
 // Takes a line, and returns the next one. Of each reference one line, in their order, is of the
-// first level or bypasses it.
+// first level or bypasses it. What the second level reads for it has the address of a whole block;
+// what it writes, by a write-through or a copy-back, has its own.
 static const char *take_line(bool is_full, const char *line) {
+    static uint64_t wanted;  // the address of the reference
     uint64_t address;
     bool is_here = !memcmp(line, place, 4);
     bool is_first_level = !is_full && (*line == 'b' || line[1] == '1');
@@ -256,13 +259,14 @@ static const char *take_line(bool is_full, const char *line) {
     if (is_here && *at == 'f') {
         flushes += !is_full;
     } else if (is_here || (is_first_level && *at != 'f')) {
+        bool is_write = *at == '1';
         at = past_hexadecimal(at + 2, &address) + 1;
         if (is_first_level) {
             struct reference one = popped(&handed, address);
-            counter = one.number;
+            counter = one.number, wanted = address;
             apply_up_to(one.events);
         }
-        if (is_here) take_arrival(is_full, at, address);
+        if (is_here) take_arrival(is_full, at, address, is_write ? address : wanted);
     }
     return (const char *)rawmemchr(at - 1, '\n') + 1;
 }

@@ -52,6 +52,9 @@ class Code(collections.namedtuple("Code", "function lines")):
     inlined there."""
 
 
+NOWHERE = Code(Function("?"), [Line()])
+
+
 @functools.cache
 def segments_of(path):
     """Of each loaded segment of an ELF file its offset, its address and its size in memory."""
@@ -263,5 +266,4 @@ class Layout:
             own = [address for address in addresses if address not in found and file.has(address)]
             if own:
                 found.update(file.code(own))
-        nowhere = Code(Function("?"), [Line()])
-        return {address: found.get(address, nowhere) for address in addresses}
+        return {address: found.get(address, NOWHERE) for address in addresses}

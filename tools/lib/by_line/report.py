@@ -196,6 +196,16 @@ def warn_of_lines(cells):
                       " the file that was compiled?")
 
 
+def warn_of_unknown(cells):
+    """Warns where nothing is known of any instruction, though a program was named."""
+    functions = {cell.code.function for cell in cells}
+    if functions == {NO_FETCH.function}:
+        tool.warn("the trace has no fetches, so that no function is known: trace without --kind d")
+    elif functions == {elf.NOWHERE.function}:
+        tool.warn("no fetch is in a program that was named: a position-independent one needs --map "
+                  "or --base")
+
+
 def lines_of(rows):
     """Rows as lines of CSV."""
     text = io.StringIO()
@@ -209,6 +219,9 @@ def report(asked, text, objects, layout, heap):
     if asked.callgrind:
         with tool.faults_of(asked.callgrind), open(asked.callgrind, "w", **elf.ANY_TEXT) as file:
             file.writelines(f"{line}\n" for line in in_callgrind_format(asked, cells))
+    is_named = (asked.program or asked.map) and not layout.unread  # of which a warning came
+    if is_named and (asked.callgrind or {"line", "function"} & {*asked.by}):
+        warn_of_unknown(cells)
     if asked.callgrind or "line" in asked.by:
         warn_of_lines(cells)
     if asked.evicted_by:

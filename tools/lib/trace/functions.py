@@ -28,7 +28,7 @@ def start_of_code(path):
 def address_of(path, name):
     """The address of a function in the program's own file, by its names or those of a file with its
     debug information."""
-    missing = "those of shared libraries can't be named"
+    missing = "those of shared libraries can't be named, nor those that were inlined"
     named, table = path, []
     if not symbols(path):
         from lib.by_line.binutils import debug_file  # few programs need it
@@ -42,7 +42,9 @@ def address_of(path, name):
         if found:
             break
     if not found:
-        near = [symbol for *_, symbol in known if name.lower() in symbol.lower()][:3]
+        words = name, name.partition("(")[0].rpartition("::")[2] or name  # with template arguments
+        near = next(filter(None, ([symbol for *_, symbol in known if word.lower() in symbol.lower()]
+                                  for word in words)), [])[:3]
         near = f"; there is {', '.join(near)}" if near else ""
         tool.fail(f"{path} has no function {name}: {missing}{near}")
     if len(found) > 1:
