@@ -279,6 +279,19 @@ class Compiling(Shared):
                 "by someone who may write there\n")
         self.assertEqual((ran.returncode, ran.stderr.decode()), (1, told))
 
+    def test_another_part_is_newer(self):
+        """make is called once, and then the part is taken as it is."""
+        copy_tools(self.folder, "to-din")
+        given = self.folder / "to-din", "addresses", EXAMPLES / "formats/addresses.txt"
+        wanted = self.good(self.run_command(*given))
+        now = time.time()
+        for path in self.folder.rglob("*"):
+            os.utime(path, (now - 200, now - 200))
+        os.utime(self.folder / "out/to-din", (now - 100, now - 100))
+        os.utime(self.folder / "lib/second-level.c", (now - 50, now - 50))
+        for env in {}, {"PATH": "/none"}:
+            self.assertEqual(self.good(self.run_command(*given, env=env)), wanted)
+
 
 class Streams(ToolTest):
     def test_help_on_a_full_device(self):

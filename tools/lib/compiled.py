@@ -1,5 +1,6 @@
 """The C parts of tools, which make compiles at their first use."""
 
+import contextlib
 import os
 import signal
 import sys
@@ -36,6 +37,8 @@ def compiled(name):
         tool.fail(f"{tool.HERE}/out can't be written: 'make tools' compiles the C parts, by "
                   "someone who may write there")
     make(f"out/{name}")
+    with contextlib.suppress(OSError):  # it is another user's
+        os.utime(binary)  # make leaves it where only sources of other parts are newer
     return binary
 
 
