@@ -110,6 +110,7 @@ class Grade(StudentTest):
         self.write("bad.trace", " L 10,1\n X 10,1\n")
         self.write("text", "no program\n").chmod(0o755)
         self.write("csim.c", "int main(void) { }\n")
+        self.write("text.c", "no program\n").chmod(0o755)
         one = [self.student(), "yi.trace"]
         for arguments, message in (
             (["absent", "yi.trace"], "absent: no such file\n"),
@@ -117,6 +118,7 @@ class Grade(StudentTest):
             (["yi.trace", "yi.trace"], f"{self.folder}/yi.trace: Permission denied\n"),
             (["text", "yi.trace"], f"{self.folder}/text: Exec format error\n"),
             (["csim.c"], "csim.c is no program: compile it first\n"),
+            (["text.c", "yi.trace"], f"{self.folder}/text.c: Exec format error\n"),
             ([*one, "absent"], "absent: no such file\n"),
             ([*one, "bad.trace"], "-s 1 -E 1 -b 1 -t bad.trace: line 2: bad label\n"),
             (["--geometry", "21,1,1", *one], "-s 21 -E 1 -b 1 -t yi.trace: bad geometry\n"),

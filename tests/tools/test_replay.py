@@ -252,7 +252,8 @@ class Faults(ReplayTest):
     def test_traces(self):
         self.refused(self.replay(*ONE_LINE, "-t", "none"), 1, "replay: cannot open none\n")
         for text, fault in ((b" L 10,1\n L x,1\n", "replay: line 2: bad address\n"),
-                            (b"0 10\n", "; the trace is read in the lackey format, as ' L 10,4'\n"),
+                            (b"0 10\n", "replay: line 1: bad label; the trace is read in the "
+                             "lackey format, as ' L 10,4'\n"),
                             (b"I  10,1\n", "no reference for the cache l1-d")):
             self.refused(self.replay(*ONE_LINE, stdin=text), 1, fault)
 

@@ -25,6 +25,11 @@ def start_of_code(path):
     return int(starts[0], 16) if starts else 0  # none is no program, which QEMU refuses
 
 
+def own_name(symbol):
+    """That of a C++ function, without its classes and parameters."""
+    return symbol.partition("(")[0].rpartition("::")[2]
+
+
 def address_of(path, name):
     """The address of a function in the program's own file, by its names or those of a file with its
     debug information."""
@@ -42,10 +47,10 @@ def address_of(path, name):
         if found:
             break
     if not found:
-        words = name, name.partition("(")[0].rpartition("::")[2] or name  # with template arguments
-        near = next(filter(None, ([symbol for *_, symbol in known if word.lower() in symbol.lower()]
-                                  for word in words)), [])[:3]
-        near = f"; there is {', '.join(near)}" if near else ""
+        near = [symbol for *_, symbol in known if name.lower() in symbol.lower()]
+        if not near:  # one with template arguments, say
+            near = [symbol for *_, symbol in known if own_name(symbol) == own_name(name)]
+        near = f"; there is {', '.join(near[:3])}" if near else ""
         tool.fail(f"{path} has no function {name}: {missing}{near}")
     if len(found) > 1:
         tool.fail(f"{path} has {len(found)} functions {name}")
