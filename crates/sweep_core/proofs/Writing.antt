@@ -1,25 +1,14 @@
--- The text of a row, and the rows of a sweep, written one after another.
-use Rattle.std.proofs.Common.{◌≡◌, ℕ, List, [], ◌∷◌, ◌++◌, refl, sym, ap, ◌∙◌, append-nil}
+-- The rows of a sweep, written one after another.
+use Rattle.std.proofs.Common.{◌≡◌, List, [], ◌∷◌, ◌++◌, refl, sym, ap, ◌∙◌, append-nil}
 use Rattle.std.proofs.Common.{append_assoc, subst}
-use Rattle.std.specs.Prelude.{decimal}
 use Rattle.std.proofs.lemmas.List.Concat.{flat_map-append}
 use Rattle.trace_core.specs.declared.events.Event.{Event}
 use Rattle.trace_core.specs.Device.{SinkView, Wrote, WrotePart}
 use Rattle.trace_core.proofs.Written.{Wrote-none, Wrote-more, WrotePart-after, WrotePart-more}
 use Rattle.cache_core.specs.declared.outcome.Counts.{Counts}
 use Rattle.sweep_core.specs.declared.space.Config.{Config}
-use Rattle.sweep_core.specs.Space.{bytes_of}
 use Rattle.sweep_core.specs.SweepText.{rows_text, csv_rows, row_of, row_counts}
 use Rattle.sweep_core.specs.Rows.{counted_rows}
-
--- the bytes of a row, as they are put together
-pub row-pieces : {l₀ l₁ l₂ l₃ l₄ l₅ l₆ l₇ : List ℕ} (c : Config) (size : ℕ) (n : Counts) →
-    size ≡ bytes_of c → l₀ ≡ []
-    → l₁ ≡ l₀ ++ decimal c.bsize ++ 44 ∷ [] → l₂ ≡ l₁ ++ decimal c.sets ++ 44 ∷ []
-    → l₃ ≡ l₂ ++ decimal c.assoc ++ 44 ∷ [] → l₄ ≡ l₃ ++ decimal size ++ 44 ∷ []
-    → l₅ ≡ l₄ ++ decimal n.hits ++ 44 ∷ [] → l₆ ≡ l₅ ++ decimal n.misses ++ 44 ∷ []
-    → l₇ ≡ l₆ ++ decimal n.evictions ++ 10 ∷ [] → l₇ ≡ row_of c n
-row-pieces c size n z y a b d e f g h = rw (h, g, f, e, d, b, a, y, z) (simp append_assoc)
 
 -- the text of rows with their counts is that of the configurations over a trace
 pub csv-counted : (es : List Event) (cs : List Config) →

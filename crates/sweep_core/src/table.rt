@@ -5,10 +5,9 @@ ghost use Rattle.trace_core.specs.Device.{Writes, WritesLast};
 ghost use Rattle.sweep_core.specs.Space.{HasSize};
 ghost use Rattle.sweep_core.specs.SweepText.{header_of, csv_rows};
 
-use crate::row_text::set_row;
+use crate::row_text::RowText;
 use crate::rows::{Pairs, Rows, SweepCounts};
 use crate::space::Config;
-use trace_core::text::Text;
 use trace_core::{DeviceFault, Sink, write_all};
 
 /// The first line of a sweep that begins at the first configuration.
@@ -55,9 +54,9 @@ fn write_pair<K: Sink>(sink: &mut K, rows: Rows) -> Result<(), DeviceFault>
     requires { AllByRecursion (λ row. HasSize row.0) rows }
     ensures { Writes (K.view sink.old) (K.view sink.new) result (csv_rows rows.entry) }
 {
-    let mut text = Text::new();
+    let mut text = RowText::new();
     for (config, counts) in rows {
-        set_row(&mut text, &config, config.bytes(), counts);
+        text.set(&config, config.bytes(), counts);
         write_all(sink, text.as_slice())?;
     }
     Ok(())

@@ -16,7 +16,7 @@ loop-config-preserved g c = (
   (rw c.in-Some.ensures.steps at c.loop-config.invariant.0).1,
   rows-more c.loop-config.invariant.1 c.in-Some.ensures.steps
       (subst (Wrote (g.K.Sink.view c.loop-config.sink) (g.K.Sink.view c.write_all.new.sink))
-      (c.as_slice.ensures ∙ c.set_row.ensures) c.in_ok-write_all.ensures),
+      (c.as_slice.ensures ∙ c.set.ensures) c.in_ok-write_all.ensures),
 )
 
 pub returns-in_err-write_all : goal.returns-in_err-write_all
@@ -24,4 +24,4 @@ returns-in_err-write_all g c =
     let p = err_from_is_err_and c.from_residual.result c.from_residual.ensures.1 in
     rw p.1 (rows-failed c.loop-config.invariant.1 c.in-Some.ensures.steps
     (subst (WrotePart (g.K.Sink.view c.loop-config.sink) (g.K.Sink.view c.write_all.new.sink))
-    (c.as_slice.ensures ∙ c.set_row.ensures) c.in_err-write_all.ensures))
+    (c.as_slice.ensures ∙ c.set.ensures) c.in_err-write_all.ensures))
