@@ -1,6 +1,7 @@
 """What tests/limits judges of the bytes that a run asks for: the formulas of the manual, and runs
 that must ask for as many as these give."""
 
+import math
 import re
 import sys
 
@@ -33,7 +34,8 @@ ALL_PAIRS = f"Sweeping all {PAIRS} pairs with one way takes {NUMBER} MB"
 BUFFERS = f"a run has two buffers of {NUMBER} KiB, and a sweep {NUMBER} KiB for references"
 CACHES = (
     f"`csim`, `din` and `log` take {NUMBER} bytes per line of a cache and {NUMBER} per set; `din` "
-    f"and `log` with {NUMBER} ways or more take {NUMBER} bytes? more per line; `csim` with more "
+    f"and `log` with {NUMBER} ways or more take, in place of that, {NUMBER} bytes per set and "
+    f"{NUMBER} for each {NUMBER} ways after the first {NUMBER}, or a part of 64; `csim` with more "
     f"than {NUMBER} ways takes, in place of {NUMBER} bytes, at most {NUMBER} bytes for each line "
     f"after the first {NUMBER} of a set, and {NUMBER} more per set"
 )
@@ -69,13 +71,14 @@ def told_of_pair(sets, ways):
 
 def told_of_cache(command, sets, ways):
     """The bytes of a cache of din, log or csim, for so many sets and lines per set."""
-    line, set_, wide, more, *far = told_by_the_manual(CACHES)
-    searched, instead, line_far, near, set_far = far
+    line, set_, wide, *others = told_by_the_manual(CACHES)
+    set_in_parts, ring, slots, first = others[:4]
+    searched, instead, line_far, near, set_far = others[4:]
     of_set = line * ways + set_
     if command == "csim" and ways > searched:
         of_set += (line_far - instead) * (ways - near) + set_far
     elif command != "csim" and ways >= wide:
-        of_set += more * ways
+        of_set = set_in_parts + ring * math.ceil((ways - first) / slots)
     return sets * of_set
 
 
@@ -149,7 +152,8 @@ def bytes_of_caches(limits, told):
     """The same of caches, of which those of csim may have long lists too."""
     for command, sets, ways, least in (
         ("din", 2**20, 1, None), ("din", 1024, 127, None), ("din", 1024, 128, None),
-        ("din", 1, WAYS, None), ("log", 1024, 127, None), ("log", 1024, 128, None),
+        ("din", 1024, 144, None), ("din", 1024, 145, None), ("din", 1, WAYS, None),
+        ("din", 64, WAYS, None), ("log", 1024, 127, None), ("log", 1024, 128, None),
         ("csim", 2**20, 1, None), ("csim", 1024, 256, None), ("csim", 1024, 257, 0.996),
         ("csim", 1, WAYS, 0.996), ("csim", 64, WAYS, 0.996),
     ):

@@ -72,14 +72,16 @@ class Manual(base.ToolTest):
         self.assertEqual(len(told), 5)
         self.assertEqual(sorted(said), sorted(told))
         caches = limits.told_by_the_manual(limits.CACHES)
-        line, set_, wide, more, searched, instead, far, near, set_far = caches
-        self.assertEqual(instead, line)
+        line, set_, wide, *rings, searched, instead, far, near, set_far = caches
+        in_parts, ring, slots, first = rings
+        self.assertEqual((instead, first), (line, near))
         text, lists = flat(f"crates/cache_core/{page}"), flat(f"crates/deep_list/{page}")
         for part in (
             f"{line:g} bytes for each line and {set_:g} for each set",
-            f"{wide:g} ways or more takes {more:g} byte more for each line",
-            f"more than {searched:g} ways takes this for {near:g} ways, at most {far:g} bytes for "
-            f"each line more, and {set_far:g} more for each set",
+            f"{wide:g} ways or more takes {in_parts:g} bytes for each set, and {ring:,.0f} for "
+            f"each {slots:g} ways after the first {first:g}, or a part of {slots:g}",
+            f"more than {searched:g} ways takes the first for {near:g} ways, at most {far:g} bytes "
+            f"for each line more, and {set_far:g} more for each set",
         ):
             self.assertIn(part, text)
         self.assertIn(f"at most {far:g} bytes per block", lists)
@@ -213,7 +215,7 @@ class Thresholds(unittest.TestCase):
             ("sweep_core", "batch.rt", "BATCH", "sweep", "references", (-1, 0, 1)),
             ("cache_core", "lru_sets.rt", "NEAR_WAYS", "csim", "ways", (0, 1)),
             ("cache_core", "lru_sets.rt", "SEARCHED_WAYS", "csim", "ways", (0, 1)),
-            ("cache_core", "fingerprints.rt", "NEAR", "din", "ways", (0, 1)),
+            ("cache_core", "far_access.rt", "NEAR", "din", "ways", (0, 1)),
             ("cache_core", "fingerprinted.rt", "FINGERPRINTED_WAYS", "din", "ways", (-1, 0)),
             ("cache_core", "fingerprinted.rt", "FINGERPRINTED_WAYS", "log", "ways", (-1, 0)),
         ):

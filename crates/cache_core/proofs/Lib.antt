@@ -9,6 +9,7 @@ pub mod Lawful
 pub mod RandomNumberLemmas
 pub mod Addresses
 pub mod Slabs
+pub mod SlabSlots
 pub mod Lines
 pub mod SetLaw
 pub mod Visits
@@ -33,9 +34,16 @@ pub mod GeometryLaw
 pub mod Counters
 pub mod SystemPushes
 pub mod BehindRows
-pub mod FingerprintsLaw
-pub mod FingerprintLemmas
-pub mod FingerprintRows
+pub mod SearchLaw
+pub mod RingLaw
+pub mod RingMarks
+pub mod FarSetLaw
+pub mod FarSetsLaw
+pub mod TwoParts
+pub mod TwoPartsLaw
+pub mod WholeSets
+pub mod WholeLaw
+pub mod WholeFlush
 pub mod FirstLevelLaw
 pub mod LowerLaw
 pub mod SystemLaw

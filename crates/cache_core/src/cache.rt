@@ -63,8 +63,7 @@ impl<P: Replacement> Cache<P> {
     {
         let block = self.sets.geometry().block_of(reference.addr);
         let at = find_block(self.sets.slots(reference), block);
-        let (outcome, _) = self.sets.access_at(reference, at);
-        outcome
+        self.sets.access_at(reference, at)
     }
 
     /// Makes an access if it finds its block in the first slot of its set and sends nothing down,

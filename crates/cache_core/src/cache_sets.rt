@@ -1,15 +1,17 @@
 //! The sets of a cache under a policy. A caller finds the index of a block in its set in its own
 //! way, and the access is made here.
 ghost use Rattle.std.specs.Prelude.{◌≡◌, ◌≤◌, ◌<◌, ◌*◌, ◌^◌, ℕ, length, IfOk, IfSome, Option, None};
-ghost use Rattle.std.specs.Prelude.{replicate, is_some};
+ghost use Rattle.std.specs.Prelude.{replicate, is_some, slice_get, slice_set, map, remove, ◌-◌};
+ghost use Rattle.std.specs.Prelude.{◌+◌, ◌∷◌, Some};
 ghost use Rattle.cache_core.specs.declared.design.Repl.{Repl};
 ghost use Rattle.cache_core.specs.Geometry.{IsGeometry, block_of, set_of};
 ghost use Rattle.cache_core.specs.internal.Order.{hit_in_front};
 ghost use Rattle.cache_core.specs.Order.{position_of, Accesses, FlushesCache, slots_of};
-ghost use Rattle.cache_core.specs.internal.Order.{DirtiesByWrites, HoldsPlaced, hits_in_front};
+ghost use Rattle.cache_core.specs.internal.Order.{DirtiesByWrites, hits_in_front};
 ghost use Rattle.cache_core.specs.internal.Slab.{IsCacheSlab, sets_of, slab_contents};
-ghost use Rattle.cache_core.specs.internal.Touched.{Covers};
+ghost use Rattle.cache_core.specs.internal.Touched.{Covers, ListsFilled};
 
+use crate::chosen_policy::ChosenPolicy;
 use crate::design::{AllocMode, Design, WriteMode};
 use crate::effects::{dirties_line, hit_outcome};
 use crate::emptying::empty_slab;
@@ -17,9 +19,11 @@ use crate::geometry::Geometry;
 use crate::one_set::{is_in_front, mark_front, visit};
 use crate::outcome::{Outcome, Slot};
 use crate::replacement::Replacement;
+use crate::to_front::bring;
 use crate::touched::TouchedSets;
 use std::alloc::{AllocError, Global};
 use std::marker::Model;
+use std::mem;
 use trace_core::Ref;
 
 /// The sets of a cache under a policy. One array has the slots of all sets, each set in a segment
@@ -90,23 +94,16 @@ impl<P: Replacement> CacheSets<P> {
         })
     }
 
-    /// Makes one access. `at` is the index of its block in its set, if the set has it. Also returns
-    /// the index at which the block was placed, if it was.
+    /// Makes one access. `at` is the index of its block in its set, if the set has it.
     #[inline(always)]
-    pub(crate) fn access_at(
-        &mut self,
-        reference: Ref,
-        at: Option<usize>,
-    ) -> (Outcome, Option<usize>)
+    pub(crate) fn access_at(&mut self, reference: Ref, at: Option<usize>) -> Outcome
         requires { at ≡ position_of (block_of self.old.design.geometry reference.addr)
             (slots_of self.old.sets (set_of self.old.design.geometry reference.addr)) }
-        ensures step { Accesses (contents_of P.policy P.words self.old) reference result.0
+        ensures step { Accesses (contents_of P.policy P.words self.old) reference result
             (contents_of P.policy P.words self.new) }
-        ensures dirty { DirtiesByWrites self.old.sets reference result.0 self.new.sets }
-        ensures victim { IfSome result.0.evicted
+        ensures dirty { DirtiesByWrites self.old.sets reference result self.new.sets }
+        ensures victim { IfSome result.evicted
             (λ slot. slot.block * 2 ^ self.old.design.geometry.b < 2 ^ 64) }
-        ensures placed { HoldsPlaced (block_of self.old.design.geometry reference.addr) result.0
-            result.1 (slots_of self.new.sets (set_of self.old.design.geometry reference.addr)) }
     {
         visit_slab(
             self.design,
@@ -138,6 +135,65 @@ impl<P: Replacement> CacheSets<P> {
         segment(self.design, &self.slots, &self.filled, reference)
     }
 
+    /// Puts a slot in front of the full set of a reference, and takes out the last one.
+    pub(crate) fn put_in_front(&mut self, reference: Ref, slot: Slot) -> Slot
+        requires full { length (slots_of self.old.sets
+            (set_of self.old.design.geometry reference.addr)) ≡ self.old.design.geometry.e }
+        requires address { slot.block * 2 ^ self.old.design.geometry.b < 2 ^ 64 }
+        ensures last { slice_get (slots_of self.old.sets
+            (set_of self.old.design.geometry reference.addr))
+            (self.old.design.geometry.e - 1) ≡ Some result }
+        ensures moved { let set = set_of self.old.design.geometry reference.addr in
+            self.new ≡ record self.old {
+              sets = slice_set self.old.sets set
+                  (slot ∷ remove (slots_of self.old.sets set) (self.old.design.geometry.e - 1));
+            } }
+        ensures address { result.block * 2 ^ self.old.design.geometry.b < 2 ^ 64 }
+    {
+        put_in_segment(self.design, &mut self.slots, &self.filled, reference, slot)
+    }
+
+    /// Exchanges the slot at an index of the set of a reference, and returns the one that was
+    /// there.
+    pub(crate) fn exchange(&mut self, reference: Ref, at: usize, slot: Slot) -> Slot
+        requires within { at < length (slots_of self.old.sets
+            (set_of self.old.design.geometry reference.addr)) }
+        requires address { slot.block * 2 ^ self.old.design.geometry.b < 2 ^ 64 }
+        ensures old { slice_get (slots_of self.old.sets
+            (set_of self.old.design.geometry reference.addr)) at ≡ Some result }
+        ensures new { let set = set_of self.old.design.geometry reference.addr in
+            self.new ≡ record self.old {
+              sets = slice_set self.old.sets set
+                  (slice_set (slots_of self.old.sets set) at slot);
+            } }
+        ensures address { result.block * 2 ^ self.old.design.geometry.b < 2 ^ 64 }
+    {
+        exchange_in_segment(
+            self.design,
+            &mut self.slots,
+            &self.filled,
+            reference,
+            at,
+            slot,
+        )
+    }
+
+    /// The sets that got a slot since the last flush, or `None` if there are too many to list.
+    pub(crate) fn listed(&self) -> Option<&[u32]>
+        ensures { IfSome result (λ sets.
+            ListsFilled sets.now (map (λ slots. length slots) self.now.sets)) }
+    {
+        self.touched.listed()
+    }
+
+    /// How the cache is made.
+    #[inline(always)]
+    pub(crate) fn design(&self) -> Design
+        ensures { result ≡ self.now.design }
+    {
+        self.design
+    }
+
     /// The geometry of the cache.
     #[inline(always)]
     pub(crate) fn geometry(&self) -> Geometry
@@ -149,11 +205,27 @@ impl<P: Replacement> CacheSets<P> {
     /// Empties the sets, and returns how many dirty lines they held. Nothing is evicted, and a
     /// random policy goes on with its numbers.
     pub(crate) fn flush(&mut self) -> u64
-        ensures { FlushesCache (contents_of P.policy P.words self.old) result
+        ensures flush { FlushesCache (contents_of P.policy P.words self.old) result
             (contents_of P.policy P.words self.new) }
+        ensures few { result ≤ 2 ^ 22 }
     {
         let ways = self.design.geometry.e() as usize;
         empty_slab(&mut self.touched, &self.slots, &mut self.filled, ways)
+    }
+}
+
+impl CacheSets<ChosenPolicy> {
+    ghost use Rattle.cache_core.specs.internal.SystemCaches.{policy_of, random_numbers_of};
+
+    /// Draws the next random number of a policy that has some.
+    pub(crate) fn draw(&mut self) -> usize
+        ensures number { result ≡ random_numbers_of self.old.policy 0 }
+        ensures rest { random_numbers_of self.new.policy
+            ≡ λ n. random_numbers_of self.old.policy (n + 1) }
+        ensures policy { policy_of self.new.policy ≡ policy_of self.old.policy }
+        ensures same { self.new ≡ record self.old { policy = self.new.policy } }
+    {
+        self.policy.draw()
     }
 }
 
@@ -171,9 +243,71 @@ fn segment<'a>(design: Design, slots: &'a [Slot], filled: &[u32], reference: Ref
     &slots[start..start + held]
 }
 
+/// Puts a slot in front of the full set of a reference, in the slab of all sets, and takes out the
+/// last one.
+#[inline(always)]
+fn put_in_segment(
+    design: Design,
+    slots: &mut [Slot],
+    filled: &[u32],
+    reference: Ref,
+    slot: Slot,
+) -> Slot
+    requires slab { IsCacheSlab design slots.old filled.now }
+    requires full { length (slots_of (sets_of design.geometry.e slots.old filled.now)
+        (set_of design.geometry reference.addr)) ≡ design.geometry.e }
+    requires address { slot.block * 2 ^ design.geometry.b < 2 ^ 64 }
+    ensures slab { IsCacheSlab design slots.new filled.now }
+    ensures last { slice_get (slots_of (sets_of design.geometry.e slots.old filled.now)
+        (set_of design.geometry reference.addr)) (design.geometry.e - 1) ≡ Some result }
+    ensures moved { let set = set_of design.geometry reference.addr in
+        let sets = sets_of design.geometry.e slots.old filled.now in
+        sets_of design.geometry.e slots.new filled.now ≡ slice_set sets set
+        (slot ∷ remove (slots_of sets set) (design.geometry.e - 1)) }
+    ensures address { result.block * 2 ^ design.geometry.b < 2 ^ 64 }
+{
+    let full_set = design.geometry.set_of(reference.addr) as usize;
+    let start = full_set * design.geometry.e() as usize;
+    let held = filled[full_set] as usize;
+    let row = &mut slots[start..start + held];
+    let last = row[held - 1];
+    bring(row, held - 1, slot);
+    last
+}
+
+/// Exchanges the slot at an index of the set of a reference, in the slab of all sets, and returns
+/// the one that was there.
+#[inline(always)]
+fn exchange_in_segment(
+    design: Design,
+    slots: &mut [Slot],
+    filled: &[u32],
+    reference: Ref,
+    at: usize,
+    slot: Slot,
+) -> Slot
+    requires slab { IsCacheSlab design slots.old filled.now }
+    requires within { at < length (slots_of (sets_of design.geometry.e slots.old filled.now)
+        (set_of design.geometry reference.addr)) }
+    requires address { slot.block * 2 ^ design.geometry.b < 2 ^ 64 }
+    ensures slab { IsCacheSlab design slots.new filled.now }
+    ensures old { slice_get (slots_of (sets_of design.geometry.e slots.old filled.now)
+        (set_of design.geometry reference.addr)) at ≡ Some result }
+    ensures new { let set = set_of design.geometry reference.addr in
+        let sets = sets_of design.geometry.e slots.old filled.now in
+        sets_of design.geometry.e slots.new filled.now ≡ slice_set sets set
+        (slice_set (slots_of sets set) at slot) }
+    ensures address { result.block * 2 ^ design.geometry.b < 2 ^ 64 }
+{
+    let its_set = design.geometry.set_of(reference.addr) as usize;
+    let start = its_set * design.geometry.e() as usize;
+    let held = filled[its_set] as usize;
+    let row = &mut slots[start..start + held];
+    mem::replace(&mut row[at], slot)
+}
+
 /// Makes one access in the slab of all sets. `at` is the index of its block in its set, if the set
-/// has it. A set that gets its first block is listed. Also returns the index at which the block was
-/// placed, if it was.
+/// has it. A set that gets its first block is listed.
 #[inline(always)]
 fn visit_slab<P: Replacement>(
     design: Design,
@@ -183,7 +317,7 @@ fn visit_slab<P: Replacement>(
     touched: &mut TouchedSets,
     reference: Ref,
     at: Option<usize>,
-) -> (Outcome, Option<usize>)
+) -> Outcome
     requires slab { IsCacheSlab design slots.old filled.old }
     requires touched { Covers touched.old filled.old }
     requires at { at ≡ position_of (block_of design.geometry reference.addr)
@@ -193,25 +327,22 @@ fn visit_slab<P: Replacement>(
     ensures slab { IsCacheSlab design slots.new filled.new }
     ensures access { Accesses
         (slab_contents design (P.policy policy.old) (P.words policy.old) slots.old filled.old)
-        reference result.0
+        reference result
         (slab_contents design (P.policy policy.new) (P.words policy.new) slots.new filled.new) }
     ensures dirty { DirtiesByWrites
-        (sets_of design.geometry.e slots.old filled.old) reference result.0
+        (sets_of design.geometry.e slots.old filled.old) reference result
         (sets_of design.geometry.e slots.new filled.new) }
-    ensures victim { IfSome result.0.evicted (λ slot. slot.block * 2 ^ design.geometry.b < 2 ^ 64) }
-    ensures placed { HoldsPlaced (block_of design.geometry reference.addr) result.0 result.1
-        (slots_of (sets_of design.geometry.e slots.new filled.new)
-        (set_of design.geometry reference.addr)) }
+    ensures victim { IfSome result.evicted (λ slot. slot.block * 2 ^ design.geometry.b < 2 ^ 64) }
 {
     let ways = design.geometry.e() as usize;
     let number = design.geometry.set_of(reference.addr) as usize;
     let start = number * ways;
     let set = &mut slots[start..start + ways];
     let before = filled[number];
-    let (outcome, count, placed) = visit(design, policy, set, before as usize, reference, at);
+    let (outcome, count) = visit(design, policy, set, before as usize, reference, at);
     filled[number] = count as u32;
     touched.add_grown(number, before, count as u32);
-    (outcome, placed)
+    outcome
 }
 
 /// One access to the first slot of its set, in the slab of all sets, if its block is there and it

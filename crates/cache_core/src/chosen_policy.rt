@@ -1,5 +1,5 @@
 //! The policy of a cache of a system, which is chosen at run time.
-ghost use Rattle.std.specs.Prelude.{◌≡◌, Some};
+ghost use Rattle.std.specs.Prelude.{◌≡◌, ◌+◌, Some};
 ghost use Rattle.cache_core.specs.internal.SystemCaches.{policy_of, random_numbers_of};
 ghost use Rattle.cache_core.specs.Systems.{random_numbers_for};
 
@@ -24,6 +24,18 @@ impl ChosenPolicy {
             ChosenPolicy::Lru(_) => Repl::Lru,
             ChosenPolicy::Fifo(_) => Repl::Fifo,
             ChosenPolicy::Random(_) => Repl::Random,
+        }
+    }
+
+    /// The next random number, 0 of a policy that has none.
+    pub(crate) fn draw(&mut self) -> usize
+        ensures number { result ≡ random_numbers_of self.old 0 }
+        ensures rest { random_numbers_of self.new ≡ λ n. random_numbers_of self.old (n + 1) }
+        ensures policy { policy_of self.new ≡ policy_of self.old }
+    {
+        match self {
+            ChosenPolicy::Random(policy) => policy.draw(),
+            _ => 0,
         }
     }
 }

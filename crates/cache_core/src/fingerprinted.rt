@@ -1,60 +1,59 @@
 //! A cache of a system. Where its sets have many ways, a block is searched for by fingerprints.
-ghost use Rattle.std.specs.Prelude.{◌≡◌, ◌≤◌, ◌<◌, ◌+◌, ◌*◌, ◌^◌, length, Some};
-ghost use Rattle.std.specs.Prelude.{IfOk, IfSome, if◌then◌else◌};
-ghost use Rattle.cache_core.specs.Geometry.{IsGeometry, block_of, set_of};
-ghost use Rattle.cache_core.specs.Order.{Accesses, FlushesCache, slots_of};
+ghost use Rattle.std.specs.Prelude.{◌≡◌, ◌≤◌, ◌<◌, ◌+◌, ◌*◌, ◌^◌, length, Some, [], replicate, map};
+ghost use Rattle.std.specs.Prelude.{IfOk, IfSome, ◌≢◌};
+ghost use Rattle.cache_core.specs.Geometry.{IsGeometry};
+ghost use Rattle.cache_core.specs.Order.{Accesses, FlushesCache, dirty_slots};
 ghost use Rattle.cache_core.specs.Slab.{contents_of};
 ghost use Rattle.cache_core.specs.internal.Slab.{empty_sets, AccessesInFront};
-ghost use Rattle.cache_core.specs.internal.Order.{DirtiesByWrites, NoneBefore};
+ghost use Rattle.cache_core.specs.internal.Order.{DirtiesByWrites};
 ghost use Rattle.cache_core.specs.internal.SystemCaches.{policy_of, random_numbers_of};
-ghost use Rattle.cache_core.specs.internal.Fingerprints.{AreRows, HasFingerprints};
-ghost use Rattle.cache_core.specs.internal.Fingerprints.{row_touched, row_placed};
-ghost use Rattle.cache_core.specs.Rules.{rules, is_random};
+ghost use Rattle.cache_core.specs.internal.Touched.{ListsFilled};
+ghost use Rattle.cache_core.specs.internal.Whole.{whole, IsInParts};
 
 use crate::cache_sets::CacheSets;
 use crate::chosen_policy::ChosenPolicy;
 use crate::design::{AllocMode, Repl, WriteMode};
-use crate::fingerprints::{NEAR, find_far, fingerprint};
+use crate::far_access::{NEAR, access_far};
+use crate::far_set::FarSet;
+use crate::far_sets::{empty_far_sets, unfilled_sets};
 use crate::geometry::Geometry;
 use crate::outcome::Outcome;
-use crate::to_front::bring;
 use crate::walk::find_block;
 use std::alloc::{AllocError, Global};
 use std::marker::Model;
 use trace_core::Ref;
 
 /// Sets of this many ways or more are searched by fingerprints. Sets of fewer ways are searched
-/// slot by slot, which usually takes less time than keeping fingerprints in the order of the slots.
+/// slot by slot, which usually takes less time.
 const FINGERPRINTED_WAYS: u64 = 128;
 
-/// A cache of a system, and a row of fingerprints for each set. There are no rows if the sets have
-/// few ways.
+/// A cache of a system. If its sets have many ways, the first slots of each are in `near`, and
+/// those behind them in `far`. If they have few, `far` is empty.
 #[derive(Drop)]
 pub(crate) struct FingerprintedCache {
-    sets: CacheSets<ChosenPolicy>,
+    near: CacheSets<ChosenPolicy>,
     policy: Repl,
-    rows: Vec<u8>,
+    geometry: Geometry,
+    far: Vec<FarSet>,
 }
 
 impl Model for FingerprintedCache {
-    ghost use Rattle.std.specs.Prelude.{◌≡◌, Some};
+    ghost use Rattle.std.specs.Prelude.{◌≡◌};
     ghost use Rattle.cache_core.specs.Slab.{CacheValue};
     ghost use Rattle.cache_core.specs.declared.chosen_policy.ChosenPolicy.{ChosenPolicy};
+    ghost use Rattle.cache_core.specs.internal.Whole.{whole, whole_ways, with_ways, IsInParts};
 
     ghost Value = { CacheValue ChosenPolicy };
 
-    ghost use Rattle.cache_core.specs.internal.SystemCaches.{policy_of};
-    ghost use Rattle.cache_core.specs.internal.Fingerprints.{AreRows};
+    ghost view = { λ f. whole f.far.items f.near };
 
-    ghost view = { λ f. f.sets };
-
-    ghost invariant = { λ f. (policy_of f.sets.policy ≡ Some f.policy)
-        × AreRows f.sets.design.geometry.e f.sets.sets f.rows.items };
+    ghost invariant = { λ f. IsInParts f.policy f.far.items f.near
+        × (f.geometry ≡ with_ways (whole_ways f.far.items f.near) f.near.design.geometry) };
 }
 
 impl FingerprintedCache {
-    /// An empty cache. It takes all its memory here, and that alone can fail: that of a cache, and
-    /// a byte for each line if its sets have 128 ways or more.
+    /// An empty cache. It takes all its memory here, and that alone can fail: that of a cache, or,
+    /// if its sets have 128 ways or more, that of 16 ways and of rings for the others.
     pub(crate) fn new(
         alloc: Global,
         geometry: Geometry,
@@ -69,17 +68,24 @@ impl FingerprintedCache {
         ensures limits { IsGeometry geometry }
     {
         let name = policy.name();
-        let sets = CacheSets::new(alloc, geometry, policy, write, allocate)?;
-        let bytes = if geometry.e() < FINGERPRINTED_WAYS {
-            0
-        } else {
-            geometry.lines()
-        };
-        let rows = vec![in alloc; 0; bytes as usize]?;
+        if geometry.e() < FINGERPRINTED_WAYS {
+            let near = CacheSets::new(alloc, geometry, policy, write, allocate)?;
+            return Ok(FingerprintedCache {
+                near,
+                policy: name,
+                geometry,
+                far: Vec::new(alloc),
+            });
+        }
+        let first = geometry.with_ways(NEAR as u64);
+        let near = CacheSets::new(alloc, first, policy, write, allocate)?;
+        let capacity = geometry.e() as usize - NEAR;
+        let far = unfilled_sets(alloc, geometry.sets() as usize, capacity)?;
         Ok(FingerprintedCache {
-            sets,
+            near,
             policy: name,
-            rows,
+            geometry,
+            far,
         })
     }
 
@@ -92,7 +98,7 @@ impl FingerprintedCache {
         ensures victim { IfSome result.evicted
             (λ slot. slot.block * 2 ^ self.old.design.geometry.b < 2 ^ 64) }
     {
-        access_by_rows(&mut self.sets, self.policy, &mut self.rows, reference)
+        access_by_parts(&mut self.near, self.policy, &mut self.far, reference)
     }
 
     /// Makes an access if it finds its block in the first slot of its set and sends nothing down,
@@ -101,7 +107,7 @@ impl FingerprintedCache {
     pub(crate) fn access_in_front(&mut self, reference: Ref) -> Option<Outcome>
         ensures { AccessesInFront policy_of random_numbers_of self.old reference result self.new }
     {
-        self.sets.access_in_front(reference)
+        self.near.access_in_front(reference)
     }
 
     /// Its geometry.
@@ -109,7 +115,7 @@ impl FingerprintedCache {
     pub(crate) fn geometry(&self) -> Geometry
         ensures { result ≡ self.now.design.geometry }
     {
-        self.sets.geometry()
+        self.geometry
     }
 
     /// Empties the cache, and returns how many dirty lines it held.
@@ -117,113 +123,37 @@ impl FingerprintedCache {
         ensures { FlushesCache (contents_of policy_of random_numbers_of self.old) result
             (contents_of policy_of random_numbers_of self.new) }
     {
-        self.sets.flush()
+        let dirty = empty_far_sets(&mut self.far, self.near.listed());
+        dirty + self.near.flush()
     }
 }
 
-/// One access. The first slots of its set are searched one by one, and the others by their
-/// fingerprints, if there are any. If the block is among the first slots, or these are not all
-/// filled, no fingerprint moves.
+/// One access. The first slots of its set are searched one by one. If the block is among them, or
+/// these are not all filled, the slots behind them stay.
 #[inline(always)]
-fn access_by_rows(
-    sets: &mut CacheSets<ChosenPolicy>,
+fn access_by_parts(
+    near: &mut CacheSets<ChosenPolicy>,
     policy: Repl,
-    rows: &mut [u8],
+    far: &mut [FarSet],
     reference: Ref,
 ) -> Outcome
-    requires policy { policy_of sets.old.policy ≡ Some policy }
-    requires rows { AreRows sets.old.design.geometry.e sets.old.sets rows.old }
-    ensures step { Accesses (contents_of policy_of random_numbers_of sets.old) reference result
-        (contents_of policy_of random_numbers_of sets.new) }
-    ensures dirty { DirtiesByWrites sets.old.sets reference result sets.new.sets }
+    requires { IsInParts policy far.old near.old }
+    ensures step { Accesses
+        (contents_of policy_of random_numbers_of (whole far.old near.old)) reference result
+        (contents_of policy_of random_numbers_of (whole far.new near.new)) }
+    ensures dirty { DirtiesByWrites (whole far.old near.old).sets reference result
+        (whole far.new near.new).sets }
     ensures victim { IfSome result.evicted
-        (λ slot. slot.block * 2 ^ sets.old.design.geometry.b < 2 ^ 64) }
-    ensures rows { AreRows sets.new.design.geometry.e sets.new.sets rows.new }
+        (λ slot. slot.block * 2 ^ near.old.design.geometry.b < 2 ^ 64) }
+    ensures parts { IsInParts policy far.new near.new }
+    ensures count { length far.new ≡ length far.old }
 {
-    let geometry = sets.geometry();
-    let set = geometry.set_of(reference.addr) as usize;
-    let ways = geometry.e() as usize;
-    let start = set * ways;
-    let slots = sets.slots(reference);
-    let near = if start < rows.len() {
-        slots.len().min(NEAR)
-    } else {
-        slots.len()
-    };
-    let at = find_block(&slots[..near], geometry.block_of(reference.addr));
-    if at.is_none() && near == NEAR && start < rows.len() {
-        return access_far(sets, policy, &mut rows[start..start + ways], reference);
+    let geometry = near.geometry();
+    let slots = near.slots(reference);
+    let at = find_block(slots, geometry.block_of(reference.addr));
+    if at.is_none() && slots.len() == NEAR && !far.is_empty() {
+        let set = geometry.set_of(reference.addr) as usize;
+        return access_far(near, policy, &mut far[set], reference);
     }
-    sets.access_at(reference, at).0
-}
-
-/// One access whose block is not among the first slots of its set, which are filled. The block is
-/// searched for by the set's row, which is then changed as the slots are. This is a function of its
-/// own, so that the path of the many references whose block is among the first slots stays short.
-#[inline(never)]
-fn access_far(
-    sets: &mut CacheSets<ChosenPolicy>,
-    policy: Repl,
-    row: &mut [u8],
-    reference: Ref,
-) -> Outcome
-    requires policy { policy_of sets.old.policy ≡ Some policy }
-    requires far { 16 ≤ length (slots_of sets.old.sets
-        (set_of sets.old.design.geometry reference.addr)) }
-    requires none { NoneBefore (block_of sets.old.design.geometry reference.addr)
-        (slots_of sets.old.sets (set_of sets.old.design.geometry reference.addr)) 16 }
-    requires row { HasFingerprints sets.old.design.geometry.e
-        (slots_of sets.old.sets (set_of sets.old.design.geometry reference.addr)) row.old }
-    ensures step { Accesses (contents_of policy_of random_numbers_of sets.old) reference result
-        (contents_of policy_of random_numbers_of sets.new) }
-    ensures dirty { DirtiesByWrites sets.old.sets reference result sets.new.sets }
-    ensures victim { IfSome result.evicted
-        (λ slot. slot.block * 2 ^ sets.old.design.geometry.b < 2 ^ 64) }
-    ensures row { HasFingerprints sets.new.design.geometry.e
-        (slots_of sets.new.sets (set_of sets.old.design.geometry reference.addr)) row.new }
-{
-    let geometry = sets.geometry();
-    let block = geometry.block_of(reference.addr);
-    let slots = sets.slots(reference);
-    let passing = fingerprint(slots[NEAR - 1].block);
-    let last = slots.len().min(geometry.e() as usize - 1);
-    let at = find_far(row, slots, block);
-    let (outcome, placed) = sets.access_at(reference, at);
-    match at {
-        Some(at) => follow_touch(policy, row, at, passing),
-        None => {
-            if let Some(way) = placed {
-                follow_placing(policy, row, last, way, passing, fingerprint(block));
-            }
-        }
-    }
-    outcome
-}
-
-/// Changes a row after a touch of the slot at an index. Under LRU the slot goes to the front, and
-/// the last of the first slots is now the first that has a fingerprint, `passing`.
-fn follow_touch(policy: Repl, row: &mut [u8], at: usize, passing: u8)
-    requires far { 16 ≤ at }
-    requires within { at < 16 + length row.old }
-    ensures { row.new ≡ row_touched (rules policy).touched at passing row.old }
-{
-    if policy == Repl::Lru {
-        bring(row, at - NEAR, passing);
-    }
-}
-
-/// Changes a row after a block was placed, in front or in a way. If in front, the last slot leaves,
-/// and the last of the first slots is now the first that has a fingerprint, `passing`.
-fn follow_placing(policy: Repl, row: &mut [u8], last: usize, way: usize, passing: u8, own: u8)
-    requires far { 16 ≤ last }
-    requires last { last < 16 + length row.old }
-    requires way { way < 16 + length row.old }
-    ensures { row.new ≡ row_placed (rules policy).placed
-        (if is_random (rules policy).victim then way else last) passing own row.old }
-{
-    if policy != Repl::Random {
-        bring(row, last - NEAR, passing);
-    } else if way >= NEAR {
-        row[way - NEAR] = own;
-    }
+    near.access_at(reference, at)
 }

@@ -3,7 +3,6 @@ ghost use Rattle.std.specs.Prelude.{◌≡◌, ◌≤◌, ◌<◌, ◌*◌, ◌^
 ghost use Rattle.std.specs.Prelude.{IsTrue, ◌↔◌};
 ghost use Rattle.cache_core.specs.Geometry.{block_of};
 ghost use Rattle.cache_core.specs.Order.{Touches, Visits, position_of, with_dirty_at};
-ghost use Rattle.cache_core.specs.internal.Order.{HoldsPlaced};
 ghost use Rattle.cache_core.specs.internal.Slab.{Addressable};
 
 use crate::design::Design;
@@ -13,8 +12,7 @@ use crate::replacement::Replacement;
 use trace_core::Ref;
 
 /// Makes one access in the slots of its set. `at` is the index of its block there, if the set has
-/// it. Also returns how many slots are filled afterwards, and the index at which the block was
-/// placed, if it was.
+/// it. Also returns how many slots are filled afterwards.
 #[inline(always)]
 pub(crate) fn visit<P: Replacement>(
     design: Design,
@@ -23,7 +21,7 @@ pub(crate) fn visit<P: Replacement>(
     filled: usize,
     reference: Ref,
     at: Option<usize>,
-) -> (Outcome, usize, Option<usize>)
+) -> (Outcome, usize)
     requires at { at ≡ position_of (block_of design.geometry reference.addr) (take filled set.old) }
     requires filled { filled ≤ length set.old }
     requires ways { length set.old ≡ design.geometry.e }
@@ -36,21 +34,19 @@ pub(crate) fn visit<P: Replacement>(
     ensures addresses { Addressable design.geometry.b (take result.1 set.new) }
     ensures victim { IfSome result.0.evicted
         (λ slot. slot.block * 2 ^ design.geometry.b < 2 ^ 64) }
-    ensures placed { HoldsPlaced (block_of design.geometry reference.addr) result.0 result.2
-        (take result.1 set.new) }
 {
     let block = design.geometry.block_of(reference.addr);
     let dirty = dirties_line(design.write, reference.access);
     if let Some(at) = at {
         use_slot(policy, &mut set[..filled], at, dirty);
-        return (hit_outcome(design.write, reference), filled, None);
+        return (hit_outcome(design.write, reference), filled);
     }
     if !allocates_line(design.allocate, reference.access) {
-        return (passing_outcome(reference), filled, None);
+        return (passing_outcome(reference), filled);
     }
-    let (way, evicted) = policy.place(set, filled, Slot { block, dirty });
+    let (_, evicted) = policy.place(set, filled, Slot { block, dirty });
     let outcome = placing_outcome(design, reference, block, evicted);
-    (outcome, (filled + 1).min(set.len()), Some(way))
+    (outcome, (filled + 1).min(set.len()))
 }
 
 /// Uses the slot at an index, and marks it dirty if it is to be.

@@ -16,8 +16,8 @@ const STREAM: u64 = 54;
 /// A replacement policy. It sees the slots of one set at a time, in an order of its own.
 ///
 /// `order` says all that is said of the slots; that a set keeps them follows from it (the law
-/// `slots_are_kept`). A cache uses the index that `place` returns: a fingerprint goes where the
-/// slot went. The index that `touch` returns is part of the interface as it was first specified.
+/// `slots_are_kept`). The indices that `touch` and `place` return are part of the interface as it
+/// was first specified; no cache uses them.
 pub trait Replacement: Drop {
     ghost use Rattle.cache_core.specs.declared.design.Repl.{Repl};
 
@@ -147,6 +147,15 @@ impl Random {
             generator: Pcg32::new(seed, STREAM),
         }
     }
+
+    /// The next random number.
+    #[inline(always)]
+    pub(crate) fn draw(&mut self) -> usize
+        ensures number { result ≡ random_number self.old 0 }
+        ensures rest { random_number self.new ≡ λ n. random_number self.old (n + 1) }
+    {
+        self.generator.next_word() as usize
+    }
 }
 
 impl Replacement for Random {
@@ -166,7 +175,7 @@ impl Replacement for Random {
             set[filled] = new;
             return (filled, None);
         }
-        let way = self.generator.next_word() as usize % set.len();
+        let way = self.draw() % set.len();
         let gone = set[way];
         set[way] = new;
         (way, Some(gone))

@@ -4,6 +4,7 @@ ghost use Rattle.std.specs.Prelude.{Option, ◌++◌, Some, None, true, MatchBoo
 ghost use Rattle.cache_core.specs.internal.SystemSteps.{present_refs, memory_after_all, Descends};
 ghost use Rattle.cache_core.specs.internal.SystemSteps.{AllDescend, AccessesFirst};
 ghost use Rattle.cache_core.specs.internal.SystemSteps.{AccessesFirstLevel, EmptiesCache};
+ghost use Rattle.cache_core.specs.internal.Counted.{accesses};
 ghost use Rattle.cache_core.specs.internal.SystemSteps.{accesses_of, memory_accesses, stats_held};
 ghost use Rattle.cache_core.specs.internal.SystemSteps.{IsNewCache, nothing_down};
 ghost use Rattle.cache_core.specs.internal.SystemSteps.{first_hits_in_front, level_hits_in_front};
@@ -384,13 +385,31 @@ fn descend<O: Observer>(
     ensures room { O.room observer.old ≤ O.room observer.new + 3 }
 {
     match second {
-        Some(cache) => {
-            let [first, next] = cache.access(CacheName::L2U, reference, observer).down;
-            memory.count(first, observer);
-            memory.count(next, observer);
-        }
+        Some(cache) => arrive(cache, memory, reference, observer),
         None => memory.count(Some(reference), observer),
     }
+}
+
+/// A reference arrives at the second level. It is a function of its own, so that the path without a
+/// second level stays short.
+#[inline(never)]
+fn arrive<O: Observer>(
+    second: &mut SystemCache,
+    memory: &mut Memory,
+    reference: Ref,
+    observer: &mut O,
+)
+    requires counts { accesses second.old.stats + memory_accesses memory.old < 2 ^ 62 }
+    requires room { 3 ≤ O.room observer.old }
+    ensures value { Descends reference (Some second.old) memory.old (Some second.new) memory.new }
+    ensures seen { (seed : ℕ) (planned : Option PlannedCache) (events : List Event) →
+        IsPlannedCache planned → PlannedCacheStandsFor seed planned events (Some second.old) →
+        Saw O.has_seen observer.old (arrivals_below seed planned events reference) observer.new }
+    ensures room { O.room observer.old ≤ O.room observer.new + 3 }
+{
+    let [first, next] = second.access(CacheName::L2U, reference, observer).down;
+    memory.count(first, observer);
+    memory.count(next, observer);
 }
 
 /// Sends down the references that one access causes, one after another.

@@ -1,9 +1,8 @@
 -- The contents of a cache, each set in its policy's order, and one access to it.
 -- Only the proofs need these definitions.
 use Rattle.std.specs.Prelude.{◌≡◌, ◌<◌, ◌≤◌, ℕ, ◌+◌, Bool, true, false, List, []}
-use Rattle.std.specs.Prelude.{◌∷◌, Option, None, Some, if◌then◌else◌, ◌==◌, length}
-use Rattle.std.specs.Prelude.{IfSome, is_some, slice_get, slice_index_or}
-use Rattle.std.specs.Option.{option_map}
+use Rattle.std.specs.Prelude.{◌∷◌, None, if◌then◌else◌, ◌==◌, length}
+use Rattle.std.specs.Prelude.{slice_index_or}
 use Rattle.trace_core.specs.declared.events.Ref.{Ref}
 use Rattle.trace_core.specs.Events.{is_write, one_if}
 use Rattle.cache_core.specs.declared.outcome.Slot.{Slot}
@@ -34,11 +33,6 @@ abbrev pub DirtiesByWrites : List (List Slot) → Ref → Outcome → List (List
 DirtiesByWrites old ref outcome new =
     dirty_slots new + one_if (is_dirty outcome.evicted) ≤ dirty_slots old + one_if
     (is_write ref.access)
-
--- an index is returned exactly if a block was placed, and the slot there holds it
-abbrev pub HoldsPlaced : ℕ → Outcome → Option ℕ → List Slot → Type 0
-HoldsPlaced block outcome placed slots = (is_some placed ≡ outcome.placed)
-    × IfSome placed (λ at. option_map (λ slot. slot.block) (slice_get slots at) ≡ Some block)
 
 -- no slot before an index holds a block
 abbrev pub NoneBefore : ℕ → List Slot → ℕ → Type 0

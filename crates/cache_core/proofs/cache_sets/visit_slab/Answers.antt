@@ -4,7 +4,6 @@ use Rattle.cache_core.specs.Geometry.{block_of, set_of}
 use Rattle.cache_core.specs.Order.{position_of}
 use Rattle.cache_core.proofs.TouchedSets.{covers_change}
 use Rattle.cache_core.proofs.Slabs.{IsWritten, slab_read, slab_kept, slab_access, length-sets_of}
-use Rattle.cache_core.proofs.Slabs.{set_read_back}
 use Rattle.cache_core.proofs.DirtyLaw.{slab_dirty}
 use Rattle.cache_core.proofs.cache_sets.visit_slab.Goals as goal
 use Rattle.cache_core.proofs.cache_sets.visit_slab.Given.{Over}
@@ -49,9 +48,3 @@ returns-clause-dirty g c = slab_dirty c.args.design _ _ _ _ _ _ c.requires.slab 
 
 pub returns-clause-touched : goal.returns-clause-touched
 returns-clause-touched g c = grind (arith, covers_change)
-
-pub returns-clause-placed : goal.returns-clause-placed
-returns-clause-placed g c =
-    rw (set_read_back c.args.design _ _ _ _ _ _ c.requires.slab (written g c)
-    (set_of c.args.design.geometry c.args.reference.addr) c.set_of-number.ensures.value)
-    c.visit-count.ensures.placed

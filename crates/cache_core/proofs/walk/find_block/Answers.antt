@@ -1,7 +1,7 @@
 -- The first slot that holds the block is found.
 use Rattle.std.proofs.Common.{arith, false}
 use Rattle.cache_core.specs.declared.outcome.Slot.{Slot}
-use Rattle.cache_core.proofs.FingerprintsLaw.{found_at, found_nowhere}
+use Rattle.cache_core.proofs.SearchLaw.{found_at, found_nowhere}
 use Rattle.cache_core.proofs.walk.find_block.Goals as goal
 
 abbrev none : Slot

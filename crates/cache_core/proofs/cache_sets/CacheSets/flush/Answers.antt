@@ -3,6 +3,9 @@ use Rattle.std.proofs.Common.{◌≡◌, ◌++◌, ◌^◌, ◌∙◌, arith, sy
 use Rattle.std.proofs.Common.{replicate}
 use Rattle.cache_core.proofs.Slabs.{slab_made, sets_of-empty, length-sets_of, none_filled}
 use Rattle.cache_core.proofs.TouchedSets.{covers_none}
+use Rattle.cache_core.specs.Order.{dirty_slots}
+use Rattle.cache_core.specs.internal.Slab.{sets_of}
+use Rattle.cache_core.proofs.SlabFlush.{dirty_few}
 use Rattle.cache_core.proofs.cache_sets.CacheSets.flush.Goals as goal
 use Rattle.cache_core.proofs.cache_sets.CacheSets.flush.Given.{Over}
 
@@ -19,8 +22,8 @@ invariant_of-self g c =
       covers_none c.empty_slab.new.touched _ _ _ c.empty_slab.ensures.touched (none_left g c),
     )
 
-pub returns : goal.returns
-returns g c =
+pub returns-clause-flush : goal.returns-clause-flush
+returns-clause-flush g c =
     let i = c.self.inside in
     let n = i.design.geometry.e in
     rw (none_left g c, ← c.self.view_is) record {
@@ -35,3 +38,17 @@ returns g c =
       design = refl;
       policy = refl;
     }
+
+pub returns-clause-few : goal.returns-clause-few
+returns-clause-few g c =
+    let i = c.self.inside in
+    let known = c.self.invariant.0 in
+    let most = dirty_few i.design.geometry.e i.filled.items i.slots.items known.within in
+    let all : c.empty_slab.result ≡ dirty_slots (sets_of i.design.geometry.e i.slots.items
+    i.filled.items) =
+    c.empty_slab.ensures.counted ∙ rw (
+      c.e-ways.ensures.value,
+      c.deref.ensures.value,
+      c.deref_mut.ensures.value,
+    ) refl in
+    grind (arith, all, most, known.sets, known.geometry)
