@@ -35,7 +35,7 @@ BUFFERS = f"a run has two buffers of {NUMBER} KiB, and a sweep {NUMBER} KiB for 
 CACHES = (
     f"`csim`, `din` and `log` take {NUMBER} bytes per line of a cache and {NUMBER} per set; `din` "
     f"and `log` with {NUMBER} ways or more take, in place of that, {NUMBER} bytes per set and "
-    f"{NUMBER} for each {NUMBER} ways after the first {NUMBER}, or a part of 64; `csim` with more "
+    f"{NUMBER} for each {NUMBER} ways after the first {NUMBER}, or a part of 128; `csim` with more "
     f"than {NUMBER} ways takes, in place of {NUMBER} bytes, at most {NUMBER} bytes for each line "
     f"after the first {NUMBER} of a set, and {NUMBER} more per set"
 )

@@ -11,7 +11,7 @@ import re
 
 import model
 
-WAYS = 11, 12, 16, 17, 31, 32, 63, 64, 127, 128, 255, 256, 257
+WAYS = 11, 12, 16, 17, 31, 32, 63, 64, 127, 128, 144, 145, 255, 256, 257
 SETS = 4096, 8192
 # with more than 4,096 of them a sweep keeps lists of 32 to 255 ways in another way again
 OF_MANY = "ways of 8,192 sets"

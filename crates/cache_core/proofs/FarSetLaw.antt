@@ -1,4 +1,4 @@
--- The slots of rings of 64, one ring after the other: how a slot is read, written, taken out and
+-- The slots of rings of 128, one ring after the other: how a slot is read, written, taken out and
 -- pushed through, and how a block is searched for.
 use Rattle.std.proofs.Common.{◌≡◌, ℕ, zero, suc, ◌+◌, ◌-◌, ◌*◌, ◌/◌, ◌%◌, ◌<◌, ◌≤◌, ◌==◌, false}
 use Rattle.std.proofs.Common.{List, [], ◌∷◌, ◌++◌, length, get_or, set, take, drop}
@@ -27,9 +27,9 @@ use Rattle.cache_core.specs.Order.{position_of, dirty_in}
 use Rattle.cache_core.specs.internal.Order.{NoneBefore}
 use Rattle.cache_core.specs.internal.Rings.{slots_of_rings, free_slot, IsFarSet, FarSetValue}
 
--- each ring has 64 slots
+-- each ring has 128 slots
 abbrev pub Whole : List (List Slot) → Type 0
-Whole rings = All (λ ring. length ring ≡ 64) rings
+Whole rings = All (λ ring. length ring ≡ 128) rings
 
 -- one list behind another
 get_left : (xs ys : List Slot) (i : ℕ) → i < length xs → slice_get (xs ++ ys) i ≡ slice_get xs i
@@ -77,15 +77,15 @@ grown xs slot filled next e le =
 
 -- how many slots there are
 pub length-slots : (rings : List (List Slot)) → Whole rings →
-    length (slots_of_rings rings) ≡ 64 * length rings
+    length (slots_of_rings rings) ≡ 128 * length rings
 length-slots [] h = omega arith
 length-slots (ring ∷ rings) h =
-    let rest = length-slots rings (All-tail (λ (r : List Slot). length r ≡ 64) ring rings h) in
-    let first : length ring ≡ 64 = h 0 ring (omega arith) in
+    let rest = length-slots rings (All-tail (λ (r : List Slot). length r ≡ 128) ring rings h) in
+    let first : length ring ≡ 128 = h 0 ring (omega arith) in
     omega (arith, length-append ring (slots_of_rings rings), rest, first)
 
 pub length-filled : (filled : ℕ) (rings : List (List Slot)) → Whole rings →
-    filled ≤ 64 * length rings → length (take filled (slots_of_rings rings)) ≡ filled
+    filled ≤ 128 * length rings → length (take filled (slots_of_rings rings)) ≡ filled
 length-filled filled rings h le =
     length-take-le filled (slots_of_rings rings) (omega (arith, length-slots rings h))
 
@@ -111,20 +111,20 @@ module _ (rings : List (List Slot)) (k : ℕ) (within : k < length rings) where
       ap slots_of_rings (set_split rings k new within)
       ∙ flat_map-append (λ (ring : List Slot). ring) (take k rings) (new ∷ drop (suc k) rings)
 
-  pub length-before : Whole rings → length before ≡ 64 * k
+  pub length-before : Whole rings → length before ≡ 128 * k
   length-before h =
       let long : length (take k rings) ≡ k = length-take-le k rings (omega arith) in
-      length-slots (take k rings) (All-take (λ (r : List Slot). length r ≡ 64) k rings h)
-      ∙ ap (λ n. 64 * n) long
+      length-slots (take k rings) (All-take (λ (r : List Slot). length r ≡ 128) k rings h)
+      ∙ ap (λ n. 128 * n) long
 
 -- the slot at an index is the one at an index of a ring
 module _ (rings : List (List Slot)) (whole : Whole rings) (at : ℕ)
-    (within : at < 64 * length rings) where
+    (within : at < 128 * length rings) where
   abbrev k : ℕ
-  k = at / 64
+  k = at / 128
 
   abbrev j : ℕ
-  j = at % 64
+  j = at % 128
 
   abbrev ring : List Slot
   ring = get_or rings k []
@@ -132,10 +132,10 @@ module _ (rings : List (List Slot)) (whole : Whole rings) (at : ℕ)
   pub ring_within : k < length rings
   ring_within = omega arith
 
-  long : length ring ≡ 64
+  long : length ring ≡ 128
   long = whole k [] ring_within
 
-  starts : length (before rings k ring_within) ≡ 64 * k
+  starts : length (before rings k ring_within) ≡ 128 * k
   starts = length-before rings k ring_within whole
 
   inside : j < length ring
@@ -148,7 +148,7 @@ module _ (rings : List (List Slot)) (whole : Whole rings) (at : ℕ)
       (omega (arith, starts))
       ∙ get_left ring (behind rings k ring_within) j inside
 
-  here : at - 64 * k ≡ j
+  here : at - 128 * k ≡ j
   here = omega arith
 
   pub written : (slot : Slot) →
@@ -159,7 +159,7 @@ module _ (rings : List (List Slot)) (whole : Whole rings) (at : ℕ)
       parts_after rings k ring_within (set ring j slot)
       ∙ ap (λ xs. b ++ xs) (sym (set-append_left ring c j slot inside)
       ∙ ap (λ i. set (ring ++ c) i slot) (sym here))
-      ∙ sym (set-append_right b (ring ++ c) (64 * k) at slot starts (omega arith))
+      ∙ sym (set-append_right b (ring ++ c) (128 * k) at slot starts (omega arith))
       ∙ ap (λ xs. set xs at slot) (sym (parts rings k ring_within))
 
   pub removed : remove (slots_of_rings rings) at
@@ -168,53 +168,53 @@ module _ (rings : List (List Slot)) (whole : Whole rings) (at : ℕ)
       let b = before rings k ring_within in
       let c = behind rings k ring_within in
       ap (λ xs. remove xs at) (parts rings k ring_within)
-      ∙ remove-append_right b (ring ++ c) (64 * k) at starts (omega arith)
+      ∙ remove-append_right b (ring ++ c) (128 * k) at starts (omega arith)
       ∙ ap (λ i. b ++ remove (ring ++ c) i) here
       ∙ ap (λ xs. b ++ xs) (remove-append_left ring c j inside)
 
 -- a slot of the first so many
 pub read_first : (rings : List (List Slot)) (filled at : ℕ) (ring : List Slot) (x : Slot) →
-    Whole rings → filled ≤ 64 * length rings → at < filled → ring ≡ get_or rings (at / 64) [] →
-    slice_get ring (at % 64) ≡ Some x →
+    Whole rings → filled ≤ 128 * length rings → at < filled → ring ≡ get_or rings (at / 128) [] →
+    slice_get ring (at % 128) ≡ Some x →
     slice_get (take filled (slots_of_rings rings)) at ≡ Some x
 read_first rings filled at ring x h le lt is found =
     get_first filled (slots_of_rings rings) at lt
     ∙ read rings h at (omega arith)
-    ∙ ap (λ r. slice_get r (at % 64)) (sym is)
+    ∙ ap (λ r. slice_get r (at % 128)) (sym is)
     ∙ found
 
 -- a slot of the first so many is exchanged
 pub exchanged_first : (rings : List (List Slot)) (filled at : ℕ) (ring new : List Slot)
-    (slot : Slot) → Whole rings → filled ≤ 64 * length rings → at < filled →
-    ring ≡ get_or rings (at / 64) [] → new ≡ set ring (at % 64) slot →
-    take filled (slots_of_rings (set rings (at / 64) new))
+    (slot : Slot) → Whole rings → filled ≤ 128 * length rings → at < filled →
+    ring ≡ get_or rings (at / 128) [] → new ≡ set ring (at % 128) slot →
+    take filled (slots_of_rings (set rings (at / 128) new))
     ≡ set (take filled (slots_of_rings rings)) at slot
 exchanged_first rings filled at ring new slot h le lt is changed =
-    ap (λ r. take filled (slots_of_rings (set rings (at / 64) r)))
-    (changed ∙ ap (λ r. set r (at % 64) slot) is)
+    ap (λ r. take filled (slots_of_rings (set rings (at / 128) r)))
+    (changed ∙ ap (λ r. set r (at % 128) slot) is)
     ∙ ap (take filled) (written rings h at (omega arith) slot)
     ∙ take-set-lt filled (slots_of_rings rings) at slot lt
 
 -- the slot behind the first so many is filled
 pub appended : (rings : List (List Slot)) (filled : ℕ) (ring new : List Slot) (slot : Slot) →
-    Whole rings → filled < 64 * length rings → ring ≡ get_or rings (filled / 64) [] →
-    new ≡ set ring (filled % 64) slot →
-    take (filled + 1) (slots_of_rings (set rings (filled / 64) new))
+    Whole rings → filled < 128 * length rings → ring ≡ get_or rings (filled / 128) [] →
+    new ≡ set ring (filled % 128) slot →
+    take (filled + 1) (slots_of_rings (set rings (filled / 128) new))
     ≡ take filled (slots_of_rings rings) ++ slot ∷ []
 appended rings filled ring new slot h lt is changed =
-    ap (λ r. take (filled + 1) (slots_of_rings (set rings (filled / 64) r)))
-    (changed ∙ ap (λ r. set r (filled % 64) slot) is)
+    ap (λ r. take (filled + 1) (slots_of_rings (set rings (filled / 128) r)))
+    (changed ∙ ap (λ r. set r (filled % 128) slot) is)
     ∙ ap (take (filled + 1)) (written rings h filled lt slot)
     ∙ take_more_set (slots_of_rings rings) filled slot (omega (arith, length-slots rings h))
 
 -- the rings are still whole when one has changed
 pub still_whole : (rings : List (List Slot)) (at : ℕ) (ring new : List Slot) (slot : Slot) →
-    Whole rings → at < 64 * length rings → ring ≡ get_or rings (at / 64) [] →
-    new ≡ set ring (at % 64) slot → Whole (set rings (at / 64) new)
+    Whole rings → at < 128 * length rings → ring ≡ get_or rings (at / 128) [] →
+    new ≡ set ring (at % 128) slot → Whole (set rings (at / 128) new)
 still_whole rings at ring new slot h lt is changed =
-    All-set (λ (r : List Slot). length r ≡ 64) rings (at / 64) new
-    (ap length changed ∙ length-set ring (at % 64) slot ∙ ap length is
-    ∙ h (at / 64) [] (omega arith)) h
+    All-set (λ (r : List Slot). length r ≡ 128) rings (at / 128) new
+    (ap length changed ∙ length-set ring (at % 128) slot ∙ ap length is
+    ∙ h (at / 128) [] (omega arith)) h
 
 -- one ring more gives its last slot to the next
 regroup : (front middle rest : List Slot) (first last : Slot) →
@@ -222,21 +222,21 @@ regroup : (front middle rest : List Slot) (first last : Slot) →
     ≡ front ++ first ∷ ((middle ++ last ∷ []) ++ rest)
 regroup front middle rest first last = simp (append_assoc, append-nil)
 
-last_behind : (ring : List Slot) (last : Slot) → length ring ≡ 64 → slice_get ring 63 ≡ Some last →
-    ring ≡ take 63 ring ++ last ∷ []
+last_behind : (ring : List Slot) (last : Slot) → length ring ≡ 128 →
+    slice_get ring 127 ≡ Some last → ring ≡ take 127 ring ++ last ∷ []
 last_behind ring last long found =
-    sym (take_all 64 ring (omega (arith, long)))
-    ∙ take_more ring 63 last (omega (arith, long))
-    ∙ ap (λ x. take 63 ring ++ x ∷ []) (get_or_from_slice_get ring 63 last last found)
+    sym (take_all 128 ring (omega (arith, long)))
+    ∙ take_more ring 127 last (omega (arith, long))
+    ∙ ap (λ x. take 127 ring ++ x ∷ []) (get_or_from_slice_get ring 127 last last found)
 
 pub pushed_one : (rings : List (List Slot)) (i : ℕ) (ring new : List Slot) (passing last : Slot) →
-    Whole rings → i < length rings → ring ≡ get_or rings i [] → slice_get ring 63 ≡ Some last →
-    new ≡ passing ∷ take 63 ring →
+    Whole rings → i < length rings → ring ≡ get_or rings i [] → slice_get ring 127 ≡ Some last →
+    new ≡ passing ∷ take 127 ring →
     slots_of_rings (take (i + 1) (set rings i new)) ++ last ∷ slots_of_rings
     (drop (i + 1) (set rings i new))
     ≡ slots_of_rings (take i rings) ++ passing ∷ slots_of_rings (drop i rings)
 pushed_one rings i ring new passing last h lt is found changed =
-    let long : length ring ≡ 64 = ap length is ∙ h i [] lt in
+    let long : length ring ≡ 128 = ap length is ∙ h i [] lt in
     let front = slots_of_rings (take i rings) in
     let rest = slots_of_rings (drop (i + 1) rings) in
     ap (λ xs. slots_of_rings xs ++ last ∷ slots_of_rings (drop (i + 1) (set rings i new)))
@@ -246,45 +246,45 @@ pushed_one rings i ring new passing last h lt is found changed =
     ∙ ap (λ xs. xs ++ last ∷ rest)
     (flat_map-append (λ (r : List Slot). r) (take i rings) (new ∷ []))
     ∙ ap (λ xs. (front ++ (xs ++ [])) ++ last ∷ rest) changed
-    ∙ regroup front (take 63 ring) rest passing last
+    ∙ regroup front (take 127 ring) rest passing last
     ∙ ap (λ xs. front ++ passing ∷ (xs ++ rest)) (sym (last_behind ring last long found) ∙ is)
     ∙ ap (λ xs. front ++ passing ∷ slots_of_rings xs) (sym (drop_more rings i [] lt))
 
 pub pushed_whole : (rings : List (List Slot)) (i : ℕ) (ring new : List Slot) (passing : Slot) →
-    Whole rings → i < length rings → ring ≡ get_or rings i [] → new ≡ passing ∷ take 63 ring →
+    Whole rings → i < length rings → ring ≡ get_or rings i [] → new ≡ passing ∷ take 127 ring →
     Whole (set rings i new)
 pushed_whole rings i ring new passing h lt is changed =
-    let long : length ring ≡ 64 = ap length is ∙ h i [] lt in
-    All-set (λ (r : List Slot). length r ≡ 64) rings i new
-    (ap length changed ∙ omega (arith, length-take-le 63 ring (omega (arith, long)))) h
+    let long : length ring ≡ 128 = ap length is ∙ h i [] lt in
+    All-set (λ (r : List Slot). length r ≡ 128) rings i new
+    (ap length changed ∙ omega (arith, length-take-le 127 ring (omega (arith, long)))) h
 
 -- The rings before that of an index have pushed a slot through, and that ring has taken in what
 -- came out.
 pub pushed_through : (rings first : List (List Slot)) (at : ℕ) (ring new : List Slot)
-    (slot passing : Slot) (h : Whole rings) (lt : at < 64 * length rings) →
-    slots_of_rings first ++ passing ∷ [] ≡ slot ∷ slots_of_rings (take (at / 64) rings) →
-    ring ≡ get_or rings (at / 64) [] → new ≡ passing ∷ remove ring (at % 64) →
-    slots_of_rings (first ++ new ∷ drop (suc (at / 64)) rings)
+    (slot passing : Slot) (h : Whole rings) (lt : at < 128 * length rings) →
+    slots_of_rings first ++ passing ∷ [] ≡ slot ∷ slots_of_rings (take (at / 128) rings) →
+    ring ≡ get_or rings (at / 128) [] → new ≡ passing ∷ remove ring (at % 128) →
+    slots_of_rings (first ++ new ∷ drop (suc (at / 128)) rings)
     ≡ slot ∷ remove (slots_of_rings rings) at
 pushed_through rings first at ring new slot passing h lt moved is changed =
-    let rest = slots_of_rings (drop (suc (at / 64)) rings) in
-    flat_map-append (λ (r : List Slot). r) first (new ∷ drop (suc (at / 64)) rings)
+    let rest = slots_of_rings (drop (suc (at / 128)) rings) in
+    flat_map-append (λ (r : List Slot). r) first (new ∷ drop (suc (at / 128)) rings)
     ∙ ap (λ r. slots_of_rings first ++ (r ++ rest)) changed
-    ∙ sym (append_assoc (slots_of_rings first) (passing ∷ []) (remove ring (at % 64) ++ rest))
-    ∙ ap (λ xs. xs ++ (remove ring (at % 64) ++ rest)) moved
-    ∙ ap (λ r. slot ∷ (slots_of_rings (take (at / 64) rings) ++ (remove r (at % 64) ++ rest))) is
+    ∙ sym (append_assoc (slots_of_rings first) (passing ∷ []) (remove ring (at % 128) ++ rest))
+    ∙ ap (λ xs. xs ++ (remove ring (at % 128) ++ rest)) moved
+    ∙ ap (λ r. slot ∷ (slots_of_rings (take (at / 128) rings) ++ (remove r (at % 128) ++ rest))) is
     ∙ ap (λ xs. slot ∷ xs) (sym (removed rings h at lt))
 
 -- the dirty slots are counted one by one
 module _ (rings : List (List Slot)) (at : ℕ) (ring : List Slot) (x : Slot) (h : Whole rings)
-    (lt : at < 64 * length rings) (is : ring ≡ get_or rings (at / 64) [])
-    (found : slice_get ring (at % 64) ≡ Some x) where
+    (lt : at < 128 * length rings) (is : ring ≡ get_or rings (at / 128) [])
+    (found : slice_get ring (at % 128) ≡ Some x) where
   abbrev all : List Slot
   all = slots_of_rings rings
 
   there : get_or all at x ≡ x
   there = get_or_from_slice_get all at x x
-      (read rings h at lt ∙ ap (λ r. slice_get r (at % 64)) (sym is) ∙ found)
+      (read rings h at lt ∙ ap (λ r. slice_get r (at % 128)) (sym is) ∙ found)
 
   fits : at < length all
   fits = omega (arith, lt, length-slots rings h)
@@ -299,42 +299,42 @@ module _ (rings : List (List Slot)) (at : ℕ) (ring : List Slot) (x : Slot) (h 
 
 -- a block is searched for in one ring after the other
 module _ (block : ℕ) (rings : List (List Slot)) (h : Whole rings) (i : ℕ)
-    (lt : i < length rings) (none : NoneBefore block (slots_of_rings rings) (64 * i)) where
+    (lt : i < length rings) (none : NoneBefore block (slots_of_rings rings) (128 * i)) where
   abbrev this : List Slot
   this = get_or rings i []
 
-  size : length this ≡ 64
+  size : length this ≡ 128
   size = h i [] lt
 
-  slot_of : (k : ℕ) (d : Slot) → 64 * i ≤ k → k < 64 * i + 64 →
-      get_or (slots_of_rings rings) k d ≡ get_or this (k - 64 * i) d
+  slot_of : (k : ℕ) (d : Slot) → 128 * i ≤ k → k < 128 * i + 128 →
+      get_or (slots_of_rings rings) k d ≡ get_or this (k - 128 * i) d
   slot_of k d le less =
       let front = before rings i lt in
-      let at : k ≡ length front + (k - 64 * i) = omega (arith, le, length-before rings i lt h) in
+      let at : k ≡ length front + (k - 128 * i) = omega (arith, le, length-before rings i lt h) in
       ap (λ xs. get_or xs k d) (parts rings i lt)
       ∙ ap (λ n. get_or (front ++ (this ++ behind rings i lt)) n d) at
-      ∙ get_or-append-add front (this ++ behind rings i lt) (k - 64 * i) d
-      ∙ get_or_append_left this (behind rings i lt) d (k - 64 * i) (omega (arith, size, le, less))
+      ∙ get_or-append-add front (this ++ behind rings i lt) (k - 128 * i) d
+      ∙ get_or_append_left this (behind rings i lt) d (k - 128 * i) (omega (arith, size, le, less))
 
-  none_more : (m : ℕ) → m ≤ 64 →
+  none_more : (m : ℕ) → m ≤ 128 →
       ((j : ℕ) (d : Slot) → j < m → (get_or this j d).block == block ≡ false) →
-      NoneBefore block (slots_of_rings rings) (64 * i + m)
+      NoneBefore block (slots_of_rings rings) (128 * i + m)
   none_more m le fails k d less within =
-      ⊎_elim (λ (l : k < 64 * i). none k d l within)
-      (λ (l : 64 * i ≤ k).
+      ⊎_elim (λ (l : k < 128 * i). none k d l within)
+      (λ (l : 128 * i ≤ k).
       subst (λ (slot : Slot). slot.block == block ≡ false)
       (sym (slot_of k d l (omega (arith, less, le))))
-      (fails (k - 64 * i) d (omega (arith, less, l))))
-      (cases_lt k (64 * i))
+      (fails (k - 128 * i) d (omega (arith, less, l))))
+      (cases_lt k (128 * i))
 
   pub none_in_ring : position_of block this ≡ None →
-      NoneBefore block (slots_of_rings rings) (64 * i + 64)
-  none_in_ring e = none_more 64 (omega arith) (λ j d less.
+      NoneBefore block (slots_of_rings rings) (128 * i + 128)
+  none_in_ring e = none_more 128 (omega arith) (λ j d less.
       fails_before_first (λ (x : Slot). x.block == block) this j d
       (let inside : j < length this = omega (arith, less, size) in grind arith))
 
   pub none_before_found : (at : ℕ) → position_of block this ≡ Some at →
-      NoneBefore block (slots_of_rings rings) (64 * i + at)
+      NoneBefore block (slots_of_rings rings) (128 * i + at)
   none_before_found at e =
       let found = position-Some (λ (x : Slot). x.block == block) this at free_slot e in
       none_more at (omega (arith, found.0, size)) (λ j d less.
@@ -343,12 +343,12 @@ module _ (block : ℕ) (rings : List (List Slot)) (h : Whole rings) (i : ℕ)
       (found.2 j less))
 
   pub found_there : (at : ℕ) → position_of block this ≡ Some at →
-      (get_or (slots_of_rings rings) (64 * i + at) free_slot).block ≡ block
+      (get_or (slots_of_rings rings) (128 * i + at) free_slot).block ≡ block
   found_there at e =
       let found = position-Some (λ (x : Slot). x.block == block) this at free_slot e in
-      let offset : 64 * i + at - 64 * i ≡ at = omega arith in
+      let offset : 128 * i + at - 128 * i ≡ at = omega arith in
       ap (λ (slot : Slot). slot.block)
-      (slot_of (64 * i + at) free_slot (omega arith) (omega (arith, found.0, size))
+      (slot_of (128 * i + at) free_slot (omega arith) (omega (arith, found.0, size))
       ∙ ap (λ n. get_or this n free_slot) offset)
       ∙ eqb-true (get_or this at free_slot).block block found.1
 
@@ -402,15 +402,15 @@ module _ (rings first : List (List Slot)) (k : ℕ) (long : length first ≡ k)
   pub joined_length : length (first ++ drop k rings) ≡ length rings
   joined_length = omega (arith, length-append first (drop k rings), length-drop k rings, long)
 
-  pub joined_whole : Whole first → Whole rings → (new : List Slot) → length new ≡ 64 →
+  pub joined_whole : Whole first → Whole rings → (new : List Slot) → length new ≡ 128 →
       Whole (set (first ++ drop k rings) k new)
   joined_whole a b new size =
-      let P : List Slot → Type 0 = λ r. length r ≡ 64 in
+      let P : List Slot → Type 0 = λ r. length r ≡ 128 in
       All-set P (first ++ drop k rings) k new size
       (All-append P first (drop k rings) a (All-drop P k rings b))
 
-pub length-brought : (ring new : List Slot) (slot : Slot) (j : ℕ) → length ring ≡ 64 → j < 64 →
-    new ≡ slot ∷ remove ring j → length new ≡ 64
+pub length-brought : (ring new : List Slot) (slot : Slot) (j : ℕ) → length ring ≡ 128 → j < 128 →
+    new ≡ slot ∷ remove ring j → length new ≡ 128
 length-brought ring new slot j long lt changed =
     ap length changed ∙ omega (arith, long, length-remove ring j (omega (arith, long)))
 

@@ -37,6 +37,8 @@ pub mod BehindRows
 pub mod SearchLaw
 pub mod RingLaw
 pub mod RingMarks
+pub mod RingSlots
+pub mod RingTurns
 pub mod FarSetLaw
 pub mod FarSetsLaw
 pub mod TwoParts

@@ -1,30 +1,27 @@
 -- The marks of a ring: bits of a number, one for each slot that has a block's fingerprint.
-use Rattle.std.proofs.Common.{◌≡◌, ℕ, zero, suc, ◌+◌, ◌-◌, ◌*◌, ◌/◌, ◌%◌, ◌^◌, ◌<◌, ◌≤◌, ◌∙◌}
-use Rattle.std.proofs.Common.{Bool, true, false, not, List, [], ◌∷◌, ◌++◌, take, drop, map, sym, ap}
-use Rattle.std.proofs.Common.{inl, inr, arith, eqb, length, subst, get_or, w64, None, Some, refl}
-use Rattle.std.proofs.Common.{length-drop, length-take, append-nil}
-use Rattle.std.specs.Int.{rotate_right}
-use Rattle.std.specs.Int.Bits.{or_self, or_shifted_r}
+use Rattle.std.proofs.Common.{◌≡◌, ℕ, zero, suc, ◌+◌, ◌-◌, ◌/◌, ◌%◌, ◌^◌, ◌<◌, ◌≤◌, ◌∙◌}
+use Rattle.std.proofs.Common.{Bool, ◌==◌, true, false, not, List, [], ◌∷◌, take, drop, map, sym, ap}
+use Rattle.std.proofs.Common.{inl, inr, arith, eqb, length, ltb, subst, get_or, refl}
+use Rattle.std.proofs.Common.{length-drop, length-take, min}
+use Rattle.std.specs.Bool.{then_some}
 use Rattle.std.specs.Int.Count.{count_trailing_zeros}
 use Rattle.std.specs.List.{position_or_len, list_any}
 use Rattle.std.specs.Simd.Lanes.{mask_l}
-use Rattle.std.proofs.lemmas.Bool.{false≢true, cases_lt, eq-eqb}
+use Rattle.std.proofs.lemmas.Bool.{false≢true, cases_lt, eq-eqb, lt-ltb, le-ltb}
 use Rattle.std.proofs.lemmas.Bool.Decides.{eqb_tells}
-use Rattle.std.proofs.lemmas.List.{drop-map, take-map, map-append, get_or-drop, get_or-map}
-use Rattle.std.proofs.lemmas.List.{length-map, take-append-drop, get_or_default}
-use Rattle.std.proofs.lemmas.List.Folds.{list_any_at}
+use Rattle.std.proofs.lemmas.List.{drop-map, get_or-drop, get_or-take, get_or-map}
+use Rattle.std.proofs.lemmas.List.{length-map}
 use Rattle.std.proofs.lemmas.List.Sums.{fails_before_first}
-use Rattle.std.proofs.lemmas.Nat.{shr-shr, shr_le, pow-add, pow_pos}
-use Rattle.std.proofs.Math.Nat.{pow-succ', mul_assoc, mul-lt-mul_of_pos_right, mod-eq_of_lt}
-use Rattle.std.proofs.Math.Nat.{mul-add-mod_self_left}
-use Rattle.std.proofs.lemmas.Simd.{leading_from_mask_l, trailing_mask_l, mask_l-lt}
-use Rattle.cache_core.specs.declared.outcome.Slot.{Slot}
+use Rattle.std.proofs.lemmas.Nat.{shr-shr, shr_le}
+use Rattle.std.proofs.Math.Nat.{min-le_left, min-le_right, min-eq_left, min-eq_right}
+use Rattle.std.proofs.lemmas.Simd.{leading_from_mask_l, trailing_mask_l}
 use Rattle.cache_core.specs.Order.{position_of}
 use Rattle.cache_core.specs.internal.Order.{NoneBefore}
 use Rattle.cache_core.specs.internal.Fingerprints.{fingerprint_of}
-use Rattle.cache_core.specs.internal.Rings.{IsRing, fingerprints_of, in_order}
+use Rattle.cache_core.specs.internal.Rings.{FirstAmong, free_slot, in_order, slots_from}
 use Rattle.cache_core.proofs.SearchLaw.{found_at, found_nowhere}
-use Rattle.cache_core.proofs.RingLaw.{ordered_at, length-ordered, length-fingerprints}
+use Rattle.cache_core.proofs.RingLaw.{ordered_at}
+use Rattle.cache_core.proofs.RingSlots.{block_of_slot, length-slots_from}
 
 -- a bit is set where a lane passes the test
 pub mask_any : {X : Type 0} (p : X → Bool) (xs : List X) →
@@ -56,215 +53,280 @@ pub marks_from : (mark k : ℕ) (marks : List ℕ) → mask_l (map (λ m. eqb m 
     mask_l (map (λ m. eqb m mark) (drop k marks))
 marks_from mark k marks = grind (arith, mask_drop, drop-map)
 
--- the bits of two lists, one behind the other
-mask_append : (ms ns : List Bool) → mask_l (ms ++ ns) ≡ mask_l ms + 2 ^ length ms * mask_l ns
-mask_append [] ns = omega arith
-mask_append (m ∷ ms) ns =
-    let power = pow-succ' 2 (length ms) in
-    let more : 2 ^ suc (length ms) * mask_l ns ≡ 2 * (2 ^ length ms * mask_l ns) =
-    ap (λ n. n * mask_l ns) power ∙ mul_assoc 2 (2 ^ length ms) (mask_l ns) in
-    omega (arith, more, mask_append ms ns)
+-- A search of the places of a ring from one on has come to another: the bits that are left are
+-- those of the slots from there on, and what was found is the first index of those before.
+pub record SearchedTo (block head from : ℕ) (fingerprints blocks : List ℕ)
+    (place left found : ℕ) : Type 0 where
+  pub head_within : head < 128
+  pub all : length blocks ≡ 128
+  pub same : fingerprints ≡ map fingerprint_of blocks
+  pub few : from + 64 ≤ 128
+  pub past : from ≤ place
+  pub within : place ≤ from + 64
+  pub left_is : left ≡ mask_l (map (λ f. eqb f (fingerprint_of block))
+      (drop (place - from) (take 64 (drop from fingerprints))))
+  pub first : FirstAmong block head from place (in_order head blocks) found
 
--- the lowest bits, shifted to the top
-shifted : (head low high : ℕ) → head < 64 → low < 2 ^ head →
-    (low + 2 ^ head * high) * 2 ^ (64 - head) % 2 ^ 64 ≡ low * 2 ^ (64 - head)
-shifted head low high within fits =
-    let bits : head + (64 - head) ≡ 64 = omega (arith, within) in
-    let power : 2 ^ head * 2 ^ (64 - head) ≡ 2 ^ 64 =
-    sym (pow-add 2 head (64 - head)) ∙ ap (λ n. 2 ^ n) bits in
-    let below : low * 2 ^ (64 - head) < 2 ^ 64 =
-    omega (arith, power, mul-lt-mul_of_pos_right fits (pow_pos (64 - head))) in
-    let parts : (low + 2 ^ head * high) * 2 ^ (64 - head) ≡
-    2 ^ 64 * high + low * 2 ^ (64 - head) =
-    omega (arith, ap (λ n. n * high) power) in
-    ap (λ n. n % 2 ^ 64) parts ∙ mul-add-mod_self_left (2 ^ 64) high (low * 2 ^ (64 - head))
-    ∙ mod-eq_of_lt below
+-- the search begins
+pub SearchedTo-start : (block wanted head from : ℕ) (fingerprints blocks : List ℕ) (bits : ℕ) →
+    head < 128 → length blocks ≡ 128 → fingerprints ≡ map fingerprint_of blocks →
+    from + 64 ≤ 128 → wanted ≡ fingerprint_of block →
+    bits ≡ mask_l (map (λ f. eqb f wanted) (take (from + 64 - from) (drop from fingerprints))) →
+    SearchedTo block head from fingerprints blocks from bits 128
+SearchedTo-start block wanted head from fingerprints blocks bits head_within all same few is
+    bits_are =
+    let size : from + 64 - from ≡ 64 = omega arith in
+    let none : from - from ≡ 0 = omega arith in
+    record {
+      head_within = head_within;
+      all = all;
+      same = same;
+      few = few;
+      past = omega arith;
+      within = omega arith;
+      left_is =
+          let part : List ℕ = take 64 (drop from fingerprints) in
+          bits_are
+          ∙ ap (λ n. mask_l (map (λ f. eqb f wanted) (take n (drop from fingerprints)))) size
+          ∙ ap (λ w. mask_l (map (λ f. eqb f w) part)) is
+          ∙ ap (λ n. mask_l (map (λ f. eqb f (fingerprint_of block)) (drop n part))) (sym none);
+      first = record {
+        within = omega arith;
+        here = λ lt. absurd (omega arith);
+        before = λ k lt above below. absurd (omega arith);
+      };
+    }
 
--- bits that are turned by a head
-pub mask_turned : (head : ℕ) (ms : List Bool) → length ms ≡ 64 → head < 64 →
-    rotate_right w64 (mask_l ms) head ≡ mask_l (drop head ms ++ take head ms)
-mask_turned head ms all within = elim (cases_lt 0 head) [
-  | inl some ↦ (
-      let low : ℕ = mask_l (take head ms) in
-      let high : ℕ = mask_l (drop head ms) in
-      let long : length (take head ms) ≡ head =
-      omega (arith, all, within, length-take head ms) in
-      let far : length (drop head ms) ≡ 64 - head = omega (arith, all, length-drop head ms) in
-      let joined : mask_l ms ≡ low + 2 ^ head * high =
-      ap mask_l (sym (take-append-drop head ms)) ∙ mask_append (take head ms) (drop head ms)
-      ∙ ap (λ n. low + 2 ^ n * high) long in
-      let low_fits : low < 2 ^ head =
-      subst (λ n. low < 2 ^ n) long (mask_l-lt (take head ms)) in
-      let high_fits : high < 2 ^ (64 - head) =
-      subst (λ n. high < 2 ^ n) far (mask_l-lt (drop head ms)) in
-      let place : head % 64 ≡ head = omega (arith, within) in
-      let turn : (64 - head) % 64 ≡ 64 - head = omega (arith, within, some) in
-      rw (place, turn, mask_drop head ms, joined, shifted head low high within low_fits)
-      (or_shifted_r low (64 - head) high high_fits ∙ sym (mask_append (drop head ms) (take head ms)
-      ∙ ap (λ n. high + 2 ^ n * low) far ∙ omega arith)))
-  | inr none ↦ (
-      let start : head ≡ 0 = omega (arith, none) in
-      let fits : mask_l ms < 2 ^ 64 = subst (λ n. mask_l ms < 2 ^ n) all (mask_l-lt ms) in
-      let same : mask_l ms * 1 % 2 ^ 64 ≡ mask_l ms = omega (arith, fits) in
-      let whole : mask_l ms / 1 ≡ mask_l ms = omega arith in
-      rw start (rw (same, whole) (or_self (mask_l ms) ∙ ap mask_l (sym (append-nil ms)))))
-]
+module _ {block head from : ℕ} {fingerprints blocks : List ℕ} {place left found : ℕ}
+    (s : SearchedTo block head from fingerprints blocks place left found) where
+  -- the fingerprints that are left, and which of them are the block's
+  abbrev rest : List ℕ
+  rest = drop (place - from) (take 64 (drop from fingerprints))
 
--- a walk that has come to an index of the slots: no slot before it holds the block
-pub record CameTo (block : ℕ) (slots : List Slot) (at left : ℕ) : Type 0 where
-  pub all : length slots ≡ 64
-  pub within : at ≤ 64
-  pub left_is : left ≡
-      mask_l (map (λ f. eqb f (fingerprint_of block)) (drop at (fingerprints_of slots)))
-  pub none : NoneBefore block slots at
-
-module _ {block : ℕ} {slots : List Slot} {at left : ℕ} (c : CameTo block slots at left) where
-  abbrev slot_fingerprints : List ℕ
-  slot_fingerprints = fingerprints_of slots
-
-  -- whether a fingerprint is the block's
   abbrev marked : ℕ → Bool
   marked f = eqb f (fingerprint_of block)
 
-  -- the next slot with a mark
+  -- the next place with a mark
   abbrev next : ℕ
-  next = at + count_trailing_zeros 64 left
+  next = place + count_trailing_zeros 64 left
 
-  long : length (drop at slot_fingerprints) ≡ 64 - at
+  long : length rest ≡ from + 64 - place
   long = omega (
     arith,
-    c.all,
-    length-drop at slot_fingerprints,
-    length-map slots (λ (slot : Slot). fingerprint_of slot.block),
+    s.few,
+    s.past,
+    s.within,
+    ap length s.same ∙ length-map blocks fingerprint_of ∙ s.all,
+    length-drop (place - from) (take 64 (drop from fingerprints)),
+    length-take 64 (drop from fingerprints),
+    length-drop from fingerprints,
   )
 
-  -- none of the next slots holds the block if their fingerprints differ from its own
-  none_past : (n : ℕ) → n ≤ position_or_len marked (drop at slot_fingerprints) →
-      NoneBefore block slots (at + n)
-  none_past n le k d lt within = elim (cases_lt k at) [
-    | inl near ↦ c.none k d near within
-    | inr far ↦ (
-        let here : at + (k - at) ≡ k = omega arith in
-        let fails : marked (get_or (drop at slot_fingerprints) (k - at) 0) ≡ false =
-        fails_before_first marked (drop at slot_fingerprints) (k - at) 0 (omega arith) in
-        let same : get_or (drop at slot_fingerprints) (k - at) 0 ≡
-        fingerprint_of (get_or slots k d).block =
-        get_or-drop at slot_fingerprints (k - at) 0 ∙ ap (λ j. get_or slot_fingerprints j 0) here
-        ∙ get_or-map (λ (slot : Slot). fingerprint_of slot.block) slots k d 0 within in
-        elim (eqb_tells (get_or slots k d).block block) [
-          | inl it ↦ absurd (false≢true (sym fails
-              ∙ eq-eqb (get_or (drop at slot_fingerprints) (k - at) 0) (fingerprint_of block)
-              (same ∙ ap fingerprint_of it.1)))
-          | inr other ↦ other.0
-        ])
-  ]
+  -- the fingerprint of a block behind the place
+  rest_at : (n : ℕ) → place + n < from + 64 →
+      get_or rest n 0 ≡ fingerprint_of (get_or blocks (place + n) 0)
+  rest_at n lt =
+      let there : place - from + n < 64 = omega (arith, s.past) in
+      let index : from + (place - from + n) ≡ place + n = omega (arith, s.past) in
+      get_or-drop (place - from) (take 64 (drop from fingerprints)) n 0
+      ∙ get_or-take 64 (drop from fingerprints) (place - from + n) 0 there
+      ∙ get_or-drop from fingerprints (place - from + n) 0
+      ∙ ap (λ j. get_or fingerprints j 0) index
+      ∙ ap (λ fs. get_or fs (place + n) 0) s.same
+      ∙ get_or-map fingerprint_of blocks (place + n) 0 0 (omega (arith, s.all, s.few))
 
-  pub nowhere : left ≡ 0 → None ≡ position_of block slots
-  nowhere none =
-      let all : position_or_len marked (drop at slot_fingerprints) ≡
-      length (drop at slot_fingerprints) =
-      leading_from_mask_l marked (drop at slot_fingerprints) (sym c.left_is ∙ none) in
-      found_nowhere block slots (at + length (drop at slot_fingerprints))
-      (none_past (length (drop at slot_fingerprints)) (omega (arith, all)))
-      (omega (arith, long, c.all, c.within))
+  -- none of the next slots holds the block if their fingerprints differ from its own
+  none_past : (n : ℕ) → n ≤ position_or_len marked rest → place + n ≤ from + 64 →
+      FirstAmong block head from (place + n) (in_order head blocks) found
+  none_past n le within = record {
+    within = s.first.within;
+    here = s.first.here;
+    before = λ k lt above below. elim (cases_lt ((head + k) % 128) place) [
+      | inl near ↦ s.first.before k lt above near
+      | inr far ↦ (
+          let m : ℕ = (head + k) % 128 - place in
+          let index : place + m ≡ (head + k) % 128 = omega arith in
+          let fails : marked (get_or rest m 0) ≡ false =
+          fails_before_first marked rest m 0 (omega arith) in
+          let few : k < 128 = omega (arith, lt, s.first.within) in
+          let same : get_or rest m 0 ≡ fingerprint_of (get_or (in_order head blocks) k 0) =
+          rest_at m (omega arith)
+          ∙ ap (λ j. fingerprint_of (get_or blocks j 0)) index
+          ∙ ap fingerprint_of (sym (ordered_at blocks head s.all s.head_within k 0 few)) in
+          elim (eqb_tells (get_or (in_order head blocks) k 0) block) [
+            | inl it ↦ absurd (false≢true (sym fails
+                ∙ eq-eqb (get_or rest m 0) (fingerprint_of block) (same ∙ ap fingerprint_of it.1)))
+            | inr other ↦ other.0
+          ])
+    ];
+  }
+
+  pub all_searched : left ≡ 0 → FirstAmong block head from (from + 64) (in_order head blocks) found
+  all_searched none =
+      let all : position_or_len marked rest ≡ length rest =
+      leading_from_mask_l marked rest (sym s.left_is ∙ none) in
+      let ends : place + length rest ≡ from + 64 = omega (arith, long, s.within) in
+      subst (λ to. FirstAmong block head from to (in_order head blocks) found) ends
+      (none_past (length rest) (omega (arith, all)) (omega (arith, ends)))
 
   module _ (some : 0 < left) where
-    marked_some : 0 < mask_l (map marked (drop at slot_fingerprints))
-    marked_some = subst (λ n. 0 < n) c.left_is some
+    marked_some : 0 < mask_l (map marked rest)
+    marked_some = subst (λ n. 0 < n) s.left_is some
 
     -- how many slots come before the next with a mark
-    others_are : count_trailing_zeros 64 left ≡ position_or_len marked (drop at slot_fingerprints)
+    others_are : count_trailing_zeros 64 left ≡ position_or_len marked rest
     others_are =
-        ap (count_trailing_zeros 64) c.left_is
-        ∙ trailing_mask_l marked 64 (drop at slot_fingerprints) (omega (arith, long)) marked_some
+        ap (count_trailing_zeros 64) s.left_is
+        ∙ trailing_mask_l marked 64 rest (omega (arith, long, s.past)) marked_some
 
-    pub next_within : at + count_trailing_zeros 64 left < 64
-    next_within =
-        omega (arith, others_are, mask_some marked (drop at slot_fingerprints) marked_some, long)
+    pub next_within : place + count_trailing_zeros 64 left < from + 64
+    next_within = omega (arith, others_are, mask_some marked rest marked_some, long)
 
-    none_before : NoneBefore block slots next
-    none_before = none_past (count_trailing_zeros 64 left) (omega (arith, others_are))
+    pub next_exists : place + count_trailing_zeros 64 left < 128
+    next_exists = omega (arith, next_within, s.few)
 
-    -- it holds the block, or the walk goes on behind it
-    pub found_next : (d : Slot) → (get_or slots (at + count_trailing_zeros 64 left) d).block ≡ block
-        → Some (at + count_trailing_zeros 64 left) ≡ position_of block slots
-    found_next d here =
-        found_at block slots next d none_before (omega (arith, c.all, next_within)) here
+    passed : FirstAmong block head from next (in_order head blocks) found
+    passed = none_past (count_trailing_zeros 64 left) (omega (arith, others_are))
+        (omega (arith, next_within))
 
-    pub behind_next : (d : Slot) →
-        ((get_or slots (at + count_trailing_zeros 64 left) d).block ≡ block → ⊥) →
-        CameTo block slots (at + count_trailing_zeros 64 left + 1)
+    -- the bits behind it
+    left_behind : left / 2 ^ count_trailing_zeros 64 left / 2 ≡
+        mask_l (map marked (drop (next + 1 - from) (take 64 (drop from fingerprints))))
+    left_behind =
+        let n : ℕ = count_trailing_zeros 64 left in
+        let part : List ℕ = take 64 (drop from fingerprints) in
+        let whole : ℕ = mask_l (map marked part) in
+        let at : place - from + n + 1 ≡ next + 1 - from = omega (arith, s.past) in
+        ap (λ b. b / 2 ^ n / 2 ^ 1) (s.left_is ∙ sym (marks_from (fingerprint_of block)
+        (place - from) part)) ∙ ap (λ b. b / 2 ^ 1) (shr-shr whole (place - from) n)
+        ∙ shr-shr whole (place - from + n) 1
+        ∙ marks_from (fingerprint_of block) (place - from + n + 1) part
+        ∙ ap (λ j. mask_l (map marked (drop j part))) at
+
+    -- the index of that place, and the block there
+    abbrev index : ℕ
+    index = (place + count_trailing_zeros 64 left + 128 - head) % 128
+
+    index_of : (head + index) % 128 ≡ next
+    index_of = omega (arith, s.head_within, next_exists)
+
+    block_there : get_or (in_order head blocks) index 0 ≡ get_or blocks next 0
+    block_there =
+        ordered_at blocks head s.all s.head_within index 0 (omega arith)
+        ∙ ap (λ j. get_or blocks j 0) index_of
+
+    -- it is the block, and the first index of those found or not
+    pub found_next : get_or blocks (place + count_trailing_zeros 64 left) 0 ≡ block →
+        SearchedTo block head from fingerprints blocks (place + count_trailing_zeros 64 left + 1)
         (left / 2 ^ count_trailing_zeros 64 left / 2)
-    behind_next d differs = record {
-      all = c.all;
+        (min found ((place + count_trailing_zeros 64 left + 128 - head) % 128))
+    found_next holds = record {
+      head_within = s.head_within;
+      all = s.all;
+      same = s.same;
+      few = s.few;
+      past = omega (arith, s.past);
       within = omega (arith, next_within);
-      left_is =
-          let n : ℕ = count_trailing_zeros 64 left in
-          let whole : ℕ = mask_l (map marked slot_fingerprints) in
-          ap (λ b. b / 2 ^ n / 2 ^ 1) (c.left_is ∙ sym (marks_from (fingerprint_of block) at
-          slot_fingerprints)) ∙ ap (λ b. b / 2 ^ 1) (shr-shr whole at n) ∙ shr-shr whole (at + n) 1
-          ∙ marks_from (fingerprint_of block) (at + n + 1) slot_fingerprints;
-      none = λ k e lt within. elim (cases_lt k next) [
-        | inl near ↦ none_before k e near within
-        | inr far ↦ (
-            let here : k ≡ next = omega arith in
-            elim (eqb_tells (get_or slots k e).block block) [
-              | inl it ↦ absurd (differs (ap (λ (slot : Slot). slot.block)
-                  (get_or_default slots next d e (omega (arith, c.all, next_within))
-                  ∙ ap (λ j. get_or slots j e) (sym here)) ∙ it.1))
-              | inr other ↦ other.0
-            ])
-      ];
+      left_is = left_behind;
+      first = record {
+        within = omega (arith, s.first.within, min-le_left found index);
+        here = λ lt. elim (cases_lt found index) [
+          | inl less ↦ (
+              let least : min found index ≡ found = min-eq_left (omega (arith, less)) in
+              ap (λ at. get_or (in_order head blocks) at 0) least
+              ∙ s.first.here (omega (arith, lt, least)))
+          | inr more ↦ (
+              let least : min found index ≡ index = min-eq_right more in
+              ap (λ at. get_or (in_order head blocks) at 0) least ∙ block_there ∙ holds)
+        ];
+        before = λ k lt above below. elim (cases_lt ((head + k) % 128) next) [
+          | inl near ↦ passed.before k (omega (arith, lt, min-le_left found index)) above near
+          | inr far ↦ absurd (omega (
+            arith,
+            lt,
+            min-le_left found index,
+            min-le_right found index,
+            s.first.within,
+            below,
+            s.head_within,
+            next_exists,
+          ))
+        ];
+      };
     }
 
--- the walk begins
-pub CameTo-start : (block wanted head : ℕ) (fingerprints : List ℕ) (slots : List Slot)
-    (bits : ℕ) → IsRing head fingerprints slots → wanted ≡ fingerprint_of block →
-    bits ≡ mask_l (map (λ f. eqb f wanted) fingerprints) →
-    CameTo block (in_order head slots) 0 (rotate_right w64 bits head)
-CameTo-start block wanted head fingerprints slots bits ring is bits_are =
-    let p : ℕ → Bool = λ f. eqb f (fingerprint_of block) in
-    let f : Slot → ℕ = λ s. fingerprint_of s.block in
-    record {
-      all = length-ordered slots head ring.all ring.within;
-      within = omega arith;
-      left_is =
-          ap (λ n. rotate_right w64 n head) (bits_are ∙ ap (λ w. mask_l (map (λ g. eqb g w)
-          fingerprints)) is ∙ ap (λ fs. mask_l (map p fs)) ring.same)
-          ∙ mask_turned head (map p (map f slots)) (omega (
-            arith,
-            ring.all,
-            length-map slots f,
-            length-map (map f slots) p,
-          )) ring.within ∙ ap mask_l (cc (
-            drop-map p head (map f slots),
-            take-map p head (map f slots),
-            drop-map f head slots,
-            take-map f head slots,
-            map-append p (map f (drop head slots)) (map f (take head slots)),
-            map-append f (drop head slots) (take head slots),
-          ));
-      none = λ k d lt within. absurd (omega arith);
+    -- or it is another one
+    pub behind_next : (get_or blocks (place + count_trailing_zeros 64 left) 0 ≡ block → ⊥) →
+        SearchedTo block head from fingerprints blocks (place + count_trailing_zeros 64 left + 1)
+        (left / 2 ^ count_trailing_zeros 64 left / 2) found
+    behind_next differs = record {
+      head_within = s.head_within;
+      all = s.all;
+      same = s.same;
+      few = s.few;
+      past = omega (arith, s.past);
+      within = omega (arith, next_within);
+      left_is = left_behind;
+      first = record {
+        within = s.first.within;
+        here = s.first.here;
+        before = λ k lt above below. elim (cases_lt ((head + k) % 128) next) [
+          | inl near ↦ passed.before k lt above near
+          | inr far ↦ (
+              let there : (head + k) % 128 ≡ next = omega arith in
+              let few : k < 128 = omega (arith, lt, s.first.within) in
+              elim (eqb_tells (get_or (in_order head blocks) k 0) block) [
+                | inl it ↦ absurd (differs (ap (λ j. get_or blocks j 0) (sym there)
+                    ∙ sym (ordered_at blocks head s.all s.head_within k 0 few) ∙ it.1))
+                | inr other ↦ other.0
+              ])
+        ];
+      };
     }
 
 -- no slot has the mark
-pub unmarked_nowhere : (block wanted head : ℕ) (fingerprints : List ℕ) (slots : List Slot) →
-    IsRing head fingerprints slots → wanted ≡ fingerprint_of block →
-    list_any (λ f. eqb f wanted) fingerprints ≡ false →
-    None ≡ position_of block (in_order head slots)
-unmarked_nowhere block wanted head fingerprints slots ring is none =
-    found_nowhere block (in_order head slots) 64 (λ k d lt within.
-    elim (eqb_tells (get_or (in_order head slots) k d).block block) [
-      | inl it ↦ (
-          let place : ℕ = (head + k) % 64 in
-          let same : get_or fingerprints place 0 ≡ wanted =
-          ap (λ fs. get_or fs place 0) ring.same
-          ∙ get_or-map (λ (s : Slot). fingerprint_of s.block) slots place d 0
-          (omega (arith, ring.all)) ∙ ap (λ (s : Slot). fingerprint_of s.block)
-          (sym (ordered_at slots head ring.all ring.within k d lt)) ∙ ap fingerprint_of it.1
-          ∙ sym is in
-          absurd (false≢true (sym none ∙ list_any_at (λ f. eqb f wanted) fingerprints place 0
-          (omega (arith, length-fingerprints head fingerprints slots ring))
-          (eq-eqb (get_or fingerprints place 0) wanted same))))
-      | inr other ↦ other.0
-    ]) (omega (arith, length-ordered slots head ring.all ring.within))
+pub unmarked : (block wanted head from : ℕ) (fingerprints blocks : List ℕ) → head < 128 →
+    length blocks ≡ 128 → fingerprints ≡ map fingerprint_of blocks → from + 64 ≤ 128 →
+    wanted ≡ fingerprint_of block →
+    list_any (λ f. eqb f wanted) (take (from + 64 - from) (drop from fingerprints)) ≡ false →
+    FirstAmong block head from (from + 64) (in_order head blocks) 128
+unmarked block wanted head from fingerprints blocks head_within all same few is none =
+    let p : ℕ → Bool = λ f. eqb f wanted in
+    let part : List ℕ = take (from + 64 - from) (drop from fingerprints) in
+    let zero_bits : mask_l (map p part) ≡ 0 =
+    elim (eqb_tells (mask_l (map p part)) 0) [
+      | inl it ↦ it.1
+      | inr other ↦ absurd (false≢true (sym none ∙ sym (mask_any p part) ∙ ap not other.0))
+    ] in
+    all_searched (SearchedTo-start block wanted head from fingerprints blocks (mask_l (map p part))
+    head_within all same few is refl) zero_bits
+
+-- the first index among the first 64 places and the last 64 is the first of all
+pub first_of_both : (block head one two : ℕ) (blocks : List ℕ) (dirty : List Bool) →
+    length blocks ≡ 128 → length dirty ≡ 128 → FirstAmong block head 0 64 blocks one →
+    FirstAmong block head 64 128 blocks two →
+    then_some (ltb (min one two) 128) (min one two) ≡ position_of block (slots_from blocks dirty)
+first_of_both block head one two blocks dirty all all_marks first second =
+    let at : ℕ = min one two in
+    let slots = slots_from blocks dirty in
+    let long : length slots ≡ 128 = length-slots_from blocks dirty all all_marks in
+    let before : NoneBefore block slots at = λ k d lt within.
+    ap (λ b. b == block)
+    (block_of_slot blocks dirty all all_marks k d (omega (arith, within, long)))
+    ∙ elim (cases_lt ((head + k) % 128) 64) [
+      | inl near ↦ first.before k (omega (arith, lt, min-le_left one two)) (omega arith) near
+      | inr far ↦ second.before k (omega (arith, lt, min-le_right one two)) far (omega arith)
+    ] in
+    elim (cases_lt at 128) [
+      | inl less ↦ ap (λ b. then_some b at) (lt-ltb at 128 less)
+          ∙ found_at block slots at free_slot before (omega (arith, less, long))
+          (block_of_slot blocks dirty all all_marks at free_slot less
+          ∙ elim (cases_lt one two) [
+            | inl near ↦ (let least : at ≡ one = min-eq_left (omega (arith, near)) in
+                ap (λ i. get_or blocks i 0) least ∙ first.here (omega (arith, less, least)))
+            | inr far ↦ (let least : at ≡ two = min-eq_right far in
+                ap (λ i. get_or blocks i 0) least ∙ second.here (omega (arith, less, least)))
+          ])
+      | inr past ↦ ap (λ b. then_some b at) (le-ltb at 128 past)
+          ∙ found_nowhere block slots at before (omega (arith, past, long))
+    ]

@@ -18,7 +18,7 @@ use crate::outcome::{Outcome, Slot};
 use trace_core::Ref;
 
 /// The number of slots at the front of a set that are searched one by one. Most blocks are found
-/// there, and looking at each slot costs less than keeping fingerprints in their order.
+/// there, and sooner than in a ring.
 pub(crate) const NEAR: usize = 16;
 
 /// One access whose block is not among the first slots of its set, which are filled. This is a

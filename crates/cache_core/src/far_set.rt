@@ -1,4 +1,4 @@
-//! The slots of one set of many ways behind its first, in rings of 64: a slot that comes to the
+//! The slots of one set of many ways behind its first, in rings of 128: a slot that comes to the
 //! front pushes one slot from each ring before its own into the next.
 ghost use Rattle.std.specs.Prelude.{◌≡◌, ◌≤◌, ◌<◌, ◌∷◌, ◌++◌, ◌^◌, [], Some, IfOk};
 ghost use Rattle.std.specs.Prelude.{◌*◌, length, remove, slice_get, slice_set, take, All, ◌↔◌};
@@ -37,8 +37,8 @@ impl Model for FarSet {
 }
 
 impl FarSet {
-    /// No slot is filled, and so many can be. It takes all its memory here, 1,096 bytes for each 64
-    /// of them, and that alone can fail.
+    /// No slot is filled, and so many can be. It takes all its memory here, 1,288 bytes for each
+    /// 128 of them, and that alone can fail.
     pub(crate) fn new(alloc: Global, capacity: usize) -> Result<FarSet, AllocError>
         requires { capacity ≤ 2 ^ 16 }
         ensures { IfOk result (λ set. set ≡ record { capacity = capacity; slots = [] }) }
@@ -154,11 +154,11 @@ impl FarSet {
 /// Puts a slot in front of the slots of rings, and takes out the one at an index. Those behind that
 /// index stay where they are.
 fn push_through(rings: &mut [Ring], at: usize, slot: Slot) -> Slot
-    requires whole { All (λ ring. length ring ≡ 64) rings.old }
-    requires within { at < 64 * length rings.old }
+    requires whole { All (λ ring. length ring ≡ 128) rings.old }
+    requires within { at < 128 * length rings.old }
     ensures taken { slice_get (slots_of_rings rings.old) at ≡ Some result }
     ensures moved { slots_of_rings rings.new ≡ slot ∷ remove (slots_of_rings rings.old) at }
-    ensures whole { All (λ ring. length ring ≡ 64) rings.new }
+    ensures whole { All (λ ring. length ring ≡ 128) rings.new }
 {
     let last = at / SLOTS;
     let passing = push_each(&mut rings[..last], slot);
@@ -168,9 +168,9 @@ fn push_through(rings: &mut [Ring], at: usize, slot: Slot) -> Slot
 /// Puts a slot in front of the slots of rings, and takes out the last one. Each ring gives its last
 /// slot to the next. If there is no ring, the slot itself comes out.
 fn push_each(rings: &mut [Ring], slot: Slot) -> Slot
-    requires { All (λ ring. length ring ≡ 64) rings.old }
+    requires { All (λ ring. length ring ≡ 128) rings.old }
     ensures moved { slots_of_rings rings.new ++ result ∷ [] ≡ slot ∷ slots_of_rings rings.old }
-    ensures whole { All (λ ring. length ring ≡ 64) rings.new }
+    ensures whole { All (λ ring. length ring ≡ 128) rings.new }
 {
     let mut passing = slot;
     let mut own = fingerprint(slot.block);
@@ -182,8 +182,8 @@ fn push_each(rings: &mut [Ring], slot: Slot) -> Slot
 
 /// How many of the first slots of rings are dirty.
 fn count_dirty_in_rings(rings: &[Ring], filled: usize) -> u64
-    requires whole { All (λ ring. length ring ≡ 64) rings.now }
-    requires within { filled ≤ 64 * length rings.now }
+    requires whole { All (λ ring. length ring ≡ 128) rings.now }
+    requires within { filled ≤ 128 * length rings.now }
     ensures { result ≡ dirty_in (take filled (slots_of_rings rings.now)) }
 {
     let mut dirty = 0;

@@ -1,57 +1,59 @@
-//! A ring of 64 slots in an order. A slot that comes to the front moves only a part of the others,
+//! A ring of 128 slots in an order. A slot that comes to the front moves only a part of the others,
 //! and a slot that pushes the last one out moves none.
-ghost use Rattle.std.specs.Prelude.{◌≡◌, ◌<◌, ◌∷◌, Some, length, remove, replicate, take};
-ghost use Rattle.std.specs.Prelude.{slice_get, slice_set, ◌++◌, [], ◌==◌, map};
+ghost use Rattle.std.specs.Prelude.{◌≡◌, ◌≤◌, ◌<◌, ◌+◌, ◌-◌, ◌%◌, ◌∷◌, Some, length, remove};
+ghost use Rattle.std.specs.Prelude.{slice_get, slice_index_or, slice_set, ◌++◌, [], ◌==◌, map};
+ghost use Rattle.std.specs.Prelude.{false, replicate, take};
 ghost use Rattle.std.specs.List.{list_any};
 ghost use Rattle.std.specs.Simd.Lanes.{mask_l};
 ghost use Rattle.cache_core.specs.Order.{position_of};
 ghost use Rattle.cache_core.specs.internal.Fingerprints.{fingerprint_of};
-ghost use Rattle.cache_core.specs.internal.Rings.{free_slot};
+ghost use Rattle.cache_core.specs.internal.Rings.{free_slot, in_order, FirstAmong};
 
 use crate::fingerprints::fingerprint;
 use crate::outcome::Slot;
-use crate::to_front::bring;
 use std::marker::Model;
 use std::simd::prelude::*;
 
-/// The number of slots of a ring: as many as a word has bits, so that one comparison tells which
-/// of them have a fingerprint.
-pub(crate) const SLOTS: usize = 64;
+/// The number of slots of a ring. With more of them a slot is pushed through fewer rings, but more
+/// of them move when one comes to the front.
+pub(crate) const SLOTS: usize = 128;
 
-/// 64 slots in an order: the first is at `head`, and the one after the last of the array is its
-/// first. Each slot has a fingerprint, a byte by which most blocks differ.
+/// The number of fingerprints that one comparison compares: as many as a word has bits.
+const LANES: usize = 64;
+
+/// 128 slots in an order: the first is at the place `head`, and behind the last place comes the
+/// first one. Each slot has a fingerprint, a byte by which most blocks differ. Blocks and dirty
+/// marks have arrays of their own, since a row of slots takes nearly twice as many bytes.
 #[derive(Drop)]
 pub(crate) struct Ring {
-    fingerprints: [u8; SLOTS],
-    slots: [Slot; SLOTS],
     head: usize,
+    fingerprints: [u8; SLOTS],
+    dirty: [bool; SLOTS],
+    blocks: [u64; SLOTS],
 }
 
 impl Model for Ring {
     ghost use Rattle.std.specs.Prelude.{List};
     ghost use Rattle.cache_core.specs.declared.outcome.Slot.{Slot};
-    ghost use Rattle.cache_core.specs.internal.Rings.{in_order, IsRing};
+    ghost use Rattle.cache_core.specs.internal.Rings.{in_order, slots_from, IsRing};
 
     ghost Value = { List Slot };
 
-    ghost view = { λ r. in_order r.head r.slots };
+    ghost view = { λ r. in_order r.head (slots_from r.blocks r.dirty) };
 
-    ghost invariant = { λ r. IsRing r.head r.fingerprints r.slots };
+    ghost invariant = { λ r. IsRing r.head r.fingerprints r.blocks r.dirty };
 }
 
 impl Ring {
     /// A ring of free slots.
     pub(crate) fn new() -> Ring
-        ensures { result ≡ replicate 64 free_slot }
+        ensures { result ≡ replicate 128 free_slot }
     {
-        let free = Slot {
-            block: 0,
-            dirty: false,
-        };
         Ring {
-            fingerprints: [0; SLOTS],
-            slots: [free; SLOTS],
             head: 0,
+            fingerprints: [0; SLOTS],
+            dirty: [false; SLOTS],
+            blocks: [0; SLOTS],
         }
     }
 
@@ -62,53 +64,45 @@ impl Ring {
         requires { wanted ≡ fingerprint_of block }
         ensures { result ≡ position_of block self.now }
     {
-        if is_among(&self.fingerprints, wanted) {
-            self.find_marked(block, wanted)
-        } else {
-            None
-        }
-    }
-
-    /// The same, where a slot has the fingerprint. It is a function of its own, so that a ring that
-    /// has no such slot is passed over by few instructions. The bits of a number tell which slots
-    /// have the fingerprint, in their order.
-    #[inline(never)]
-    fn find_marked(&self, block: u64, wanted: u8) -> Option<usize>
-        requires { wanted ≡ fingerprint_of block }
-        ensures { result ≡ position_of block self.now }
-    {
-        let mut at = 0;
-        let mut left = lanes_with(&self.fingerprints, wanted).rotate_right(self.head as u32);
-        while left != 0 {
-            let others = left.trailing_zeros();
-            let next = at + others as usize;
-            if self.slots[(self.head + next) % SLOTS].block == block {
-                return Some(next);
-            }
-            at = next + 1;
-            left = left >> others >> 1;
-        }
-        None
+        let first = find_among(
+            &self.fingerprints,
+            &self.blocks,
+            self.head,
+            0,
+            block,
+            wanted,
+        );
+        let second = find_among(
+            &self.fingerprints,
+            &self.blocks,
+            self.head,
+            LANES,
+            block,
+            wanted,
+        );
+        let at = first.min(second);
+        (at < SLOTS).then_some(at)
     }
 
     /// The slot at an index of the order.
     pub(crate) fn get(&self, at: usize) -> Slot
-        requires { at < 64 }
+        requires { at < 128 }
         ensures { slice_get self.now at ≡ Some result }
     {
-        self.slots[(self.head + at) % SLOTS]
+        slot_at(&self.blocks, &self.dirty, (self.head + at) % SLOTS)
     }
 
     /// Exchanges the slot at an index of the order, and returns the one that was there.
     pub(crate) fn exchange(&mut self, at: usize, slot: Slot) -> Slot
-        requires { at < 64 }
+        requires { at < 128 }
         ensures old { slice_get self.old at ≡ Some result }
         ensures new { self.new ≡ slice_set self.old at slot }
     {
         let place = (self.head + at) % SLOTS;
+        let gone = slot_at(&self.blocks, &self.dirty, place);
         self.fingerprints[place] = fingerprint(slot.block);
-        let gone = self.slots[place];
-        self.slots[place] = slot;
+        self.blocks[place] = slot.block;
+        self.dirty[place] = slot.dirty;
         gone
     }
 
@@ -117,43 +111,164 @@ impl Ring {
     #[inline(always)]
     pub(crate) fn push(&mut self, slot: Slot, own: u8) -> (Slot, u8)
         requires { own ≡ fingerprint_of slot.block }
-        ensures last { slice_get self.old 63 ≡ Some result.0 }
+        ensures last { slice_get self.old 127 ≡ Some result.0 }
         ensures own { result.1 ≡ fingerprint_of result.0.block }
-        ensures moved { self.new ≡ slot ∷ take 63 self.old }
+        ensures moved { self.new ≡ slot ∷ take 127 self.old }
     {
         let last = (self.head + SLOTS - 1) % SLOTS;
         self.head = last;
-        let gone = (self.slots[last], self.fingerprints[last]);
-        self.slots[last] = slot;
+        let gone = slot_at(&self.blocks, &self.dirty, last);
+        let along = self.fingerprints[last];
+        self.blocks[last] = slot.block;
+        self.dirty[last] = slot.dirty;
         self.fingerprints[last] = own;
-        gone
+        (gone, along)
     }
 
-    /// Puts a slot in front, and takes out the one at an index of the order. Those behind that
-    /// index, or those before it, stay where they are.
+    /// Puts a slot in front, and takes out the one at an index of the order. Those before that
+    /// index move. If there are many of them, in two parts, those behind it move in their place.
     pub(crate) fn bring(&mut self, at: usize, slot: Slot) -> Slot
-        requires { at < 64 }
+        requires { at < 128 }
         ensures taken { slice_get self.old at ≡ Some result }
         ensures moved { self.new ≡ slot ∷ remove self.old at }
     {
         let place = (self.head + at) % SLOTS;
-        let taken = self.slots[place];
+        let taken = slot_at(&self.blocks, &self.dirty, place);
         let own = fingerprint(slot.block);
-        if self.head <= place {
-            bring(&mut self.slots[self.head..], place - self.head, slot);
-            bring(&mut self.fingerprints[self.head..], place - self.head, own);
+        if at < SLOTS / 2 || self.head <= place {
+            turn(&mut self.blocks[..], self.head, place, slot.block);
+            turn(&mut self.dirty[..], self.head, place, slot.dirty);
+            turn(&mut self.fingerprints[..], self.head, place, own);
         } else {
-            bring_back(&mut self.slots[..self.head], place, slot);
-            bring_back(&mut self.fingerprints[..self.head], place, own);
-            self.head -= 1;
+            let first = self.head - 1;
+            turn_back(&mut self.blocks[..], place, first, slot.block);
+            turn_back(&mut self.dirty[..], place, first, slot.dirty);
+            turn_back(&mut self.fingerprints[..], place, first, own);
+            self.head = first;
         }
         taken
     }
 }
 
-/// Takes out the element at an index of a row, and puts another at its end.
+/// The slot at a place of the arrays.
 #[inline(always)]
-fn bring_back<T: Copy>(row: &mut [T], at: usize, element: T)
+fn slot_at(blocks: &[u64; SLOTS], dirty: &[bool; SLOTS], place: usize) -> Slot
+    requires { place < 128 }
+    ensures { result ≡ record {
+      block = slice_index_or blocks.now place 0;
+      dirty = slice_index_or dirty.now place false;
+    } }
+{
+    Slot {
+        block: blocks[place],
+        dirty: dirty[place],
+    }
+}
+
+/// The first index of a block in the order among the slots of 64 places, or 128 if none of them has
+/// it.
+#[inline(always)]
+fn find_among(
+    fingerprints: &[u8; SLOTS],
+    blocks: &[u64; SLOTS],
+    head: usize,
+    start: usize,
+    block: u64,
+    wanted: u8,
+) -> usize
+    requires head { head < 128 }
+    requires same { fingerprints.now ≡ map fingerprint_of blocks.now }
+    requires within { start + 64 ≤ 128 }
+    requires wanted { wanted ≡ fingerprint_of block }
+    ensures { FirstAmong block head start (start + 64) (in_order head blocks.now) result }
+{
+    if is_among(&fingerprints[start..start + LANES], wanted) {
+        find_marked(fingerprints, blocks, head, start, block, wanted)
+    } else {
+        SLOTS
+    }
+}
+
+/// The same, where a slot has the fingerprint. It is a function of its own, so that places without
+/// such a slot are passed over by few instructions. The bits of a number tell which slots have the
+/// fingerprint.
+#[inline(never)]
+fn find_marked(
+    fingerprints: &[u8; SLOTS],
+    blocks: &[u64; SLOTS],
+    head: usize,
+    start: usize,
+    block: u64,
+    wanted: u8,
+) -> usize
+    requires head { head < 128 }
+    requires same { fingerprints.now ≡ map fingerprint_of blocks.now }
+    requires within { start + 64 ≤ 128 }
+    requires wanted { wanted ≡ fingerprint_of block }
+    ensures { FirstAmong block head start (start + 64) (in_order head blocks.now) result }
+{
+    let mut found = SLOTS;
+    let mut place = start;
+    let mut left = lanes_with(&fingerprints[start..start + LANES], wanted);
+    while left != 0 {
+        let others = left.trailing_zeros();
+        place += others as usize;
+        if blocks[place] == block {
+            found = found.min((place + SLOTS - head) % SLOTS);
+        }
+        place += 1;
+        left = left >> others >> 1;
+    }
+    found
+}
+
+/// Puts an element at a place of a ring. Those from there on up to another place, which may be past
+/// the end of the array, move by one, and the one at that place is gone.
+#[inline(always)]
+fn turn<T: Copy>(ring: &mut [T], from: usize, to: usize, element: T)
+    requires all { length ring.old ≡ 128 }
+    requires from { from < 128 }
+    requires to { to < 128 }
+    ensures all { length ring.new ≡ 128 }
+    ensures moved { in_order from ring.new
+        ≡ element ∷ remove (in_order from ring.old) ((to + 128 - from) % 128) }
+{
+    if from <= to {
+        shift_up(&mut ring[from..], to - from, element);
+    } else {
+        let last = ring[SLOTS - 1];
+        shift_up(&mut ring[from..], SLOTS - 1 - from, element);
+        shift_up(&mut ring[..from], to, last);
+    }
+}
+
+/// Takes out the element at a place of a ring. Those behind it, up to a later place, move back by
+/// one, and a new one is put at that place.
+#[inline(always)]
+fn turn_back<T: Copy>(ring: &mut [T], from: usize, to: usize, element: T)
+    requires all { length ring.old ≡ 128 }
+    requires from { from ≤ to }
+    requires to { to + 1 < 128 }
+    ensures all { length ring.new ≡ 128 }
+    ensures moved { in_order to ring.new
+        ≡ element ∷ remove (in_order (to + 1) ring.old) (from + 127 - to) }
+{
+    shift_down(&mut ring[..=to], from, element);
+}
+
+/// Takes out the element at an index of a row, and puts another in front. Those before move up.
+#[inline(always)]
+fn shift_up<T: Copy>(row: &mut [T], at: usize, element: T)
+    requires { at < length row.old }
+    ensures { row.new ≡ element ∷ remove row.old at }
+{
+    row.copy_within(..at, 1);
+    row[0] = element;
+}
+
+/// Takes out the element at an index of a row, and puts another at its end. Those behind move down.
+#[inline(always)]
+fn shift_down<T: Copy>(row: &mut [T], at: usize, element: T)
     requires { at < length row.old }
     ensures { row.new ≡ remove row.old at ++ element ∷ [] }
 {
@@ -162,24 +277,24 @@ fn bring_back<T: Copy>(row: &mut [T], at: usize, element: T)
     row[last] = element;
 }
 
-/// Whether a fingerprint is among these.
+/// Whether a fingerprint is among 64 of them.
 #[inline(always)]
-fn is_among(fingerprints: &[u8; SLOTS], wanted: u8) -> bool
+fn is_among(fingerprints: &[u8], wanted: u8) -> bool
     requires { length fingerprints.now ≡ 64 }
     ensures { result ≡ list_any (λ fingerprint. fingerprint == wanted) fingerprints.now }
 {
-    u8x64::from_array(*fingerprints)
+    u8x64::from_slice(fingerprints)
         .simd_eq(u8x64::splat(wanted))
         .any()
 }
 
-/// A bit for each fingerprint, the lowest for the first: 1 if it is the wanted one.
+/// A bit for each of 64 fingerprints, the lowest for the first: 1 if it is the wanted one.
 #[inline(always)]
-fn lanes_with(fingerprints: &[u8; SLOTS], wanted: u8) -> u64
+fn lanes_with(fingerprints: &[u8], wanted: u8) -> u64
     requires { length fingerprints.now ≡ 64 }
     ensures { result ≡ mask_l (map (λ fingerprint. fingerprint == wanted) fingerprints.now) }
 {
-    u8x64::from_array(*fingerprints)
+    u8x64::from_slice(fingerprints)
         .simd_eq(u8x64::splat(wanted))
         .to_bitmask()
 }

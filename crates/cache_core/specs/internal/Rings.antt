@@ -1,6 +1,7 @@
 -- A ring of slots, and the slots of a set behind its first, in rings.
 use Rattle.std.specs.Prelude.{ℕ, ◌≡◌, ◌≤◌, ◌<◌, ◌*◌, ◌^◌, ◌++◌, List, [], length, map, take, drop}
-use Rattle.std.specs.Prelude.{All, flat_map, false}
+use Rattle.std.specs.Prelude.{All, Bool, flat_map, false, ◌+◌, ◌%◌, ◌==◌, slice_index_or}
+use Rattle.std.specs.Simd.Lanes.{zip2}
 use Rattle.cache_core.specs.declared.outcome.Slot.{Slot}
 use Rattle.cache_core.specs.internal.Fingerprints.{fingerprint_of}
 
@@ -8,19 +9,28 @@ use Rattle.cache_core.specs.internal.Fingerprints.{fingerprint_of}
 abbrev pub free_slot : Slot
 free_slot = record { block = 0; dirty = false }
 
--- the slots of a ring in their order: from its head on, and then those before it
-abbrev pub in_order : ℕ → List Slot → List Slot
-in_order head slots = drop head slots ++ take head slots
+-- the elements of a ring in their order: from its head on, and then those before it
+abbrev pub in_order : {X : Type 0} → ℕ → List X → List X
+in_order head elements = drop head elements ++ take head elements
 
--- the fingerprints of the blocks of these slots
-abbrev pub fingerprints_of : List Slot → List ℕ
-fingerprints_of slots = map (λ slot. fingerprint_of slot.block) slots
+-- the slots of these blocks, each with its dirty mark
+abbrev pub slots_from : List ℕ → List Bool → List Slot
+slots_from blocks dirty = zip2 (λ block mark. record { block = block; dirty = mark }) blocks dirty
 
 -- the invariant of a ring
-pub record IsRing (head : ℕ) (fingerprints : List ℕ) (slots : List Slot) : Type 0 where
-  pub within : head < 64
-  pub all : length slots ≡ 64
-  pub same : fingerprints ≡ fingerprints_of slots
+pub record IsRing (head : ℕ) (fingerprints blocks : List ℕ) (dirty : List Bool) : Type 0 where
+  pub within : head < 128
+  pub all : length blocks ≡ 128
+  pub all_marks : length dirty ≡ 128
+  pub same : fingerprints ≡ map fingerprint_of blocks
+
+-- The first index of a block in a ring's order among those whose places are from one on up to
+-- another, or 128 if there is none. The blocks are in the ring's order.
+pub record FirstAmong (block head from to : ℕ) (blocks : List ℕ) (at : ℕ) : Type 0 where
+  pub within : at ≤ 128
+  pub here : at < 128 → slice_index_or blocks at 0 ≡ block
+  pub before : (k : ℕ) → k < at → from ≤ (head + k) % 128 → (head + k) % 128 < to →
+      slice_index_or blocks k 0 == block ≡ false
 
 -- the slots of a set behind its first, of which there are at most so many
 pub record FarSetValue : Type 0 where
@@ -31,10 +41,10 @@ pub record FarSetValue : Type 0 where
 abbrev pub slots_of_rings : List (List Slot) → List Slot
 slots_of_rings rings = flat_map (λ ring. ring) rings
 
--- the invariant of the rings of a set: each has 64 slots, and so many of all are filled
+-- the invariant of the rings of a set: each has 128 slots, and so many of all are filled
 pub record IsFarSet (capacity filled : ℕ) (rings : List (List Slot)) : Type 0 where
-  pub whole : All (λ ring. length ring ≡ 64) rings
-  pub room : capacity ≤ 64 * length rings
+  pub whole : All (λ ring. length ring ≡ 128) rings
+  pub room : capacity ≤ 128 * length rings
   pub within : filled ≤ capacity
   pub few : capacity ≤ 2 ^ 16
 

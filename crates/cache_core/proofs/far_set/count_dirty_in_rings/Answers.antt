@@ -7,8 +7,8 @@ use Rattle.cache_core.proofs.far_set.count_dirty_in_rings.Goals.{then-get, else-
 
 pub loop-at-preserved : goal.loop-at-preserved
 loop-at-preserved c =
-    let lt : c.loop-at.at < 64 * length c.args.rings.now = omega arith in
-    let ring = get_or_read c.args.rings.now (c.loop-at.at / 64) c.index-rings-at.result
+    let lt : c.loop-at.at < 128 * length c.args.rings.now = omega arith in
+    let ring = get_or_read c.args.rings.now (c.loop-at.at / 128) c.index-rings-at.result
     (omega arith) c.index-rings-at.is [] in
     elim c.if-get.branch [
       | then-get w ↦ record {

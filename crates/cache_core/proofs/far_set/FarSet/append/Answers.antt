@@ -18,8 +18,8 @@ free c = view_free c.args.self.now c.self.inside.capacity c.self.inside.filled
     c.self.inside.rings.items c.self.invariant c.self.view_is c.requires
 
 ring : (c : After-exchange) →
-    c.index_mut.result.now ≡ get_or c.self.inside.rings.items (c.self.inside.filled / 64) []
-ring c = get_or_read c.self.inside.rings.items (c.self.inside.filled / 64)
+    c.index_mut.result.now ≡ get_or c.self.inside.rings.items (c.self.inside.filled / 128) []
+ring c = get_or_read c.self.inside.rings.items (c.self.inside.filled / 128)
     c.index_mut.result.now (omega (arith, free c)) c.index_mut.ensures.value []
 
 pub invariant_of-self : goal.invariant_of-self
@@ -32,7 +32,7 @@ invariant_of-self c =
           c.exchange.ensures.new;
       room = omega (
         arith,
-        length-set c.self.inside.rings.items (c.self.inside.filled / 64) c.exchange.new.self,
+        length-set c.self.inside.rings.items (c.self.inside.filled / 128) c.exchange.new.self,
       );
       within = omega arith;
       few = c.self.invariant.few;

@@ -16,8 +16,8 @@ within c = omega (
 )
 
 ring : (c : After-exchange) →
-    c.index_mut.result.now ≡ get_or c.self.inside.rings.items (c.args.at / 64) []
-ring c = get_or_read c.self.inside.rings.items (c.args.at / 64) c.index_mut.result.now
+    c.index_mut.result.now ≡ get_or c.self.inside.rings.items (c.args.at / 128) []
+ring c = get_or_read c.self.inside.rings.items (c.args.at / 128) c.index_mut.result.now
     (omega (arith, within c)) c.index_mut.ensures.value []
 
 pub returns-clause-old : goal.returns-clause-old

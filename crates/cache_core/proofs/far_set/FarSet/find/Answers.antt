@@ -1,4 +1,4 @@
--- A ring has the block, or its 64 slots are passed over.
+-- A ring has the block, or its 128 slots are passed over.
 use Rattle.std.proofs.Common.{◌≡◌, ◌<◌, ◌+◌, ◌*◌, List, [], Some, None, length, take, get_or}
 use Rattle.std.proofs.Common.{ap, arith, ◌∙◌, sym, ltb}
 use Rattle.std.specs.Bool.{then_some}
@@ -40,14 +40,14 @@ returns-in-Some c =
     let i = c.loop-ring.ring-index in
     let found : position_of c.args.block (get_or rings i []) ≡ Some c.in-Some.at =
     sym (ap (position_of c.args.block) (ring at)) ∙ sym c.find.ensures ∙ c.in-Some.is in
-    let index : c.loop-ring.before + c.in-Some.at ≡ 64 * i + c.in-Some.at =
+    let index : c.loop-ring.before + c.in-Some.at ≡ 128 * i + c.in-Some.at =
     omega (arith, c.loop-ring.invariant.before) in
     let whole = c.self.invariant.whole in
     let none = c.loop-ring.invariant.none in
     c.then_some.ensures
     ∙ ap (λ n. then_some (ltb n c.self.inside.filled) n) index
     ∙ found_or_behind c.args.block (slots_of_rings rings) c.self.inside.filled
-    (64 * i + c.in-Some.at)
+    (128 * i + c.in-Some.at)
     (none_before_found c.args.block rings whole i (within at) none c.in-Some.at found)
     (omega (arith, length-slots rings whole))
     (found_there c.args.block rings whole i (within at) none c.in-Some.at found)
@@ -70,7 +70,7 @@ pub returns : goal.returns
 returns c =
     let rings = c.self.inside.rings.items in
     let i = c.loop-ring.ring-index in
-    ends_behind c.args.block (slots_of_rings rings) c.self.inside.filled (64 * i)
+    ends_behind c.args.block (slots_of_rings rings) c.self.inside.filled (128 * i)
     c.loop-ring.invariant.none
     (omega (arith, length-slots rings c.self.invariant.whole))
     (omega (

@@ -6,6 +6,6 @@ use Rattle.cache_core.proofs.far_set.FarSet.find.Given as goal
 
 abbrev pub invariant-loop-ring : goal.invariant-loop-ring
 invariant-loop-ring l = record {
-  before : l.before ≡ 64 * l.ring-index;
-  none : NoneBefore l.block (slots_of_rings l.self-inside.rings.items) (64 * l.ring-index);
+  before : l.before ≡ 128 * l.ring-index;
+  none : NoneBefore l.block (slots_of_rings l.self-inside.rings.items) (128 * l.ring-index);
 }

@@ -11,10 +11,10 @@ returns c =
     let rings = c.self.inside.rings.items in
     let filled = view_filled c.args.self.now c.self.inside.capacity c.self.inside.filled rings
     c.self.invariant c.self.view_is in
-    let room : c.self.inside.filled ≤ 64 * length rings = omega arith in
+    let room : c.self.inside.filled ≤ 128 * length rings = omega arith in
     let lt : c.args.at < c.self.inside.filled = omega arith in
     sym (ap (λ (v : FarSetValue). slice_get v.slots c.args.at) c.self.view_is)
     ∙ read_first rings c.self.inside.filled c.args.at c.index.result.now c.get.result
     c.self.invariant.whole room lt
-    (get_or_read rings (c.args.at / 64) c.index.result.now (omega arith) c.index.ensures [])
+    (get_or_read rings (c.args.at / 128) c.index.result.now (omega arith) c.index.ensures [])
     c.get.ensures

@@ -4,4 +4,4 @@ use Rattle.cache_core.specs.internal.Rings.{free_slot}
 use Rattle.cache_core.proofs.far_set.FarSet.new.Given as goal
 
 abbrev pub invariant-loop-made : goal.invariant-loop-made
-invariant-loop-made l = l.rings.items ≡ replicate l.made (replicate 64 free_slot)
+invariant-loop-made l = l.rings.items ≡ replicate l.made (replicate 128 free_slot)

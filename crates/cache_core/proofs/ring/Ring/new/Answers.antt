@@ -5,4 +5,4 @@ use Rattle.cache_core.proofs.ring.Ring.new.Goals as goal
 
 pub invariant_of-result : goal.invariant_of-result
 unfolding fingerprint_of
-invariant_of-result c = record { within = omega arith; all = refl; same = refl }
+invariant_of-result c = record { within = omega arith; all = refl; all_marks = refl; same = refl }

@@ -1,7 +1,7 @@
 -- The elements behind the index moved down, and the new one is at the end.
 use Rattle.std.proofs.Common.{refl}
-use Rattle.cache_core.proofs.RingLaw.{moved_down}
-use Rattle.cache_core.proofs.ring.bring_back.Goals as goal
+use Rattle.cache_core.proofs.RingTurns.{moved_down}
+use Rattle.cache_core.proofs.ring.shift_down.Goals as goal
 
 pub returns : goal.returns
 returns g c =
