@@ -126,7 +126,8 @@ impl Ring {
     }
 
     /// Puts a slot in front, and takes out the one at an index of the order. Those before that
-    /// index move. If there are many of them, in two parts, those behind it move in their place.
+    /// index move. Where these are half of all or more, and go past the end of the arrays, those
+    /// behind it move instead.
     pub(crate) fn bring(&mut self, at: usize, slot: Slot) -> Slot
         requires { at < 128 }
         ensures taken { slice_get self.old at ≡ Some result }
