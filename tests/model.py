@@ -13,6 +13,7 @@ arguments.
 
 import re
 import sys
+import unicodedata
 from dataclasses import dataclass, field
 
 MAX_LINE = 4096
@@ -587,7 +588,9 @@ def file_text(name):
     except IsADirectoryError:
         raise Fault("line 1: read failed")
     except OSError:
-        raise Fault(f"cannot open {name}")
+        shown = (f"\\x{ord(letter):02x}" if unicodedata.category(letter) == "Cc" else letter
+                 for letter in name)
+        raise Fault(f"cannot open {''.join(shown)}")
 
 
 def main():

@@ -5,6 +5,7 @@ ghost use Rattle.cachesim.specs.declared.faults.ProgramFault.TheVariants.{Argume
 
 use arguments::WordsFault;
 use std::alloc::AllocError;
+use std::fmt;
 use thiserror::Error;
 use trace_core::RunFault;
 
@@ -19,13 +20,31 @@ pub enum ProgramFault {
     NotText,
     /// The file of the trace, of this name, can't be opened.
     #[error("cannot open {0}")]
-    Open(String),
+    Open(FileName),
     /// The program itself found no memory.
     #[error("out of memory")]
     Memory,
     /// The job stopped.
     #[error("{0}")]
     Run(RunFault),
+}
+
+/// The name of a file, as a message shows it: control characters, which a terminal would obey,
+/// stand as `\x` and their number.
+#[derive(Debug, Drop)]
+pub struct FileName(pub String);
+
+impl fmt::Display for FileName {
+    fn fmt<W: fmt::Write>(&self, f: &mut fmt::Formatter<W>) -> fmt::Result {
+        for letter in self.0.chars() {
+            if letter.is_control() {
+                write!(f, "\\x{:02x}", letter as u32)?;
+            } else {
+                f.write_char(letter)?;
+            }
+        }
+        Ok(())
+    }
 }
 
 impl ProgramFault {

@@ -6,7 +6,7 @@ mod faults;
 ghost use Rattle.std.specs.Prelude.{◌≤◌};
 ghost use Rattle.arguments.specs.Job.{max_lines_of};
 
-use crate::faults::ProgramFault;
+use crate::faults::{FileName, ProgramFault};
 use arguments::parse::parse;
 use arguments::{Command, Job, WordsFault};
 use commands::execute::execute;
@@ -62,7 +62,7 @@ fn open_trace(rt: &HostRuntime, name: String) -> Result<File, ProgramFault> {
     match File::open(rt, name.as_str()) {
         Ok(file) => Ok(file),
         Err(error) if error.kind() == ErrorKind::OutOfMemory => Err(ProgramFault::Memory),
-        Err(_) => Err(ProgramFault::Open(name)),
+        Err(_) => Err(ProgramFault::Open(FileName(name))),
     }
 }
 
