@@ -164,7 +164,7 @@ class TheLedger(ToolTest):
             ("crates/cache_core/specs/Geometry.antt", "-- the size in", "-- no size in"),
             ("crates/cache_core/CALLING.md", "16 lines", "15 lines"),
             ("crates/sweep_core/src/pass.rt", moved, r"\1\3\2"),
-            ("crates/sweep_core/src/pass.rt", "fn finest_bits", "fn finest"),
+            ("crates/sweep_core/src/pass.rt", "fn feed_kept", "fn feed_those_kept"),
             (f"crates/{WORKED}", "fn ", "fn other_"), ("tests/limits", "# ", "# Some "),
             ("tests/cases/din.cases", "== din-lru", "== lru-of-din"),
             ("docs/speed.md", "ways", "associativity"), ("docs/PERF.md", "a", "an"),
