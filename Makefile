@@ -27,7 +27,7 @@
 # install and make uninstall put DESTDIR in front of PREFIX, if it is given.
 
 PREFIX ?= /usr/local
-PROGRAM := crates/cachesim/out/cachesim
+BELOW = $(if $(DESTDIR),$(DESTDIR)/)
 
 .PHONY: build demo tools test test-tools strain refusals mutants
 .PHONY: install uninstall deb clean help kit
@@ -60,10 +60,10 @@ mutants: kit build
 	@python3 tests/try-mutants
 
 install: build
-	@package/target install "$(DESTDIR)$(PREFIX)"
+	@package/target install "$(BELOW)$(PREFIX)"
 
 uninstall:
-	@package/target uninstall "$(DESTDIR)$(PREFIX)"
+	@package/target uninstall "$(BELOW)$(PREFIX)"
 
 deb: build
 	@package/target deb

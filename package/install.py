@@ -145,9 +145,9 @@ def install(prefix):
     with tempfile.TemporaryDirectory(prefix="cachesim-install.") as folder, tool.faults_of(prefix):
         tree = pathlib.Path(folder, "tree")
         stage(tree)
-        # tools begin sooner where Python finds what they share compiled
+        # tools begin sooner where Python finds what they share compiled; -s: without the folder
         command = [sys.executable, "-m", "compileall", "-q", "--invalidation-mode", "checked-hash"]
-        subprocess.run([*command, tree / "lib/cachesim"], check=False)
+        subprocess.run([*command, "-s", tree, tree / "lib/cachesim"], check=False)
         put(tree, prefix)
     tool.write_lines([f"installed: {prefix}/bin/cachesim"])
 

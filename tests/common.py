@@ -1,12 +1,14 @@
 """What the scripts of this folder share: arguments, runs of the program, sums of what passed."""
 
 import argparse
+import collections
 import contextlib
 import hashlib
 import os
 import pathlib
 import re
 import resource
+import shlex
 import shutil
 import subprocess
 import sys
@@ -15,8 +17,10 @@ import tempfile
 TOP = pathlib.Path(__file__).resolve().parent.parent
 PROGRAM = TOP / "crates/cachesim/out/cachesim"
 RT = os.environ.get("RT", "rt")
-# how many cases each script of the gate runs, and what its last run had
-SUMS, LEFT = TOP / "tests/sums", TOP / "out/sums"
+# how many cases each script of the gate runs, their names, and what its last run had
+SUMS, NAMES, LEFT = TOP / "tests/sums", TOP / "tests/names", TOP / "out/sums"
+# of what differs in one thing, so many lines are shown
+SHOWN = 20
 # a definition of a specification: a record or data type, or another name
 DEFINITION = re.compile(r"^(?:(?:abbrev|unfoldable|pub) )*(?:(?:record|data) (\w+)|(\w+) :)", re.M)
 
@@ -104,22 +108,32 @@ class Sum:
         self.judge(name, got == wanted, f"wanted {wanted}, got {got}", **given)
 
     def leave(self, script, count):
-        """The line of a script for tests/sums: how many cases it has run, and under which names. It
-        is left in out/sums for tests/ledger --write."""
-        names = f", {sum_of(chr(10).join(sorted(self.names)))}" if self.names else ""
-        ran = f"tests/{script}: {count} cases{names}"
+        """How many cases a script has run, and under which names, as tests/sums and tests/names
+        have it. It is left in out/sums for tests/ledger --write."""
+        names = sorted(collections.Counter(self.names).items())
+        ran = [f"{count} cases", *(f"{name} ({n} times)" if n > 1 else name for name, n in names)]
+        lines = [f"tests/{script}: {it}" for it in ran]
         with contextlib.suppress(OSError):
             LEFT.mkdir(parents=True, exist_ok=True)
-            (LEFT / script).write_text(f"{ran}\n")
-        return ran
+            (LEFT / script).write_text("".join(f"{line}\n" for line in lines))
+        return lines
 
     def keep(self, script, count):
-        """Compares what a script has run with its line in tests/sums: a case that is lost fails."""
-        ran = self.leave(script, count)
-        kept = kept_sums().get(f"tests/{script}", "nothing")
-        if f"tests/{script}: {kept}" != ran:
-            told = f"kept is {kept}; after a look, tests/ledger --write keeps what was run"
-            self.judge(ran, False, told)
+        """Compares what a script has run with what is kept of it: a case that is lost fails."""
+        kept = [*lines_of(SUMS), *lines_of(NAMES)]
+        own = [line for line in kept if begin_of(line) == f"tests/{script}"]
+        self.compare(own, self.leave(script, count))
+
+    def compare(self, kept, lines):
+        """Compares lines with those that are kept: for what begins in the same way, says what was
+        and what is, and how it is renewed."""
+        for begin, (was, now) in changes(kept, lines).items():
+            told = [f"after a look, tests/ledger --write {shlex.quote(begin)} keeps what is"]
+            for word, ones in ("was", was), ("is", now):
+                said = [line.removeprefix(f"{begin}: ") for line in ones] or ["nothing"]
+                more = [f"and {len(said) - SHOWN} more"] if len(said) > SHOWN else []
+                told += [f"    {word}: {it}" for it in said[:SHOWN] + more]
+            self.judge(begin, False, "\n".join(told))
 
     def end(self, script=None):
         """Prints the last line, and returns the exit status: 1 also where nothing was tested. A
@@ -133,11 +147,23 @@ class Sum:
         return 1 if self.failed else 0
 
 
-def kept_sums():
-    """What tests/sums keeps of the runs of each script."""
-    lines = SUMS.read_text().splitlines() if SUMS.exists() else ()
-    ran = (line for line in lines if re.match(r"tests/[\w-]+: \d+ cases", line))
-    return dict(line.split(": ", 1) for line in ran)
+def lines_of(path):
+    return path.read_text().splitlines() if path.exists() else []
+
+
+def begin_of(line):
+    """What a kept line is about."""
+    return line.partition(": ")[0]
+
+
+def changes(kept, lines):
+    """By how lines begin, those that are kept and are no more, and those that are new."""
+    found, before, after = {}, set(kept), set(lines)
+    for at, ones, others in ((0, kept, after), (1, lines, before)):
+        for line in ones:
+            if line not in others:
+                found.setdefault(begin_of(line), ([], []))[at].append(line)
+    return found
 
 
 def sum_of(text):

@@ -65,8 +65,10 @@ class Check:
     def __init__(self, ran, crate):
         lines = (ran.stdout + ran.stderr).strip().split("\n")
         verdict = next((line for line in reversed(lines) if line.startswith("logic=")), "")
-        self.is_proved = verdict.startswith("logic=proved")
-        self.unread = not_read(lines) or ("" if verdict else lines[-1])
+        is_proved = verdict.startswith("logic=proved")
+        self.is_proved = is_proved and not ran.returncode
+        is_judged = verdict and is_proved == self.is_proved
+        self.unread = not_read(lines) or ("" if is_judged else lines[-1])
         self.goals, self.stored, self.gone = {}, {}, []
         for line in ran.stdout.split("\n"):
             if found := IN_CODE.match(line):

@@ -96,6 +96,25 @@ class Installing(MakeTest):
             self.assertEqual((ran.returncode, ran.stdout.splitlines()[-1]), (0, told), ran.stderr)
         self.assertEqual(self.below(), [])
 
+    def test_a_prefix_that_is_relative(self):
+        """It is below DESTDIR, or else where make is called. None is no prefix, and the repository
+        is not one."""
+        self.few_tools()
+        for words, to in ((f"DESTDIR={self.to}", "PREFIX=usr"), self.to / "usr"), (
+                ("PREFIX=some/place",), self.top / "some/place"):
+            ran = self.make("install", *words, env=self.path)
+            told = f"installed: {to}/bin/cachesim"
+            self.assertEqual((ran.returncode, ran.stdout.splitlines()[-1]), (0, told), ran.stderr)
+            self.assertEqual(self.make("uninstall", *words, env=self.path).returncode, 0)
+            self.assertFalse(to.exists())
+        before = sorted(self.top.rglob("*"))
+        for target in "install", "uninstall":
+            for prefix, told in ("", "and none is given"), (".", "not the repository"):
+                ran = self.make(target, f"PREFIX={prefix}", env=self.path)
+                said = f"target: {target} takes a folder, the PREFIX of make, {told}"
+                self.assertEqual((ran.returncode, ran.stderr.split("; ")[0]), (2, said))
+        self.assertEqual(sorted(self.top.rglob("*")), before)
+
     def test_what_was_there_stays(self):
         self.few_tools()
         for name in ("usr/bin/other", "usr/lib/cachesim/mine"):
@@ -198,7 +217,10 @@ class Installed(ToolTest):
             ran = self.run_command(link, "--help", env=env)
             self.assertEqual(ran.returncode, 0, ran.stderr)
         # Python has compiled what they share, and leaves no other files there
-        self.assertTrue((installed() / "lib/cachesim/lib/__pycache__").exists())
+        compiled = [*(installed() / "lib").rglob("*.pyc")]
+        self.assertTrue(compiled)
+        for path in compiled:
+            self.assertNotIn(b"cachesim-install.", path.read_bytes())
         self.assertEqual(self.below(), there)
 
     def test_tools_find_the_program_beside_them(self):

@@ -11,6 +11,7 @@ from base import PROGRAM, TOP, ToolTest, script
 ROWS, WORKED = "cache_core/proofs/WindowRows.antt", "worked_examples/src/profiles.rt"
 EDIT = "crates/sweep_core/must-fail/named_row_again.edit"
 READ, TASK, LAWS = "trace_core/src/io.rt", "trace_core/specs/Task.antt", "sweep_core/src/laws.rt"
+AGAIN = "after a look, tests/ledger --write"
 FLUSHED = "  pub flushes : sink'.flushes ≡ one_more sink.flushes\n"
 
 
@@ -22,30 +23,40 @@ class TheLedger(ToolTest):
     def copy(self):
         """A copy of the contracts, the ledger, and what it counts."""
         ignored = shutil.ignore_patterns("out")
-        for name in ("crates", "tests/cases", "tests/mutants"):
+        for name in ("crates", "tests/cases", "tests/mutants", "docs", "tools/lab"):
             shutil.copytree(TOP / name, self.folder / name, ignore=ignored, dirs_exist_ok=True)
-        for name in ("tests/ledger", "tests/common.py", "tests/documents.py", "docs/proofs.md",
-                     "docs/cookbook.md", "docs/PERF.md", "docs/speed.md", "README.md", "HANDLES",
-                     ".ci/run"):
+        for name in ("tests/ledger", "tests/common.py", "tests/documents.py", "tests/limits",
+                     "README.md", "HANDLES", "Makefile", ".ci/run", "tests/names", "tests/sums"):
             (self.folder / name).parent.mkdir(exist_ok=True)
             shutil.copy(TOP / name, self.folder / name)
-        self.assertEqual(self.run_command(self.folder / "tests/ledger", "--write").returncode, 0)
+        self.assertEqual(self.ledger("--write")[0], 0)
 
-    def fails_after(self, file, old, new, text):
-        """One change, which must be seen and told so."""
-        path = self.folder / "crates" / file
+    def ledger(self, *words):
+        """Its status and what it writes."""
+        ran = self.run_command(self.folder / "tests/ledger", *words)
+        return ran.returncode, ran.stdout.decode()
+
+    @contextlib.contextmanager
+    def changed(self, file, old, new):
+        """One change, which is undone."""
+        path = self.folder / file
         before = path.read_text()
         changed = re.sub(old, new, before, count=1, flags=re.S)
         self.assertNotEqual(changed, before)
         path.write_text(changed)
-        ran = self.run_command(self.folder / "tests/ledger")
-        self.assertEqual(ran.returncode, 1)
-        self.assertRegex(ran.stdout.decode(), text)
+        yield
         path.write_text(before)
+
+    def fails_after(self, file, old, new, text):
+        """One change, which must be seen and told so."""
+        with self.subTest(file=file, old=old), self.changed(f"crates/{file}", old, new):
+            status, told = self.ledger()
+            self.assertEqual(status, 1)
+            self.assertRegex(told, text)
 
     def test_changes_of_contracts(self):
         self.copy()
-        passed, again = r"ensures passed \{ ReadConsumes", "new or changed"
+        passed, again = r"ensures passed \{ ReadConsumes", AGAIN
         self.fails_after(READ, passed, "ensures moved { ReadConsumes",
                          "FAILED FromRead::read.passed: there is no")
         self.fails_after(TASK, re.escape(FLUSHED), FLUSHED.replace("≡", "≤"),
@@ -75,9 +86,10 @@ class TheLedger(ToolTest):
         """A clause's words may mean another thing: by a view, a constant, an import, a comment."""
         self.copy()
         self.fails_after(READ, r"W\.contents s\.writer else None", "None else None",
-                         "FAILED trace_core.io: new or changed")
+                         f"FAILED trace_core.io: {AGAIN}")
         self.fails_after("trace_core/src/limits.rt", "1_099_511_627_776", "1_099_511_627_775",
-                         "FAILED trace_core.limits MAX_LINES: new")
+                         r"FAILED trace_core.limits MAX_LINES: .*\n"
+                         r"    was: 1_099_511_627_776\n    is: 1_099_511_627_775\n")
         some = r"OnOk}\nuse Rattle.trace_core.proofs.Runs.{IfSome}"
         self.fails_after(TASK, r"IfSome, OnOk\}", some, "FAILED trace_core.Task: IfSome")
         self.fails_after(READ, "^", "ghost use Rattle.trace_core.proofs.Runs.{a_lemma};\n",
@@ -91,7 +103,8 @@ class TheLedger(ToolTest):
         self.fails_after("sweep_core/src/sweep.rt", work, r"    /*\n\1    */\n{",
                          "FAILED sweep.work: there is no such clause")
         size = r" +ensures \{ result ≡ size_of self\.now \}\n"
-        self.fails_after("cache_core/src/geometry.rt", size, "", "cache_core::Geometry::size: gone")
+        self.fails_after("cache_core/src/geometry.rt", size, "", r"cache_core::Geometry::size: .*\n"
+                         r"    was: result ≡ size_of self.now\n    is: nothing\n")
 
     def test_clauses_that_no_row_names(self):
         """They are as they were, those of a function that nobody may call from outside too."""
@@ -103,62 +116,85 @@ class TheLedger(ToolTest):
              "cache_core.simulation"),
             ("trace_core/src/line.rt", r"ensures meant \{[^}]*\}\n", "trace_core.line"),
         ):
-            self.fails_after(file, old, "", f"FAILED {name}: new or changed")
+            self.fails_after(file, old, "", f"FAILED {name}: {AGAIN}")
         self.fails_after("callers/src/policies.rt", r"ensures ", "requires ",
-                         "FAILED crates/callers: new or changed")
+                         f"FAILED callers.policies: {AGAIN}")
 
     def test_what_is_counted(self):
-        """A file of cases, a case, a worked row of each kind, a mutant, a condition are missed."""
+        """A file of cases, a case, a worked row of each kind, an edit, a control, a command of a
+        document are missed."""
         self.copy()
-        for name, of in (("tests/cases/log.cases",) * 2, (EDIT, EDIT.rpartition("/")[0])):
+        for name, of in (("tests/cases/log.cases",) * 2, (EDIT, "crates/sweep_core")):
             path = self.folder / name
             path.rename(self.folder / "away")
-            ran = self.run_command(self.folder / "tests/ledger")
-            self.assertEqual(ran.returncode, 1)
-            self.assertIn(f"FAILED {of}: gone or changed", ran.stdout.decode())
+            status, told = self.ledger()
+            self.assertEqual(status, 1)
+            self.assertIn(f"FAILED {of}: {AGAIN} {of} ", told)
             (self.folder / "away").rename(path)
-        # a mutant that has the name of another change, and another number in a case
-        self.fails_after(f"../{EDIT}", "old: ", "old:  ", "FAILED crates/sweep_core/must-fail: new")
-        self.fails_after("../tests/cases/din.cases", "fetches=0", "fetches=1",
-                         "FAILED tests/cases/din.cases: new")
-        self.fails_after("../tests/cases/din.cases", r"== din-lru\n.*?\n\n", "",
-                         "FAILED tests/cases/din.cases: new")
-        left_out = "\n\n<!-- not run: slow -->\n\n    $ "
-        self.fails_after("../docs/cookbook.md", r"\n\n    \$ ", left_out,
-                         "FAILED docs/cookbook.md: new")
-        self.fails_after("../docs/proofs.md", r"Feeding never fails \|.*?\n", "",
-                         "FAILED docs/proofs.md: new")
-        for file, old, new in (
-            ("HANDLES", "none", "Threads"), (".ci/run", "exec make .*", "exec tests/run"),
-            ("tests/documents.py", "if matches", "if True or matches"),
-            ("README.md", "exactly one row", "one row"), ("docs/speed.md", "ways", "way"),
-            ("docs/PERF.md", "1.63", "1.64"),
-            ("crates/cache_core/CALLING.md", "16 lines", "15 lines"),
+        out_of_it = "\n\n<!-- not run: slow -->\n\n    $ "
+        for file, old, new, told in (
+            ("tests/cases/din.cases", r"== din-lru\n.*?\n\n", "", "was: 159 cases\n    is: 158"),
+            (EDIT, "^(.*)right: .*?\n", r"\1", "16 edits, 15 controls"),
+            ("docs/cookbook.md", r"\n\n    \$ ", out_of_it, "FAILED docs/cookbook.md: "),
+            (f"crates/{ROWS}", r"nine_held : .*?refl\n", "", "FAILED crates/cache_core: "),
+            (f"crates/{WORKED}", r"#\[test\]\n", "", "FAILED crates/worked_examples: "),
+            ("tests/mutants/options.edits", "goal: ", "none: ", "was: 9 mutants\n    is: 8"),
         ):
-            self.fails_after(f"../{file}", old, new, f"FAILED {file}: new")
-        self.fails_after("cache_core/src/geometry.rt", "/// ", "/// Not ",
-                         "FAILED crates/cache_core/src: new")
-        self.fails_after("cache_core/specs/Geometry.antt", "-- the size in", "-- no size in",
-                         "FAILED crates/cache_core/specs: new")
-        rows = f"FAILED crates/{ROWS}: new or changed"
-        self.fails_after(ROWS, r"nine_held : .*?refl\n", "", rows)
-        held = r"(nine_held : .*?) ∷ 5 ∷ \[\]\) ≡ 1 ∷ 3 ∷ 4"
-        self.fails_after(ROWS, held, r"\1 ∷ []) ≡ 1 ∷ 3", rows)
-        worked = f"FAILED crates/{WORKED}: new or changed"
-        self.fails_after(WORKED, r"#\[test\]\n", "", worked)
-        probes = r"profile\.probes\(\)\.saturating_sub\(before\) == \*wanted"
-        self.fails_after(WORKED, probes, "true", worked)
+            self.fails_after(f"../{file}", old, new, told)
+
+    def test_what_is_promised(self):
+        """The words of a promise, of a definition, of what the gate runs are shown."""
+        self.copy()
+        for file, old, new, told in (
+            ("docs/proofs.md", r"Feeding never fails \|.*?\n", "", "was: Feeding never fails"),
+            ("README.md", "exactly one row", "one row", "is: a sweep .* header, and one row for"),
+            ("docs/definitions.md", "below E\\.", "up to E.", "is: .* has a distance up to E"),
+            ("HANDLES", "none", "Threads", "is: Handles allowed: Threads"),
+            (".ci/run", "exec make .*", "exec tests/run", "is: cd .* exec tests/run"),
+            ("Makefile", "python3 tests/all", "true tests/all", "is: test: kit; @true tests/all"),
+        ):
+            self.fails_after(f"../{file}", old, new, rf"FAILED {re.escape(file)}: (?s:.*){told}")
+
+    def test_harmless_changes(self):
+        """A comment, a word of a page, what moves, another name: these need no second file."""
+        self.copy()
+        moved = r"(\n\}\n)(.*?fn finest_bits.*?\n\}\n)(.*)\Z"
+        for file, old, new in (
+            ("crates/cache_core/src/geometry.rt", "/// ", "/// Not "),
+            ("crates/cache_core/specs/Geometry.antt", "-- the size in", "-- no size in"),
+            ("crates/cache_core/CALLING.md", "16 lines", "15 lines"),
+            ("crates/sweep_core/src/pass.rt", moved, r"\1\3\2"),
+            ("crates/sweep_core/src/pass.rt", "fn feed_kept", "fn feed_those_kept"),
+            (f"crates/{WORKED}", "fn ", "fn other_"), ("tests/limits", "# ", "# Some "),
+            ("tests/cases/din.cases", "== din-lru", "== lru-of-din"),
+            ("docs/speed.md", "ways", "associativity"), ("docs/PERF.md", "a", "an"),
+            ("docs/definitions.md", "reference hits if", "reference\nhits if"),
+            ("Makefile", "puts it, tools", "puts tools"), (EDIT, "old: ", "old:  "),
+        ):
+            with self.subTest(file=file), self.changed(file, old, new):
+                status, told = self.ledger()
+                self.assertEqual(status, 0, told[-500:])
 
     def test_a_change_is_acknowledged(self):
+        """Only what is named is renewed, and shown; without a name all."""
         self.copy()
         path = self.folder / "crates" / TASK
         text = path.read_text().replace(FLUSHED, FLUSHED.replace("≡", "≤"))
-        path.write_text(text.replace("-- it finished", "-- it came to its end"))
-        for words in (["--write"], []):
-            ran = self.run_command(self.folder / "tests/ledger", *words)
-            self.assertEqual(ran.returncode, 0)
-        clauses = (self.folder / "tests/clauses").read_text()
-        self.assertIn("trace_core::Finished.flushes: sink'.flushes ≤", clauses)
+        path.write_text(text)
+        readme = self.folder / "README.md"
+        readme.write_text(readme.read_text().replace("exactly one row", "one row"))
+        status, told = self.ledger("--write", "trace_core")
+        self.assertEqual(status, 1)
+        flushed = "trace_core::Finished.flushes: sink'.flushes"
+        self.assertIn(f"\n-{flushed} ≡ one_more sink.flushes\n", told)
+        self.assertIn(f"\n+{flushed} ≤ one_more sink.flushes\n", told)
+        self.assertEqual(re.findall("FAILED .*?:", told), ["FAILED README.md:"])
+        self.assertIn(f"{flushed} ≤", (self.folder / "tests/clauses").read_text())
+        self.assertEqual(self.ledger("--write", "README", "docs/")[0], 0)
+        self.assertEqual(self.ledger()[0], 0)
+        ran = self.run_command(self.folder / "tests/ledger", "--write", "readme")
+        self.assertEqual(ran.returncode, 2)
+        self.assertIn(b"no line begins with readme", ran.stderr)
 
 
 class Sums(ToolTest):
@@ -167,7 +203,8 @@ class Sums(ToolTest):
     def setUp(self):
         super().setUp()
         self.common = script("common.py")
-        self.common.SUMS, self.common.LEFT = self.folder / "sums", self.folder / "out"
+        self.common.SUMS, self.common.NAMES = self.folder / "sums", self.folder / "names"
+        self.common.LEFT = self.folder / "out"
 
     def ended(self, *names, failed=0, script="limits"):
         """The status of a script that has run cases of these names."""
@@ -182,10 +219,11 @@ class Sums(ToolTest):
     def test_a_case_that_is_lost(self):
         status, told = self.ended("one", "at most 2")
         self.assertEqual(status, 1)
-        self.assertIn("FAILED tests/limits: 2 cases, ", told)
-        shutil.copy(self.folder / "out/limits", self.folder / "sums")
+        self.assertIn("FAILED tests/limits: after a look, tests/ledger --write tests/limits keeps "
+                      "what is\n    was: nothing\n    is: 2 cases\n    is: at most 2\n", told)
+        shutil.copy(self.folder / "out/limits", self.folder / "names")
         self.assertEqual(self.ended("at most 2", "one"), (0, "2 passed, 0 failed\n"))
-        for names in ("one",), ("one", "at most 2", "three"), ("one", "at most 3"):
+        for names in ("one",), ("one", "at most 2", "three"), ("one", "at most 3"), ("one",) * 2:
             self.assertEqual(self.ended(*names)[0], 1)
         self.assertEqual(self.ended(), (1, "FAILED: nothing was tested\n0 passed, 1 failed\n"))
         # of a run of some cases, or one that has failed, nothing is compared or left
@@ -216,21 +254,26 @@ class Sums(ToolTest):
             (self.folder / "tests").mkdir(exist_ok=True)
             shutil.copy(TOP / "tests" / name, self.folder / "tests")
         self.write("tests/sums", "tests/run: 3 cases\ntests/limits: 9 cases\n")
+        self.write("tests/names", "tests/run: three\ntests/limits: nine\n")
         (self.folder / "tests/cases/inputs").mkdir(parents=True)
         self.write("tests/cases/one.cases", "== one\n$ cachesim --help\n>~ sweep\n")
-        (self.folder / "examples").mkdir()
+        for name in ("examples", "docs", ".ci"):
+            (self.folder / name).mkdir()
+        for name in ("README.md", "Makefile", "HANDLES", ".ci/run", "docs/definitions.md"):
+            shutil.copy(TOP / name, self.folder / name)
+        self.write("docs/proofs.md", "## Promises\n")
         run = self.folder / "tests/run", "--program", PROGRAM
-        one = f"tests/run: 1 cases, {self.common.sum_of('one')}"
         ran = self.run_command(*run)
         self.assertEqual(ran.returncode, 1)
-        told = (f"FAILED {one}: kept is 3 cases; after a look, tests/ledger --write keeps what was "
-                "run\n1 passed, 1 failed\n")
+        told = ("FAILED tests/run: after a look, tests/ledger --write tests/run keeps what is\n"
+                "    was: 3 cases\n    was: three\n    is: 1 cases\n    is: one\n"
+                "1 passed, 1 failed\n")
         self.assertEqual(ran.stdout.decode(), told)
-        (self.folder / "docs").mkdir()
-        self.write("docs/proofs.md", "## Promises\n")
-        self.assertEqual(self.run_command(self.folder / "tests/ledger", "--write").returncode, 0)
-        kept = (self.folder / "tests/sums").read_text().splitlines()
-        self.assertEqual(kept[:2], ["tests/limits: 9 cases", one])
+        ledger = self.folder / "tests/ledger", "--write"
+        self.assertEqual(self.run_command(*ledger).returncode, 0)
+        for name, kept in (("sums", ["tests/limits: 9 cases", "tests/run: 1 cases"]),
+                           ("names", ["tests/limits: nine", "tests/run: one"])):
+            self.assertEqual((self.folder / "tests" / name).read_text().splitlines()[:2], kept)
         self.assertEqual(self.run_command(*run).returncode, 0)
         self.assertEqual(self.run_command(*run, "one").returncode, 0)
         # another case of the same file in its place

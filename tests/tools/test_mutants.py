@@ -40,6 +40,7 @@ grep -q 'number / 3' src/lib.rt && said=mutant
 grep -q 'number >> 1' src/lib.rt && said=control
 [ $said != mutant ] || [ -e proofs/lib/Half/of/Answers.antt ] || said=alone
 cat -- "$STAND_IN/$said"
+[ ! -e "$STAND_IN/status-$said" ] || exit "$(cat -- "$STAND_IN/status-$said")"
 ! grep -q '^logic=not' "$STAND_IN/$said"
 """
 
@@ -265,6 +266,16 @@ class Mutants(ToolTest):
         gate.rename(gate.with_stem("half"))
         self.tried(IN_CODE + REFUSED, "--controls")
         self.assertRegex((self.top / "tests/controls").read_text(), r"^low half: \w+\n$")
+
+    def test_each_status_but_0_is_a_failure(self):
+        """Whatever rt says before it."""
+        for wrong in "1", "3":
+            self.write("status-control", wrong)
+            self.assertRegex(self.of_control(PROVED), f"^FAILED .* the prover: {PROVED.strip()}$")
+        for wrong in "1", "3":
+            self.write("status-whole", wrong)
+            lines, status = self.tried(IN_CODE + REFUSED)
+            self.assertEqual((lines[1], status), ("0 passed, 1 failed", 1))
 
     def test_a_change_without_its_right(self):
         """It is in the control as it is in the mutant."""
