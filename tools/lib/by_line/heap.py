@@ -4,12 +4,13 @@ place of the program that allocates, or memory of a kind."""
 import array
 import re
 
-from lib import tool
+from lib import regular, tool
 from lib.by_line import elf
 
 # trace-heap-run.h explains them
 LINE = re.compile(
     rb"([0-9a-f]{1,16}) (?:end|([-+<>mstu]) ([0-9a-f]{1,12})((?: [0-9a-f]{1,16})*))\n")
+LONGEST_LINE = 512  # of an address has up to 17 letters, and there are 16 frames
 # by the letter of their lines; a block that is freed is the allocator's, as that of 'm'
 KINDS = {b"u": "(other)", b"m": "(malloc)", b"s": "(thread stacks)", b"t": "(thread-local)"}
 OTHER, MALLOC, TOP = 0, 1, 1 << 48
@@ -28,8 +29,8 @@ class Heap:
         self.events, self.callers, self.blocks, end = array.array("Q"), {}, {}, None
         self.moving = set()  # those that realloc copies from
         self.kinds = {kind: number for number, kind in enumerate(KINDS)}
-        with tool.faults_of(path), open(path, "rb") as lines:
-            for number, line in enumerate(lines, 1):
+        with tool.faults_of(path), regular.opened(path) as file:
+            for number, line in enumerate(iter(lambda: file.readline(LONGEST_LINE), b""), 1):
                 found = LINE.fullmatch(line)
                 if end is not None or not found:
                     tool.fail(f"{path}: line {number} is none of `trace --heap`")
