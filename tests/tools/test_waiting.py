@@ -2,7 +2,6 @@
 that is: it ends soon, with its answer or one line that names the file."""
 
 import os
-import shutil
 import socket
 
 import base
@@ -37,7 +36,7 @@ class Waiting(base.ToolTest):
         self.write("plain.c", SOURCE)
         self.write("lined.c", f'#line 1 "X"\n{SOURCE}')
         for words in ("cc -no-pie -g -o plain plain.c", "cc -no-pie -g -o lined lined.c",
-                      "cc -no-pie -gsplit-dwarf -c -o split.o plain.c", "rm split.dwo",
+                      "cc -no-pie -g -gsplit-dwarf -c -o split.o plain.c", "rm split.dwo",
                       "cc -no-pie -o split split.o", "mkdir .debug", "cp plain X",
                       "objcopy --strip-all --add-gnu-debuglink=X plain linked", "rm X"):
             self.good(self.run_command(*words.split()))
@@ -47,7 +46,6 @@ class Waiting(base.ToolTest):
         self.executable("script", "").write_text(f"#!{self.folder}/X\n")
 
     def put(self, kind, place):
-        """Something of a kind, and who holds it until the end of the test."""
         if kind == "pipe":
             os.mkfifo(place)
         elif kind == "device":
@@ -65,13 +63,16 @@ class Waiting(base.ToolTest):
         for name, words, faults in WAYS:
             for kind in ALL:
                 with self.subTest(words=words, name=name, kind=kind):
-                    self.judge(kind, self.folder / name, words.split(), kind in faults)
+                    place = self.folder / name
+                    self.put(kind, place)
+                    try:
+                        self.judge(place, words.split(), kind in faults)
+                    finally:
+                        place.rmdir() if kind == "folder" else place.unlink()
 
-    def judge(self, kind, place, words, is_fault):
+    def judge(self, place, words, is_fault):
         caches = base.cache(64, 16) if words[0] == "by-line" else ()
-        # options come before the program of trace
-        self.put(kind, place)
-        ran = self.run_tool(*words, *caches, seconds=20)
+        ran = self.run_tool(*words, *caches, seconds=60)
         told = ran.stderr.decode()
         self.assertEqual(ran.returncode != 0, is_fault, told)
         self.assertLessEqual(told.count("\n"), 1, told)
@@ -80,4 +81,3 @@ class Waiting(base.ToolTest):
             self.assertEqual((is_named, ran.stdout), (True, b""), told)
         else:
             self.assertEqual(ran.stdout.split(b",")[0], b"line", told)
-        shutil.rmtree(place) if kind == "folder" else place.unlink()
