@@ -350,6 +350,7 @@ class Faults(ByLineTest):
         absent, some = "No such file or directory\n", b"0 1\n"
         by = "argument --by: 'lines' is not one or more of line, function and object"
         empty = "an empty map; if the trace comes through a pipe"
+        self.write("empty.map", "")
         self.write("bad.map", "1000-2000 rw-p 00000000 00:00 0\n1000-2000 rw-p\n")
         for words, status, fault, *text in (
             ("-t x", 2, "the trace is the first argument"),
@@ -364,7 +365,7 @@ class Faults(ByLineTest):
             ("--callgrind - --map ./-", 2, "--callgrind and --map are one file"),
             ("--callgrind - --by site --heap ./-", 2, "--callgrind and --heap are one file"),
             ("--map none", 1, f"none: {absent}"),
-            ("--map /dev/null", 1, f"/dev/null: {empty}", some),
+            ("--map empty.map", 1, f"empty.map: {empty}", some),
             ("--map bad.map", 1, "bad.map: line 2 is none of a map\n"),
             ("--program none", 1, "none: no ELF program that can be read\n"),
         ):

@@ -6,12 +6,35 @@ import shutil
 
 import base
 import trace_base
-from trace_base import TRACED, program_of
+from trace_base import TRACED, program_of, symbols_of, within
 
 OPTIONS = "--map", "heap.map", "--heap", "heap", "-o", "heap.din"
 CACHE = base.cache("1m", 8)  # a miss for each 8 bytes that are new
 COUNTS = "references", "misses", "compulsory", "capacity", "conflict"
 REGIONS = "(other)", "(malloc)", "(thread stacks)", "(thread-local)"
+# references, what befell the heap before which of them, and how many there are to whose block
+MOVES = (
+    ("500000 500000 500100 500100 500000",
+     "0 + 500000 20 {main}, 1 < 500000, 1 + 500100 40 {pass}, 4 > 500000",
+     {"main": 2, "pass": 2, "malloc": 1}),
+    # it grows where it is
+    ("500000 500018 500028 500018",
+     "0 + 500000 20 {main}, 1 < 500000, 1 + 500000 40 {pass}, 3 > 500000", {"main": 1, "pass": 3}),
+    # others get the memory as it is freed: a part of it, one that begins there, another mapping
+    ("500000 500010 500018 500000 500018",
+     "0 + 500000 20 {main}, 0 < 500000, 2 + 500018 8 {pass}, 4 > 500000",
+     {"main": 2, "pass": 2, "malloc": 1}),
+    ("500000 500000 500000 500000",
+     "0 + 500000 20 {main}, 0 < 500000, 1 + 500000 8 {pass}, 2 > 500000, 3 - 500000",
+     {"main": 1, "pass": 2, "malloc": 1}),
+    ("500000 500000 500000",
+     "0 + 500000 20 {main}, 0 < 500000, 1 u 500000 1000, 2 > 500000", {"main": 1, "other": 2}),
+    # it fails, and then it is freed, or moved
+    ("500000 500000 500000",
+     "0 + 500000 20 {main}, 0 < 500000, 2 - 500000", {"main": 2, "malloc": 1}),
+    ("500000 500000 500000",
+     "0 + 500000 20 {main}, 0 < 500000, 1 < 500000, 2 > 500000", {"main": 2, "malloc": 1}),
+)
 SHOWS = """\
 #include <stdio.h>
 extern char **environ;
@@ -76,7 +99,7 @@ class HeapTest(trace_base.TraceTest):
             events[int(at, 16)].append((kind, [int(number, 16) for number in numbers]))
         for at, line in enumerate(self.lines_of("heap.din")):
             for kind, (address, *rest) in events[at]:
-                if kind in "+-":
+                if kind in "+->":
                     places -= set(starts.pop(address, ()))
                 if kind == "+":
                     starts[address] = range(address // 8, (address + rest[0] + 7) // 8)
@@ -99,9 +122,10 @@ class Known(HeapTest):
                 self.assertEqual({mark: found[site(source, mark)] for mark in wanted}, wanted)
                 # each word of points that malloc gave from new memory
                 self.assertEqual(misses[site(source, "array")], 200)
-                # calloc clears 3, and realloc copies 24 bytes as 4 words
+                # calloc clears 3, and realloc copies 24 bytes as 4 words, and frees them, for
+                # which the allocator reads a word and writes two
                 resized = [found[site(source, mark)] for mark in ("small", "large")]
-                self.assertEqual(resized, [3 + 3, 4 + 9])
+                self.assertEqual(resized, [3 + 3 + 4 + 3, 4 + 9])
                 others = sum(found.get(name, 0) for name in REGIONS)
                 self.assertEqual(sum(found.values()) - others, self.counted_plainly())
 
@@ -114,6 +138,47 @@ class Known(HeapTest):
         self.write("heap.map", f"400000-401000 r-xp 0 0:0 0 {self.folder}/heap.din\n")
         self.assertEqual(self.sites(), {"(other)": 2, "(?)": 3, "(malloc)": 1, "(thread stacks)": 1,
                                         "(thread-local)": 1})
+
+    def test_moved(self):
+        """Of pvalloc, and what realloc moves, fails to give, and leaves where it is."""
+        source = TRACED / "moves.c"
+        program = program_of(source, "-g")
+        ran = self.trace(*OPTIONS, program)
+        self.assertEqual((ran.returncode, ran.stderr), (0, b""))
+        found = self.sites()
+        # the longer one has what was the size of the free memory behind, which realloc reads
+        wanted = {"pages": 5 + 3, "kept": 3 + 7, "last": 9, "longer": 1 + 2, "mapped": 8,
+                  "remapped": 11}
+        self.assertEqual({mark: found[site(source, mark)] for mark in wanted}, wanted)
+        # each time from before the program's own references to when realloc has returned
+        data = [at for label, at in self.lines("\n".join([*self.lines_of("heap.din"), ""]))
+                if label != "2"]
+        steps, _ = symbols_of(program)["steps"]
+        until = [data.index(steps + number) for number in range(2)]
+        for mark, start, size, own in zip(("old", "large"), ran.stdout.split(), (4000, 9000),
+                                          (6, 0)):
+            place = int(start, 16), size
+            meanwhile = sum(within(place, at) for at in data[until[0]:until[1]])
+            self.assertGreater(meanwhile, own + 4000 // 32)
+            behind = sum(within(place, at) for at in data[until[1]:])
+            self.assertEqual(found[site(source, mark)], meanwhile + behind * (mark == "large"))
+
+    def test_moved_by_hand(self):
+        """What realloc copies from is there until it returns, or another thread gets the memory;
+        if it fails, as before."""
+        program = program_of(TRACED / "hands.c")
+        places = {name: f"{symbols_of(program)[name][0] + 1:x}" for name in ("main", "pass")}
+        for references, events, wanted in MOVES:
+            with self.subTest(events):
+                references = references.split()
+                self.write("heap.din", "2 400000\n" + "".join(f"0 {at}\n" for at in references))
+                lines = [*events.format(**places).split(", "), f"{len(references)} end"]
+                self.write("heap", "".join(
+                    f"{int(line[0]) + 1}{line[1:]}\n" for line in lines))  # behind the fetch
+                words = "heap.din", "--program", program, "--by", "site", "--heap", "heap", *CACHE
+                rows = csv.DictReader(self.good(self.run_tool("by-line", *words)).splitlines())
+                found = {row["site"].strip("()"): int(row["references"]) for row in rows}
+                self.assertEqual(found, wanted)
 
     def test_sums(self):
         """The rows of the heap are together as without sites; all others are the same."""

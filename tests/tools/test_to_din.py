@@ -377,7 +377,10 @@ class Faults(ToDin):
         see = "; 'to-din --help' explains the arguments\n"
         for words in ("", "pin a b"):
             self.faulty(words, "one file", see, status=2)
-        self.faulty("valgrind", "to-din: valgrind is no format", see, status=2)
+        for words in ("valgrind", "perf missing", "missing"):
+            form = words.partition(" ")[0]
+            told = f"to-din: {form} is no format; there are pin, champsim, dinero, "
+            self.faulty(words, told, see, status=2)
         for name in ("missing", "missing.gz"):
             self.faulty(f"pin {name}", f"{name} can't be read")
         for form, unit in ("pin", "line"), ("champsim", "record"):

@@ -5,7 +5,7 @@ import os
 import re
 import zlib
 
-from lib import processes, tool
+from lib import processes, regular, tool
 
 # of programs for other machines the prefix of their binutils
 PREFIXES = {40: "arm-linux-gnueabihf", 183: "aarch64-linux-gnu", 243: "riscv64-linux-gnu"}
@@ -13,6 +13,10 @@ PREFIXES = {40: "arm-linux-gnueabihf", 183: "aarch64-linux-gnu", 243: "riscv64-l
 LLVM = "llvm-addr2line"
 DEBUG_FOLDER = "/usr/lib/debug"
 LINK = re.compile(r"\.gnu_debuglink .*\n\s*Separate debug info file: (.*)\n\s*CRC value: 0x(\w+)")
+# any such file, or one that has a part of a compiler's debug information, and its folder
+LINKED = re.compile(r"(?:Separate debug info file|^ +Name): +(.+)(?:\n +Directory: +(.+))?", re.M)
+# of ELF files: parts of DWARF's usual form end at 4 GiB
+LARGEST = 16 << 30
 BUILD_ID = re.compile(r"Build ID: (\w\w)(\w+)")
 # a variable in what llvm-dwarfdump tells; its file, the entry that has its file, and its address
 VARIABLE = re.compile(r"0x(\w+): DW_TAG_variable\n((?: .*\n)*)")
@@ -22,25 +26,22 @@ TOLD = (r'decl_file\t\("(.*)"\)', r"abstract_origin\t\(0x(\w+)",
 THIN_LTO = re.compile(r"\.llvm\.\d+(?=\.|$)")
 
 
-@functools.cache
-def prefix_of(path):
+def head_of(path):
+    """The beginning of an ELF file, up to its machine; nothing of what is none, can't be read, or
+    is too large for one."""
+    try:
+        with regular.opened(path) as file:
+            head = file.read(20) or b""
+            is_one = head[:4] == b"\x7fELF" and os.fstat(file.fileno()).st_size <= LARGEST
+    except OSError:
+        return b""
+    return head if is_one else b""
+
+
+def prefix_of(head):
     """The prefix of the binutils for an ELF file; none for this machine's."""
-    try:
-        with open(path, "rb") as file:
-            machine = int.from_bytes(file.read(20)[18:], "little")
-    except OSError:
-        return ""
-    prefix = PREFIXES.get(machine, "")
+    prefix = PREFIXES.get(int.from_bytes(head[18:], "little"), "")
     return "" if prefix.split("-")[0] == os.uname().machine else prefix
-
-
-def is_elf(path):
-    """Whether a file can be read and begins as an ELF file does."""
-    try:
-        with open(path, "rb") as file:
-            return file.read(4) == b"\x7fELF"
-    except OSError:
-        return False
 
 
 def run(words, package, of, text=None):
@@ -54,10 +55,11 @@ def run(words, package, of, text=None):
 def output_of(command, path, *options, text=None):
     """What a command of binutils or LLVM, with options of which the last may take the path, writes
     of an ELF file; nothing of another."""
-    if not is_elf(path):
+    head = head_of(path)
+    if not head:
         return ""
     is_llvm = command.startswith("llvm-")
-    prefix = "" if is_llvm else prefix_of(path)
+    prefix = "" if is_llvm else prefix_of(head)
     package = "llvm" if is_llvm else f"binutils-{prefix}".rstrip("-")
     return run([f"{prefix}-{command}" if prefix else command, *options, path], package, path, text)
 
@@ -97,7 +99,7 @@ def sources_of(path, names):
 def checksum_of(path):
     """That by which a program names the file of its debug information."""
     found = 0
-    with open(path, "rb") as file:
+    with regular.opened(path) as file:
         while piece := file.read(1 << 20):
             found = zlib.crc32(piece, found)
     return found
@@ -108,6 +110,28 @@ def build_id(path):
     return found.groups() if found else None
 
 
+def is_usable(found, path):
+    """Whether a file of a program's debug information is there. Ends the tool where it is a pipe or
+    a device, or too large: llvm-addr2line looks for these files too, and would wait."""
+    if regular.may_wait(found, LARGEST):
+        tool.fail(f"{found} would be read as debug information of {path}, and is no regular file of"
+                  f" up to {tool.size_text(LARGEST)} bytes")
+    return bool(head_of(found))
+
+
+@functools.cache
+def links_of(path):
+    """What readelf tells of the files to which debug information leads, each of which is judged so,
+    where a command may look for it."""
+    links = output_of("readelf", path, "-wk", "--")
+    folder = os.path.dirname(path)
+    for name, compiled_in in LINKED.findall(links):
+        for place in (compiled_in or folder, folder, f"{folder}/.debug"):
+            is_usable(os.path.join(place, name), path)
+    is_usable(f"{path}.dwp", path)
+    return links
+
+
 @functools.cache
 def debug_file(path):
     """The file with the names and lines of a stripped program, or None: that of its build ID, or
@@ -115,13 +139,13 @@ def debug_file(path):
     identity = build_id(path)
     if identity:
         found = "{}/.build-id/{}/{}.debug".format(DEBUG_FOLDER, *identity)
-        if is_elf(found) and build_id(found) == identity:
+        if is_usable(found, path) and build_id(found) == identity:
             return found
-    link = LINK.search(output_of("readelf", path, "-wk", "--"))
+    link = LINK.search(links_of(path))
     folder = os.path.dirname(os.path.realpath(path))
     for place in (folder, f"{folder}/.debug", f"{DEBUG_FOLDER}{folder}") if link else ():
         found = os.path.join(place, link[1])
-        if is_elf(found) and not os.path.samefile(found, path):
+        if is_usable(found, path) and not os.path.samefile(found, path):
             if checksum_of(found) == int(link[2], 16):
                 return found
             tool.warn(f"{found} is of another build of {path}")

@@ -4,13 +4,16 @@ in it, as binutils and llvm-addr2line tell them."""
 import bisect
 import collections
 import functools
+import io
 import os
 import re
 
-from lib import tool
-from lib.by_line.binutils import debug_file, line_finder, mended, output_of, sources_of
+from lib import regular, tool
+from lib.by_line.binutils import (debug_file, line_finder, links_of, mended, output_of,
+                                  sources_of)
 
 PAGE = 4096
+LARGEST_MAP = 64 << 20  # a process of Linux has up to 65,530 mappings, each with a path
 ANY_TEXT = {"encoding": "utf-8", "errors": "surrogateescape"}
 MAPPING = re.compile(r"([0-9a-f]+)-([0-9a-f]+) \S+ ([0-9a-f]+) \S+ \d+\s*(.*)")
 SEGMENT = re.compile(r"\s*LOAD\s+0x(\w+) 0x(\w+) 0x\w+ 0x\w+ 0x(\w+)")
@@ -142,6 +145,7 @@ class Loaded:
 
     def lines_of(self, addresses):
         """Of each address its lines, the outermost first, each with the name of its function."""
+        links_of(self.paths[0])  # ends the tool where the command would wait for one
         asked = "".join(f"{address - self.base:x}\n" for address in sorted(addresses))
         output = output_of(line_finder(), self.paths[0], "-a", "-i", "-f", "-C", "-e", text=asked)
         lines = output.splitlines()
@@ -195,8 +199,10 @@ class Layout:
             self.read_map(map_file)
 
     def read_map(self, map_file):
-        with tool.faults_of(map_file), open(map_file, **ANY_TEXT) as lines:
-            found = [MAPPING.fullmatch(line.rstrip("\n")) for line in lines]
+        with tool.faults_of(map_file):
+            text = io.BytesIO(regular.read(map_file, LARGEST_MAP))
+        found = [MAPPING.fullmatch(line.rstrip("\n"))
+                 for line in io.TextIOWrapper(text, **ANY_TEXT)]
         if not found:  # as `trace` leaves it while the program runs
             tool.fail(f"{map_file}: an empty map; if the trace comes through a pipe from the run"
                       " that writes it, trace into a file")

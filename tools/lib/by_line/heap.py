@@ -4,11 +4,13 @@ place of the program that allocates, or memory of a kind."""
 import array
 import re
 
-from lib import tool
+from lib import regular, tool
 from lib.by_line import elf
 
 # trace-heap-run.h explains them
-LINE = re.compile(rb"([0-9a-f]{1,16}) (?:end|([-+mstu]) ([0-9a-f]{1,12})((?: [0-9a-f]{1,16})*))\n")
+LINE = re.compile(
+    rb"([0-9a-f]{1,16}) (?:end|([-+<>mstu]) ([0-9a-f]{1,12})((?: [0-9a-f]{1,16})*))\n")
+LONGEST_LINE = 512  # of an address has up to 17 letters, and there are 16 frames
 # by the letter of their lines; a block that is freed is the allocator's, as that of 'm'
 KINDS = {b"u": "(other)", b"m": "(malloc)", b"s": "(thread stacks)", b"t": "(thread-local)"}
 OTHER, MALLOC, TOP = 0, 1, 1 << 48
@@ -25,9 +27,10 @@ class Heap:
 
     def __init__(self, path):
         self.events, self.callers, self.blocks, end = array.array("Q"), {}, {}, None
+        self.moving = set()  # those that realloc copies from
         self.kinds = {kind: number for number, kind in enumerate(KINDS)}
-        with tool.faults_of(path), open(path, "rb") as lines:
-            for number, line in enumerate(lines, 1):
+        with tool.faults_of(path), regular.opened(path) as file:
+            for number, line in enumerate(iter(lambda: file.readline(LONGEST_LINE), b""), 1):
                 found = LINE.fullmatch(line)
                 if end is not None or not found:
                     tool.fail(f"{path}: line {number} is none of `trace --heap`")
@@ -42,14 +45,24 @@ class Heap:
 
     def take(self, at, kind, start, size=b"0", callers=b""):
         end = min(start + int(size, 16), TOP)
-        if kind in b"+-" and start in self.blocks:
-            self.events.extend((at, start, self.blocks.pop(start), MALLOC))
+        # what is allocated where realloc copies from shows that it has freed that
+        for old in [old for old in self.moving if start < self.blocks[old] and old < end]:
+            self.free(at, old)
+        if kind == b"<" and start in self.blocks:
+            self.moving.add(start)
+        elif kind in b"+-" or kind == b">" and start in self.moving:
+            self.free(at, start)
         if kind == b"+":
             self.blocks[start] = end
             site = len(KINDS) + self.callers.setdefault(callers, len(self.callers))
             self.events.extend((at, start, end, site))
-        elif kind != b"-":
+        elif kind in self.kinds:
             self.events.extend((at, start, end, self.kinds[kind]))
+
+    def free(self, at, start):
+        self.moving.discard(start)
+        if start in self.blocks:
+            self.events.extend((at, start, self.blocks.pop(start), MALLOC))
 
     def sites(self, layout):
         """The code of each site."""

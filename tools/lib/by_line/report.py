@@ -1,6 +1,6 @@
 """The tables of by-line, with the names of what was counted."""
 
-from lib import streams, tool
+from lib import regular, streams, tool
 from lib.by_line import binutils, elf
 
 import collections
@@ -11,6 +11,7 @@ import os
 COUNTS = ("references", "misses", "compulsory", "capacity", "conflict")
 HEADERS = {"line": ["line", "inlined"], "site": ["site", "site-function"]}
 MOST_INLINED = 8
+LARGEST_SOURCE = 64 << 20
 NO_FETCH = elf.Code(elf.Function("(no fetch before it)", is_one=False), [elf.Line()])
 
 
@@ -170,10 +171,10 @@ def in_callgrind_format(asked, cells):
 
 
 def length_of(path):
-    """How many lines a source file has; more than any where it can't be read."""
+    """How many lines a source file has; more than any where it can't be read, or is larger than
+    what somebody has written."""
     try:
-        with open(path, "rb") as source:
-            text = source.read()
+        text = regular.read(path, LARGEST_SOURCE)
     except OSError:
         return float("inf")
     return text.count(b"\n") + (not text.endswith(b"\n"))
@@ -217,7 +218,10 @@ def report(asked, text, objects, layout, heap):
     cells, pairs = read_counts(text, objects, layout, heap)
     asked.spare({line.file for cell in cells for line in cell.code.lines if line.file})
     if asked.callgrind:
-        with tool.faults_of(asked.callgrind), open(asked.callgrind, "w", **elf.ANY_TEXT) as file:
+        # a pipe that nobody reads is a fault, so that the tool doesn't wait
+        with tool.faults_of(asked.callgrind), open(asked.callgrind, "w", **elf.ANY_TEXT,
+                                                   opener=regular.no_wait) as file:
+            os.set_blocking(file.fileno(), True)
             file.writelines(f"{line}\n" for line in in_callgrind_format(asked, cells))
     is_named = (asked.program or asked.map) and not layout.unread  # of which a warning came
     if is_named and (asked.callgrind or {"line", "function"} & {*asked.by}):

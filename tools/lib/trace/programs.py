@@ -3,7 +3,7 @@
 import os
 import re
 
-from lib import tool
+from lib import regular, tool
 
 ABSENT, CANNOT_RUN = 127, 126
 # QEMU's names, by the class and the number of the machine in an ELF file
@@ -37,7 +37,7 @@ def found(name, script=""):
 
 def beginning(path):
     """The first line of a file, as far as it can have an ELF file's kind or an interpreter."""
-    with tool.faults_of(path), open(path, "rb") as file:
+    with tool.faults_of(path), regular.opened(path) as file:
         return file.read(4096)
 
 

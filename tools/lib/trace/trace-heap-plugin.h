@@ -15,6 +15,7 @@ static bool has_threads;
 static uint64_t local_size;                      // of threads' own data, at the end of their stacks
 static __thread uint64_t asked[4], frames[FRAMES], frame_count;
 static __thread bool is_inside;                  // the allocator
+static __thread uint64_t old_block;              // of the call of realloc, or 0
 
 // An event stands in one block.
 static void put_event(char kind, const uint64_t *words, size_t count) {
@@ -40,11 +41,14 @@ static void on_heap_call(uint64_t thread, uint64_t kind, uint64_t a, uint64_t b,
         memcpy(frames, (void *)(uintptr_t)(a + heap_moved), (frame_count = b) * sizeof *frames);
         is_inside = true;
         put_event('c', &thread, 1);
-        if (c) put_event('-', (uint64_t[]){0, c}, 2);
+        old_block = a ? c : 0;  // free has no frames
+        if (c) put_event(old_block ? '<' : '-', (uint64_t[]){0, c}, 2);
     } else if (kind == GAVE) {
         memcpy(words + 3, frames, frame_count * sizeof *frames);
         is_inside = false;
         if (a) put_event('+', words, 3 + frame_count);
+        // a realloc that fails leaves the old block as it is
+        if (old_block && (a || !b)) put_event('>', (uint64_t[]){0, old_block}, 2);
     }
 }
 

@@ -3,12 +3,16 @@
 //
 //     AT + ADDRESS SIZE FRAME..    a block is there; and where its callers go on, innermost first
 //     AT - ADDRESS                 it is not
+//     AT < ADDRESS                 realloc is called for it, ..
+//     AT > ADDRESS                 .. and returns without a fault: it is not
 //     AT KIND ADDRESS SIZE         memory: m of the allocator, s a thread's stack, t thread-local
 //                                  data, u something else, or none
 //     AT end                       of the trace
 //
 // A block is there from when malloc returns, or from the call of calloc and realloc on, since these
-// clear and copy; or from the last line, if that is later. So lines are in order.
+// clear and copy; or from the last line, if that is later. So lines are in order. What realloc
+// copies from is there until '>'; but if a line between says that its memory has become another's,
+// as it may in another thread once realloc has freed it, until that line.
 
 static FILE *heap;              // NULL where it isn't wanted
 static uint64_t calls[1 << 16]; // of each thread the moment of its last call of the allocator

@@ -16,10 +16,11 @@
 #define EXPORTED __attribute__((visibility("default")))
 
 void *__libc_malloc(size_t), *__libc_calloc(size_t, size_t), *__libc_realloc(void *, size_t);
-void *__libc_memalign(size_t, size_t), *__libc_valloc(size_t);
+void *__libc_memalign(size_t, size_t), *__libc_valloc(size_t), *__libc_pvalloc(size_t);
 void __libc_free(void *);
 extern const char __ehdr_start, _etext __attribute__((visibility("hidden")));  // of this library
 static bool is_called;  // what the program calls comes here
+enum { PAGE = 4096 };
 
 static inline void tell(enum heap_kind kind, uintptr_t a, uintptr_t b, uintptr_t c) {
     register uintptr_t fourth __asm__("r10") = c;
@@ -59,6 +60,7 @@ static __attribute__((noinline)) void begin(void *freed) {
 
 GIVES(malloc, (size_t size), __libc_malloc(size), NULL, size, false)
 GIVES(valloc, (size_t size), __libc_valloc(size), NULL, size, false)
+GIVES(pvalloc, (size_t size), __libc_pvalloc(size), NULL, (size + PAGE - 1) & -PAGE, false)
 GIVES(memalign, (size_t to, size_t size), __libc_memalign(to, size), NULL, size, false)
 GIVES(aligned_alloc, (size_t to, size_t size), __libc_memalign(to, size), NULL, size, false)
 GIVES(calloc, (size_t count, size_t size), __libc_calloc(count, size), NULL, count * size, true)
