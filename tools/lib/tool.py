@@ -10,7 +10,6 @@ What few tools need is imported where it is used, since each module takes a mill
 import contextlib
 import os
 import re
-import stat
 import sys
 
 HERE = os.path.dirname(os.path.dirname(os.path.realpath(__file__)))  # the tools
@@ -22,7 +21,7 @@ UNITS = {"": 0, "k": 10, "m": 20, "g": 30}
 
 
 class Spared(SystemExit):
-    """The end of a tool that was to write to a file that it reads, which it leaves as it is."""
+    """The end of a tool that leaves its output as it is: it is read too, or has no more room."""
 
 
 def end(text, status, kind=SystemExit):
@@ -108,59 +107,6 @@ def needs(command, package):
 def is_option(word):
     """Whether an argument where a trace is wanted is an option, and no file of that name."""
     return len(word) > 1 and word.startswith("-") and not os.path.exists(word)
-
-
-def readable(trace):
-    """Ends the tool where a trace is neither '-' nor something that can be read, or is the file
-    that standard output goes to."""
-    if trace != "-" and (os.path.isdir(trace) or not os.access(trace, os.R_OK)):
-        fail(f"{trace}: no file that can be read")
-    spare(trace)
-
-
-def spare(file):
-    """Ends the tool where the file that it is about to read, or '-', is the one that standard
-    output goes to: it would be lost, or grow as it is read. What opens a trace or a table asks
-    this."""
-    if is_same(0 if file == "-" else file, 1):
-        name = "standard input" if file == "-" else file
-        fail(f"{name} is standard output too", kind=Spared)
-
-
-def is_same(file, other):
-    """Whether two names or descriptors are of one file, whose contents would be lost; also of one
-    that is not there yet."""
-    try:
-        found = os.stat(file), os.stat(other)
-    except OSError:
-        names = [os.path.realpath(name) for name in (file, other) if isinstance(name, str)]
-        return len(names) == 2 and names[0] == names[1]
-    return os.path.samestat(*found) and stat.S_ISREG(found[0].st_mode)
-
-
-def apart(outputs, inputs=()):
-    """Ends the tool where a file that it is to write is read too, or is another such file. Each has
-    what it is called by its name or descriptor, which may be empty."""
-    written = [(name, file) for name, file in outputs if file not in (None, "")]
-    for number, (name, file) in enumerate(written):
-        for other, path in [*inputs, *written[:number]]:
-            if path not in (None, "") and is_same(path, file):
-                misused(f"{name} and {other} are one file", Spared)
-
-
-def replace(place, data, mode):
-    """Writes a file beside a place and moves it there, so that a failure leaves what was there, and
-    a link is not followed."""
-    from tempfile import mkstemp
-    handle, fresh = mkstemp(prefix=f".{NAME}.", dir=os.path.dirname(place))
-    try:
-        with open(handle, "wb") as file:
-            file.write(data)
-            os.fchmod(handle, mode)
-        os.replace(fresh, place)
-    except BaseException:
-        os.unlink(fresh)
-        raise
 
 
 def bytes_of(text):

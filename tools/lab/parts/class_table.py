@@ -9,6 +9,7 @@ import subprocess
 import sys
 from collections import namedtuple
 
+from lib import files
 from parts import tool, traces
 from parts.student import shown
 
@@ -76,7 +77,7 @@ class Class:
             if not self.is_stopped:
                 text = found.text + found.fault + "\n" * bool(found.fault)
                 text = text.encode(errors="backslashreplace")
-                tool.replace(os.path.join(folder, "grade.txt"), text, 0o644)
+                files.replace(os.path.join(folder, "grade.txt"), text, 0o644)
         except OSError as fault:
             self.faults.append(f"{folder}: grade.txt can't be written: {fault.strerror}")
         return found
