@@ -9,16 +9,21 @@ KINDS = {stat.S_IFLNK: "a link", stat.S_IFDIR: "a folder", stat.S_IFIFO: "a pipe
          stat.S_IFSOCK: "a socket", stat.S_IFCHR: "a device", stat.S_IFBLK: "a device"}
 
 
+def claim(place):
+    """Ends the tool where the name of a file that it is to write is something else's."""
+    try:
+        kind = stat.S_IFMT(os.lstat(place).st_mode)
+    except FileNotFoundError:
+        return
+    if kind != stat.S_IFREG:
+        tool.fail(f"{place} is no file of its own: it is {KINDS.get(kind, 'something else')}")
+
+
 def keep(place, data, mode=0o644):
     """Writes a file of the tool's own as a whole, never through a link. Ends the tool where its
     name is something else's."""
     with tool.faults_of(place):
-        try:
-            kind = stat.S_IFMT(os.lstat(place).st_mode)
-        except FileNotFoundError:
-            kind = stat.S_IFREG
-        if kind != stat.S_IFREG:
-            tool.fail(f"{place} is no file of its own: it is {KINDS.get(kind, 'something else')}")
+        claim(place)
         replace(place, data, mode)
 
 

@@ -137,25 +137,30 @@ def spare(file):
         fail(f"{name} is standard output too", kind=Spared)
 
 
-def is_same(file, other):
-    """Whether two names or descriptors are of one file, whose contents would be lost; also of one
-    that is not there yet."""
+def identity(file):
+    """What names and descriptors of one file have in common, whose contents could be lost; also
+    names of one that is not there yet. None for a device, a pipe or a folder."""
     try:
-        found = os.stat(file), os.stat(other)
+        found = os.stat(file)
     except OSError:
-        names = [os.path.realpath(name) for name in (file, other) if isinstance(name, str)]
-        return len(names) == 2 and names[0] == names[1]
-    return os.path.samestat(*found) and stat.S_ISREG(found[0].st_mode)
+        return os.path.realpath(file) if isinstance(file, str) else None
+    return (found.st_dev, found.st_ino) if stat.S_ISREG(found.st_mode) else None
+
+
+def is_same(file, other):
+    """Whether two names or descriptors are of one such file."""
+    return None is not identity(file) == identity(other)
 
 
 def apart(outputs, inputs=()):
     """Ends the tool where a file that it is to write is read too, or is another such file. Each has
     what it is called by its name or descriptor, which may be empty."""
-    written = [(name, file) for name, file in outputs if file not in (None, "")]
-    for number, (name, file) in enumerate(written):
-        for other, path in [*inputs, *written[:number]]:
-            if path not in (None, "") and is_same(path, file):
-                misused(f"{name} and {other} are one file", Spared)
+    names = {identity(file): name for name, file in inputs if file not in (None, "")}
+    for name, file in outputs:
+        if file not in (None, "") and (own := identity(file)):
+            if own in names:
+                misused(f"{name} and {names[own]} are one file", Spared)
+            names[own] = name
 
 
 def replace(place, data, mode):
