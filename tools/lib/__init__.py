@@ -7,14 +7,24 @@ PYTHONPATH decides what a tool does. With -S Python does not look for Debian's p
 begins in 25 milliseconds in place of 28. With -B it writes no file beside a tool; only 'make tools'
 does."""
 
-import os
-import signal
-import stat
-import sys
+import _signal  # which is in Python itself: an interrupt while 'signal' is read needs no traceback
+
+if _signal.getsignal(_signal.SIGINT) == _signal.default_int_handler:
+    _signal.signal(_signal.SIGINT, _signal.SIG_DFL)
+
+import os  # noqa: E402
+import stat  # noqa: E402
+import sys  # noqa: E402
 
 NAME = os.path.basename(sys.argv[0])
 # what ends a tool without a word that its reader waits for ends its trace in no line of one
 WRITES_A_TRACE = NAME.replace("cachesim-", "") in ("lab-trace", "second-level", "to-din", "trace")
+# the signals that end a process, except for faults of its own, those that Python ignores, and what
+# no process can heed
+STOPS = set(range(1, _signal.NSIG)) - {
+    getattr(_signal, "SIG" + name) for name in
+    "KILL STOP TSTP TTIN TTOU CONT CHLD URG WINCH PIPE XFSZ SEGV BUS FPE ILL ABRT TRAP SYS".split()}
+STOPS &= set(_signal.valid_signals())  # the threads of the C library have two for themselves
 
 
 def is_output_read():
@@ -58,7 +68,7 @@ def last_fault(kind, fault, trace):
 
 def stop_early(number, _):
     """Ends a trace in a line that no simulator takes, also where the tool has only begun."""
-    signal.signal(number, signal.SIG_DFL)
+    _signal.signal(number, _signal.SIG_DFL)
     is_output = not any(word.startswith(("-o", "--output")) for word in sys.argv)
     if is_output and not os.isatty(1) and not is_output_read():
         os.write(1, ("%s failed: what stands above is not all\n" % NAME).encode())
@@ -74,8 +84,7 @@ if "LC_CTYPE" in os.environ:
     with open("/proc/self/environ", "rb") as given:
         if not any(word.startswith(b"LC_CTYPE=") for word in given.read().split(b"\0")):
             del os.environ["LC_CTYPE"]
-# a signal while Python reads what else the tool needs ends it without a traceback, as later where
-# it has nothing to end or remove
-for each in (signal.SIGHUP, signal.SIGINT, signal.SIGTERM):
-    if signal.getsignal(each) != signal.SIG_IGN:
-        signal.signal(each, stop_early if WRITES_A_TRACE else signal.SIG_DFL)
+# a signal while Python reads what else the tool needs ends its trace too
+for each in STOPS if WRITES_A_TRACE else ():
+    if _signal.getsignal(each) != _signal.SIG_IGN:
+        _signal.signal(each, stop_early)

@@ -4,7 +4,7 @@ import os
 import re
 import sys
 
-from lib import processes, streams, tool
+from lib import files, processes, streams, tool
 
 ROOM = 1 << 20  # the bytes that the log may be ahead
 NO_OUTCOME = bytes(set(range(256)) - set(b"Whm\n"))
@@ -40,7 +40,7 @@ def asked(own=None, value=None):
                 tool.misused("--cache is l1-i, l1-d, l1-u or l2-u")
         else:
             options.append(word)
-    tool.readable(trace)
+    files.readable(trace)
     return trace, options, values.get(f"--{own}"), values.get("--cache")
 
 

@@ -7,8 +7,8 @@ import os
 import signal
 import time
 
-from lib import tool
-from lib.signals import heed_stops, put_off_stops, stop_at_signals
+from lib import STOPS, files, tool
+from lib.signals import stop_at_signals, uninterrupted
 from lib.streams import keep_places
 
 TOLD = 1 << 18  # the bytes of its messages that are looked at
@@ -19,11 +19,11 @@ inherited = None  # the children that this process did not start itself
 
 
 class Fault(Exception):
-    """What ends the tool: its message and its status."""
+    """What ends the tool: its message, its status and the kind of its end."""
 
-    def __init__(self, text, status=1):
+    def __init__(self, text, status=1, kind=SystemExit):
         super().__init__(text)
-        self.text, self.status = text, status
+        self.text, self.status, self.kind = text, status, kind
 
 
 def start(command, stdin=0, stdout=1, stderr=2, path=None, env=None, **given):
@@ -56,21 +56,11 @@ def opened(trace):
     return 0 if trace == "-" else os.open(trace, os.O_RDONLY)
 
 
-@contextlib.contextmanager
-def uninterrupted():
-    """Holds back what would interrupt the tool, so that it knows each process that it starts."""
-    put_off_stops()
-    try:
-        yield
-    finally:
-        heed_stops()
-
-
 class Process:
     """A process over the trace. What it tells, and writes to no other place, is kept in memory."""
 
     # what a terminal sends to all processes is for the tool alone, which ends the others
-    BLOCKED = (signal.SIGHUP, signal.SIGINT)
+    BLOCKED = (signal.SIGHUP, signal.SIGINT, signal.SIGQUIT)
 
     def __init__(self, command, stdin=0, stdout=None, stderr=None, path=None, **given):
         self.kept, self.messages = os.memfd_create("kept"), os.memfd_create("messages")
@@ -121,12 +111,26 @@ class Process:
 
 
 class Filter(Process):
-    """A process that writes the tool's output. The tool ends like it where its reader goes away."""
+    """A C part with lib/filter.h, which writes the tool's output. The tool ends like it where its
+    reader goes away, and has it end its line before that."""
+
+    BLOCKED = STOPS - {signal.SIGXCPU}  # its time is its own
+    FULL = 3  # its status where it has ended a file that has no more room
 
     def fault(self, code):
-        if code == -signal.SIGPIPE:
+        if code == tool.READER_GONE:
             raise SystemExit(tool.READER_GONE)
+        if code == self.FULL:
+            return Fault(self.message(), 1, tool.Spared)
         return super().fault(code)
+
+    def strike(self):
+        for _ in range(50):  # half a second, where its reader waits; a signal may come too early
+            os.kill(self.number, signal.SIGURG)
+            if os.waitid(os.P_PID, self.number, os.WEXITED | os.WNOHANG | os.WNOWAIT):
+                return
+            time.sleep(0.01)
+        super().strike()
 
 
 class Unpacker(Process):
@@ -141,27 +145,18 @@ class Unpacker(Process):
                          stdout=write)
         os.close(write)
 
-    def ended(self, status):
-        """Where its reader has gone away, that tells why."""
-        if os.waitstatus_to_exitcode(status) == -signal.SIGPIPE:
-            self.is_running = False
-        else:
-            super().ended(status)
-
     def fault(self, code):
         text = self.message().split("\n")[-1] or f"{self.name} ended with {end_text(code)}"
         return Fault(f"{tool.NAME}: {self.trace} can't be read: {text}")
 
     def own_fault(self):
-        """That with which it ends now that its reader has gone, or has ended, or None."""
+        """That with which it ends now that its reader has failed, or None."""
         for _ in range(100):  # a second, where it waits for its own source
             number, status = os.waitpid(self.number, os.WNOHANG)
             if number:
-                try:
-                    self.ended(status)
-                except Fault as fault:
-                    return fault
-                return None
+                self.is_running = False
+                code = os.waitstatus_to_exitcode(status)
+                return self.fault(code) if code not in (0, -signal.SIGPIPE) else None
             time.sleep(0.01)
         return None
 
@@ -188,13 +183,14 @@ class Group:
                 os.close(end)
         return self.processes[-1]
 
-    def start_source(self, trace):
+    def start_source(self, trace, kind=Unpacker):
         """The descriptor that a trace is read from, and the process that unpacks it, if any does,
-        which is ended with the others."""
-        tool.spare(trace)
+        which is ended with the others. Where its reader has read to the end, any end of it but a
+        good one is a fault."""
+        files.spare(trace)
         if not is_packed(trace):
             return opened(trace), None
-        unpacker = self.start(Unpacker, trace)
+        unpacker = self.start(kind, trace)
         return unpacker.pipe, unpacker
 
     def __exit__(self, _, fault, __):
@@ -208,7 +204,7 @@ class Group:
                     fault = process.own_fault() or fault  # a line that was cut is its fault
                 process.kill()
         if isinstance(fault, Fault):
-            tool.end(fault.text, fault.status)
+            tool.end(fault.text, fault.status, fault.kind)
         if isinstance(fault, OSError):
             name = os.path.basename(fault.filename or "")
             what = f"{name} can't be run" if name else "no more processes can be started"

@@ -6,9 +6,9 @@ import os
 import select
 import stat
 
-from lib import tool
-from lib.processes import Fault, Group, Process, is_packed, uninterrupted, widen
-from lib.signals import look_each_second
+from lib import files, tool
+from lib.processes import Fault, Group, Process, is_packed, widen
+from lib.signals import look_each_second, uninterrupted
 
 PIECE = 1 << 18  # the bytes that are read at once
 ROOM = 1 << 20  # the bytes that may wait for a run, so that it may fall behind for a while
@@ -188,7 +188,7 @@ def over(trace, commands, jobs, is_read_once=False):
     is a text that names it, and words to which the trace is added; and how many lines it gets, if
     not all. Where one fails, the others are ended, and the tool ends with its message and status;
     so it does where several read a file that is no longer as it was at the beginning."""
-    tool.spare(trace)
+    files.spare(trace)
     state = state_of(trace)
     with Group() as group:
         runs = Runs(group, trace, commands, jobs, is_read_once)

@@ -2,18 +2,20 @@
 //
 //     second-level NAME < LOG      NAME is that of the tool, for messages
 #define _GNU_SOURCE
-#include <stdio.h>
-#include <stdlib.h>
-#include <string.h>
-#include <unistd.h>
+#include "filter.h"
 
 enum { PIECE = 1 << 16, CACHE = 4 }; // the bytes that are read at once; those of a cache's name
 
-static const char *name;
+static const char *name, writing[] = "standard output: write failed";
 
 static _Noreturn void fail(const char *text) {
     fprintf(stderr, "%s: %s\n", name, text);
     exit(1);
+}
+
+static void put(const char *line, size_t length) {
+    memcpy(next_line(name, writing), line, length);
+    output.used += length;
 }
 
 static void take_line(const char *at, size_t length) {
@@ -21,10 +23,10 @@ static void take_line(const char *at, size_t length) {
     static char first[CACHE]; // which has the first line of each flush; there is one for each cache
     const size_t before = sizeof memory - 1;
     if (length > before && !memcmp(at, memory, before))
-        fwrite_unlocked(at + before, 1, length - before, stdout);
+        put(at + before, length - before);
     else if (length > CACHE + sizeof flush - 1 && !memcmp(at + CACHE, flush, sizeof flush - 1)) {
         if (!*first) memcpy(first, at, CACHE);
-        if (!memcmp(first, at, CACHE)) fputs_unlocked("4 0\n", stdout);
+        if (!memcmp(first, at, CACHE)) put("4 0\n", sizeof "4 0\n" - 1);
     }
 }
 
@@ -34,7 +36,8 @@ int main(int count, char **words) {
     ssize_t got;
     if (count != 2) return 2;
     name = words[1];
-    while ((got = read(STDIN_FILENO, text + held, PIECE)) > 0) {
+    begin_filter();
+    while ((got = read_input(text + held, PIECE)) > 0) {
         char *at = text, *end = text + held + got;
         for (char *last; (last = memchr(at, '\n', (size_t)(end - at))); at = last + 1)
             take_line(at, (size_t)(last + 1 - at));
@@ -43,5 +46,5 @@ int main(int count, char **words) {
         memmove(text, at, held);
     }
     if (got < 0) fail("the log: read failed");
-    if (fflush(stdout) || ferror(stdout)) fail("standard output: write failed");
+    finish(name, writing);
 }

@@ -2,15 +2,16 @@
 
 import atexit
 import contextlib
+import math
 import os
 import signal
-import stat
 import sys
+import time
 
-from lib import is_output_read, tool
+from lib import STOPS
 
-STOPS = (signal.SIGHUP, signal.SIGINT, signal.SIGTERM)
-LAST = 1 << 13  # the bytes that a last line may take the place of
+# when an alarm comes that was set before the tool began, and whether it ends the tool; once known
+alarm_comes, heeds_alarm = None, None
 
 
 # at its end Python takes back what it calls at signals
@@ -30,6 +31,16 @@ def heed_stops():
     signal.pthread_sigmask(signal.SIG_UNBLOCK, STOPS)
 
 
+@contextlib.contextmanager
+def uninterrupted():
+    """Holds back what would interrupt the tool, so that it knows each process that it starts."""
+    put_off_stops()
+    try:
+        yield
+    finally:
+        heed_stops()
+
+
 def stop(number, _):
     """Ends the tool at a signal, once, so that what it has begun is ended and removed."""
     for other in STOPS:
@@ -39,17 +50,42 @@ def stop(number, _):
 
 def look_each_second(look=lambda *_: None, first=1):
     """Calls `look` each second, in place of what was called before. Python only takes note of a
-    signal that comes just before a wait, and heeds it when the wait is interrupted: by this."""
-    signal.signal(signal.SIGALRM, look)
-    signal.setitimer(signal.ITIMER_REAL, first, 1)
+    signal that comes just before a wait, and heeds it when the wait is interrupted: by this. The
+    timer may have been set before: that alarm still ends the tool, and so does one that is sent."""
+    global alarm_comes, heeds_alarm
+    left, _ = signal.setitimer(signal.ITIMER_REAL, 0)
+    if alarm_comes is None:
+        heeds_alarm = signal.getsignal(signal.SIGALRM) != signal.SIG_IGN
+        alarm_comes = time.monotonic() + left if left and heeds_alarm else math.inf
+
+    def tick(number, frame):
+        is_sent = signal.getitimer(signal.ITIMER_REAL)[0] > 0
+        if heeds_alarm and (is_sent or alarm_comes <= time.monotonic()):
+            stop(number, frame)
+        set_timer(1)
+        look()
+
+    signal.signal(signal.SIGALRM, tick)
+    set_timer(first)
+
+
+def set_timer(seconds):
+    left = max(alarm_comes - time.monotonic(), 1e-6)  # 0 would be no alarm
+    signal.setitimer(signal.ITIMER_REAL, min(seconds, left))
+
+
+def give_back_alarm():
+    """Has the timer be as it was before the tool began, for the program that it becomes."""
+    if alarm_comes is not None:
+        set_timer(0 if alarm_comes == math.inf else alarm_comes)
 
 
 def stop_at_signals():
     """Has them end the tool so, but for those that it was started to ignore."""
-    for number in STOPS:
+    for number in STOPS - {signal.SIGALRM}:
         if signal.getsignal(number) != signal.SIG_IGN:
             signal.signal(number, stop)
-    if signal.getsignal(signal.SIGALRM) == signal.SIG_DFL:
+    if alarm_comes is None and signal.getsignal(signal.SIGALRM) != signal.SIG_IGN:
         look_each_second()
 
 
@@ -67,56 +103,3 @@ def ends_by_signal():
         signal.signal(end.code - 128, signal.SIG_DFL)
         os.kill(os.getpid(), end.code - 128)
         sys.exit(end.code)
-
-
-def put_last(line):
-    """Ends standard output in a line; a file that has no more room, or may not grow, in place of
-    what it ends in."""
-    with contextlib.suppress(OSError):
-        if os.write(1, line) == len(line):
-            return
-    found = os.fstat(1)
-    if stat.S_ISREG(found.st_mode):
-        end = max(0, found.st_size - LAST)
-        os.ftruncate(1, end)
-        os.pwrite(1, b"\n" + line, end)
-
-
-class WholeTrace:
-    """Within this a trace goes to `output`, a file or '-'. If the tool fails, the trace ends in a
-    line that no simulator takes, so that nobody takes a part in a pipe for the whole, or an earlier
-    trace in a file for a new one."""
-
-    def __init__(self, output="-"):
-        self.output = output
-
-    def __enter__(self):
-        return self
-
-    def __exit__(self, _, fault, __):
-        if fault is None or isinstance(fault, SystemExit) and not fault.code:
-            return
-        if isinstance(fault, tool.Spared):
-            return
-        with contextlib.suppress(OSError):
-            self.spoil(f"{tool.NAME} failed: what stands above is not all\n")
-
-    def spoil(self, line):
-        if self.output == "-":
-            if not os.isatty(1) and not is_output_read():
-                put_last(line.encode())
-            return
-        kind = os.stat(self.output).st_mode
-        if stat.S_ISFIFO(kind) or stat.S_ISREG(kind) and self.is_taken():
-            # a pipe is opened so that it waits for no reader
-            flags = os.O_RDWR if stat.S_ISFIFO(kind) else os.O_WRONLY | os.O_TRUNC
-            file = os.open(self.output, flags)
-            os.write(file, line.encode())
-            os.close(file)
-
-    def is_taken(self):
-        """Whether a simulator would take the file for the trace: it is empty, or begins as one. A
-        program or a map, named by mistake, does not. What standard input reads is left too."""
-        with open(self.output, "rb") as file:
-            start = file.read(2).strip()
-        return start in (b"", b"0", b"1", b"2", b"3", b"4") and not tool.is_same(0, self.output)

@@ -3,7 +3,8 @@
 import re
 from collections import namedtuple
 
-from lib.tool import faults_of, spare, warn
+from lib.files import spare
+from lib.tool import faults_of, warn
 
 HEADER = "bsize,sets,assoc,size,hits,misses,evictions"
 # columns that count references, those of `three-c` too: they are shown in per cent of all

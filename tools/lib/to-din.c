@@ -4,15 +4,11 @@
 //
 // To add a format, write a function that reads one of its lines and puts its accesses, give it a
 // row in `formats`, and say in to-din's help how such a trace is made and which lines are skipped.
-#include <errno.h>
+#define _GNU_SOURCE
 #include <stdarg.h>
-#include <stdbool.h>
 #include <stdint.h>
-#include <stdio.h>
-#include <stdlib.h>
-#include <string.h>
-#include <unistd.h>
 #include "din-line.h"
+#include "filter.h"
 #include "hexadecimal.h"
 
 enum { PIECE = 1 << 18, LONGEST = 1 << 24, RECORD = 64, SHOWN = 60 };
@@ -20,21 +16,13 @@ enum label { READ = '0', WRITE = '1', FETCH = '2' };
 
 static const char *name = "to-din";
 static char input[LONGEST + 1];  // of this only what the longest line needs is ever touched
-static char output[1 << 16];
-static size_t used;      // bytes of the output that wait to be written
 static uintmax_t number; // of lines or records that were read
 static bool accessed;    // there was an access
 static int failure = 1;  // the exit status after a fault
 
 // ---- Writing
 
-static void drain(void) {
-    if (fwrite(output, 1, used, stdout) < used) {
-        fprintf(stderr, "%s: write failed: %s\n", name, strerror(errno));
-        exit(1);
-    }
-    used = 0;
-}
+static const char writing[] = "write failed";
 
 // Ends with a line on standard error. to-din ends the output in a line that is no din line.
 static _Noreturn void fail(const char *form, ...) {
@@ -44,13 +32,13 @@ static _Noreturn void fail(const char *form, ...) {
     vsnprintf(line, sizeof line, form, values);
     va_end(values);
     fprintf(stderr, "%s: %s\n", name, line);
-    drain();
+    finish(name, writing);
     exit(failure);
 }
 
 static void put(enum label label, uint64_t address) {
-    if (used > sizeof output - LONGEST_LINE) drain();
-    used = (size_t)(put_line(output + used, (char)label, address) - output);
+    char *to = next_line(name, writing);
+    output.used += (size_t)(put_line(to, (char)label, address) - to);
     accessed = true;
 }
 
@@ -396,7 +384,7 @@ static int convert(const struct format *format) {
     ssize_t got;
     do {
         if (held == LONGEST) fail("line %ju: %d bytes or more", number + 1, LONGEST);
-        got = read(STDIN_FILENO, input + held, LONGEST - held < PIECE ? LONGEST - held : PIECE);
+        got = read_input(input + held, LONGEST - held < PIECE ? LONGEST - held : PIECE);
         if (got < 0) fail("%s %ju: read failed: %s", unit, number + 1, strerror(errno));
         held += (size_t)got;
         if (!got && held && !binary) input[held++] = '\n';  // the last line may be without it
@@ -405,14 +393,14 @@ static int convert(const struct format *format) {
     } while (got);
     if (held) fail("record %ju: cut short: %zu of %d bytes", number + 1, held, RECORD);
     if (number && !accessed) fail("no access in lines 1 to %ju", number);
-    drain();
+    finish(name, writing);
     return 0;
 }
 
 int main(int count, char **words) {
     const char *asked = count == 2 ? words[1] : "that";
     if (count) name = words[0];
-    setvbuf(stdout, NULL, _IONBF, 0);
+    begin_filter();
     make_digits();
     for (size_t i = 0; i < sizeof formats / sizeof *formats; i++)
         if (!strcmp(asked, formats[i].name)) return convert(&formats[i]);

@@ -10,7 +10,6 @@ What few tools need is imported where it is used, since each module takes a mill
 import contextlib
 import os
 import re
-import stat
 import sys
 
 HERE = os.path.dirname(os.path.dirname(os.path.realpath(__file__)))  # the tools
@@ -23,7 +22,7 @@ UNSEEN = re.compile("[\0-\x1f\x7f-\x9f\ud800-\udfff]")  # control letters, lone 
 
 
 class Spared(SystemExit):
-    """The end of a tool that was to write to a file that it reads, which it leaves as it is."""
+    """The end of a tool that leaves its output as it is: it is read too, or has no more room."""
 
 
 def visible(text):
@@ -118,64 +117,6 @@ def needs(command, package):
 def is_option(word):
     """Whether an argument where a trace is wanted is an option, and no file of that name."""
     return len(word) > 1 and word.startswith("-") and not os.path.exists(word)
-
-
-def readable(trace):
-    """Ends the tool where a trace is neither '-' nor something that can be read, or is the file
-    that standard output goes to."""
-    if trace != "-" and (os.path.isdir(trace) or not os.access(trace, os.R_OK)):
-        fail(f"{trace}: no file that can be read")
-    spare(trace)
-
-
-def spare(file):
-    """Ends the tool where the file that it is about to read, or '-', is the one that standard
-    output goes to: it would be lost, or grow as it is read. What opens a trace or a table asks
-    this."""
-    if is_same(0 if file == "-" else file, 1):
-        name = "standard input" if file == "-" else file
-        fail(f"{name} is standard output too", kind=Spared)
-
-
-def identity(file):
-    """What names and descriptors of one file have in common, whose contents could be lost; also
-    names of one that is not there yet. None for a device, a pipe or a folder."""
-    try:
-        found = os.stat(file)
-    except OSError:
-        return os.path.realpath(file) if isinstance(file, str) else None
-    return (found.st_dev, found.st_ino) if stat.S_ISREG(found.st_mode) else None
-
-
-def is_same(file, other):
-    """Whether two names or descriptors are of one such file."""
-    return None is not identity(file) == identity(other)
-
-
-def apart(outputs, inputs=()):
-    """Ends the tool where a file that it is to write is read too, or is another such file. Each has
-    what it is called by its name or descriptor, which may be empty."""
-    names = {identity(file): name for name, file in inputs if file not in (None, "")}
-    for name, file in outputs:
-        if file not in (None, "") and (own := identity(file)):
-            if own in names:
-                misused(f"{name} and {names[own]} are one file", Spared)
-            names[own] = name
-
-
-def replace(place, data, mode):
-    """Writes a file beside a place and moves it there, so that a failure leaves what was there, and
-    a link is not followed."""
-    from tempfile import mkstemp
-    handle, fresh = mkstemp(prefix=f".{NAME}.", dir=os.path.dirname(place))
-    try:
-        with open(handle, "wb") as file:
-            file.write(data)
-            os.fchmod(handle, mode)
-        os.replace(fresh, place)
-    except BaseException:
-        os.unlink(fresh)
-        raise
 
 
 def bytes_of(text):

@@ -264,7 +264,7 @@ def kept(keep, given, program):
     """The six traces, kept in a folder, by their names there."""
     names = [os.path.join(keep, name) for _, name in given]
     os.makedirs(keep, exist_ok=True)
-    tool.apart([("standard output", 1), *zip(names, names)], [("CSIM", program)])
+    files.apart([("standard output", 1), *zip(names, names)], [("CSIM", program)])
     for name in names:
         files.claim(name)
     for (place, _), name in zip(given, names):

@@ -6,7 +6,7 @@ import re
 import shutil
 import tempfile
 
-from lib import processes
+from lib import files, processes
 from parts import tool
 from parts.picture import ACCESSES, Picture
 
@@ -71,7 +71,7 @@ def from_decimal(line):
 
 def copied(trace, copy, until, is_decimal):
     """Copies a trace, or its first lines."""
-    tool.spare("-" if trace is None else trace)
+    files.spare("-" if trace is None else trace)
     try:
         with open(0 if trace is None else trace, "rb", closefd=trace is not None) as lines:
             if until is None and not is_decimal:

@@ -3,8 +3,9 @@
 import os
 
 from lib import costs, table
+from lib.files import replace
 from lib.plot import canvas as plot_canvas
-from lib.tool import fail, faults_of, replace, write_lines
+from lib.tool import fail, faults_of, write_lines
 
 
 def canvas_of(asked, count):

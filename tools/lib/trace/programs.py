@@ -12,10 +12,11 @@ MACHINES = {(2, 62): "x86_64", (1, 3): "i386", (2, 183): "aarch64", (1, 40): "ar
 
 
 class Program:
-    """A file, its machine, and the words that it gets: its name and its arguments."""
+    """A file, its machine, and the words that it gets: its name and its arguments. Where it is an
+    interpreter, the first of `files` is a script, and others may be."""
 
-    def __init__(self, path, machine, words):
-        self.path, self.machine, self.words = path, machine, words
+    def __init__(self, files, machine, words):
+        self.path, self.files, self.machine, self.words = files[-1], files, machine, words
 
 
 def no_program(status, text):
@@ -72,11 +73,11 @@ def interpreted(script, head, words):
 
 def resolve(words):
     """The program that is to run for a name and arguments."""
-    path, called = found(words[0]), words[0]
+    files, called = [found(words[0])], words[0]
     for _ in range(5):
-        head = beginning(path)
-        if machine := machine_of(path, head):
-            return Program(path, machine, words)
-        words = interpreted(path, head, words)
-        path = found(words[0], path)
+        head = beginning(files[-1])
+        if machine := machine_of(files[-1], head):
+            return Program(files, machine, words)
+        words = interpreted(files[-1], head, words)
+        files.append(found(words[0], files[-1]))
     no_program(CANNOT_RUN, f"{called} can't be run: its interpreter is a script, and so on")

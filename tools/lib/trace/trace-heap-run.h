@@ -35,6 +35,6 @@ static void end_heap(void) {
     if (memory->heap == 'n')
         fail(OWN_FAULT, "the program has a malloc of its own, of which --heap can't tell");
     if (!memory->heap && !closed) fail(OWN_FAULT, "the program didn't load the library of --heap");
-    if (!fault) fprintf(heap, "%lx end\n", written);
+    if (!output.fault) fprintf(heap, "%lx end\n", written);
     if (ferror(heap) | fclose(heap)) fail(OWN_FAULT, "the file of --heap can't be written");
 }

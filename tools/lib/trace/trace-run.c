@@ -12,22 +12,16 @@
 // signal's number, or 125 or 126 for a fault.
 #define _GNU_SOURCE
 #include <err.h>
-#include <errno.h>
-#include <fcntl.h>
-#include <signal.h>
 #include <stdarg.h>
-#include <stdio.h>
 #include <stdlib.h>
-#include <string.h>
 #include <sys/mman.h>
 #include <sys/prctl.h>
-#include <sys/stat.h>
 #include <sys/wait.h>
-#include <unistd.h>
 #include "../din-line.h"
+#include "../output.h"
 #include "trace-memory.h"
 
-enum { OWN_FAULT = 125, CANNOT_RUN = 126, TEXT = 1 << 20, PATIENCE = 2, LAST = 1 << 13 };
+enum { OWN_FAULT = 125, CANNOT_RUN = 126, PATIENCE = 2 };
 
 static struct memory *memory;               // where QEMU is the tracer
 static volatile pid_t program, converter;   // each 0 after its end; QEMU needs no converter
@@ -38,71 +32,72 @@ static sem_t ends;                          // of these processes, for who waits
 
 // ---- The trace
 
-static int trace;
 static const char *trace_name;
 static char kind;
 static uint64_t skip, count;  // how many references are still to be left out, and to be written
 static bool skips;            // some were to be left out
 static bool wrote;            // a reference was not
 static uint64_t written;      // how many were not
-static char text[TEXT];
-static size_t used;
-static bool closed;           // nothing more is written, ..
-static int fault;             // .. for this reason; 0 where COUNT was reached
+static bool closed;           // nothing more is written: COUNT was reached, or a write failed
+
+static volatile bool is_patient;  // the alarm is this process's own
+
+static void wait_a_while(void) {
+    is_patient = true;
+    alarm(PATIENCE);
+}
 
 // Ends the program: by a signal that it may handle, and after some seconds by one that it can't.
 static void end_program(void) {
     if (!program) return;
     kill(program, SIGTERM);
-    alarm(PATIENCE);
+    wait_a_while();
+}
+
+static void heed_fault(void) {
+    if (!output.fault || closed) return;
+    closed = true;
+    end_program();
 }
 
 static void drain(void) {
-    for (size_t done = 0; done < used && !closed;) {
-        ssize_t wrote = write(trace, text + done, used - done);
-        if (wrote >= 0) {
-            done += (size_t)wrote;
-        } else if (errno != EINTR) {
-            fault = errno;
-            closed = true;
-            end_program();
-        }
-    }
-    used = 0;
+    if (closed) output.used = 0;
+    drain_output();
+    heed_fault();
+}
+
+static void finish(void) {
+    if (closed) output.used = 0;
+    finish_output();
+    heed_fault();
 }
 
 // Ends the trace in a line that is no din line: who reads it doesn't take it for a whole one.
 static void put_mark(const char *message) {
-    used = (size_t)snprintf(text, TEXT, "%s: %s\n", program_invocation_short_name, message);
-    drain();
-}
-
-// The same of a file that has no more room, in place of what it ends in.
-static void mark_full_file(void) {
-    static const char mark[] = "\ntrace failed: what stands above is not all\n";
-    struct stat of;
-    if (fstat(trace, &of) || !S_ISREG(of.st_mode)) return;
-    off_t end = of.st_size > LAST ? of.st_size - LAST : 0;
-    if (ftruncate(trace, end) || pwrite(trace, mark, sizeof mark - 1, end) < 0)
-        warn("%s can't be marked", trace_name);
+    closed = false;
+    finish();
+    output.used = (size_t)snprintf(output.text, ROOM, "%s: %s\n", program_invocation_short_name,
+                                   message);
+    finish();
+    if (output.fault && output.fault != EPIPE) end_full_output(program_invocation_short_name);
 }
 
 // Ends with a message, in which the trace ends too.
 static _Noreturn void fail(int own_status, const char *form, ...) {
-    static char message[TEXT / 2];
+    static char message[ROOM / 2];
     va_list values;
     va_start(values, form);
     vsnprintf(message, sizeof message, form, values);
     va_end(values);
     warnx("%s", message);
-    if (!isatty(trace)) put_mark(message);
+    if (!isatty(output.file)) put_mark(message);
     exit(own_status);
 }
 
 // Whether a reader may take what was written for the whole trace, whatever ended this process.
 static bool goes_to_a_pipe(void) {
     struct stat of;
-    return !fstat(trace, &of) && (S_ISFIFO(of.st_mode) || S_ISSOCK(of.st_mode));
+    return !fstat(output.file, &of) && (S_ISFIFO(of.st_mode) || S_ISSOCK(of.st_mode));
 }
 
 // Leaves a process that ends the trace in no din line, when a reader has room. Called in a handler.
@@ -112,10 +107,10 @@ static void leave_mark(void) {
     sigset_t none;
     if (!goes_to_a_pipe() || fork()) return;
     for (int standard = 0; standard < 3; standard++) close(standard);
-    signal(SIGHUP, SIG_DFL), signal(SIGINT, SIG_DFL), signal(SIGTERM, SIG_DFL);
+    for (int number = 1; number < NSIG; number++) signal(number, SIG_DFL);
     sigemptyset(&none);
     sigprocmask(SIG_SETMASK, &none, NULL);
-    ssize_t wrote = write(trace, mark, sizeof mark - 1);
+    ssize_t wrote = write(output.file, mark, sizeof mark - 1);
     _exit(wrote < 0);
 }
 
@@ -131,7 +126,7 @@ static void choose(size_t came, size_t *from, size_t *to) {
 
 static void end_at_count(void) {
     if (count || closed) return;
-    drain();
+    finish();
     closed = true;
     end_program();
 }
@@ -143,16 +138,16 @@ static void end_at_count(void) {
 static void write_references(const struct block *block, size_t first, size_t end) {
     size_t from, to;
     choose(end - first, &from, &to);
-    char *at = text + used;
+    char *at = output.text + output.used;
     for (size_t i = first + from; i < first + to; i++)
         at = put_line(at, block->label[i], block->address[i]);
-    used = (size_t)(at - text);
+    output.used = (size_t)(at - output.text);
     end_at_count();
 }
 
 static void write_block(struct block *block) {
     size_t end, all = atomic_load(&block->used);
-    if (used > TEXT - REFERENCES * LONGEST_LINE) drain();
+    if (output.used > ROOM - REFERENCES * LONGEST_LINE) drain();
     for (size_t first = 0; first < all && !closed; first = end) {
         end = heap ? first : all;
         while (end < all && is_reference(block->label[end])) end++;
@@ -178,7 +173,7 @@ static void follow_blocks(void) {
         drain();
     }
     for (size_t i = 0; i < BLOCKS; i++) write_block(&memory->blocks[i]);  // of killed threads
-    drain();
+    finish();
 }
 
 static int share_memory(void) {
@@ -205,9 +200,9 @@ static void write_line(const char *line, size_t length) {
     if ((kind == 'd' && is_fetch) || (kind == 'i' && is_data)) return;
     choose(1, &from, &to);
     if (closed || from == to) return;
-    if (used > TEXT - length) drain();
-    memcpy(text + used, line, length);
-    used += length;
+    if (output.used > ROOM - length) drain();
+    memcpy(output.text + output.used, line, length);
+    output.used += length;
     end_at_count();
 }
 
@@ -217,15 +212,31 @@ static void follow_lines(int in) {
     size_t room = 0;
     if (!lines) fail(OWN_FAULT, "no lines to read");
     for (ssize_t length; (length = getline(&line, &room, lines)) > 0;)
-        if (length < TEXT) write_line(line, (size_t)length);
-    drain();
+        if (length < ROOM / 2) write_line(line, (size_t)length);
+    finish();
     while (program || converter) sem_wait(&ends);
 }
 
 // ---- The program
 
-static const int passed_on[] = {SIGHUP, SIGINT, SIGQUIT, SIGTERM, SIGUSR1, SIGUSR2};
-static volatile sig_atomic_t stopped;  // the last of these that came
+static volatile sig_atomic_t stopped;  // the last signal that came and was passed on
+static volatile sig_atomic_t ending;   // and one that ends this process
+static bool heeds_alarm;
+
+static bool is_passed_on(int number) {
+    return number == SIGHUP || number == SIGINT || number == SIGQUIT || number == SIGTERM ||
+           number == SIGUSR1 || number == SIGUSR2;
+}
+
+// Of others those that would end this process, and are no fault of its own.
+static bool is_an_end(int number) {
+    static const int others[] = {
+        SIGKILL, SIGSTOP, SIGTSTP, SIGTTIN, SIGTTOU, SIGCONT, SIGCHLD, SIGURG, SIGWINCH, SIGPIPE,
+        SIGXFSZ, SIGSEGV, SIGBUS, SIGFPE, SIGILL, SIGABRT, SIGTRAP, SIGSYS};
+    for (size_t i = 0; i < sizeof others / sizeof *others; i++)
+        if (number == others[i]) return false;
+    return true;
+}
 
 static void take_ended(void) {
     int how;
@@ -243,36 +254,41 @@ static void take_ended(void) {
 }
 
 // A signal from a terminal goes to the program as well; one that was sent to this process is passed
-// on. After the program's end it ends this process, which may wait for a reader; but in some time,
-// as the program has often just ended by it, for its last lines.
+// on, or ends the program and then this process. After the program's end it ends this process, which
+// may wait for a reader; but in some time, as the program has often just ended by it, for its last
+// lines.
 static void on_signal(int number, siginfo_t *info, void *context) {
     static volatile sig_atomic_t late;
     (void)context;
     int before = errno;
-    if (number == SIGALRM) {
-        if (program) kill(program, SIGKILL);
+    if (number == SIGALRM && is_patient) {
+        if (program) kill(program, SIGKILL), wait_a_while();
         else if (late) leave_mark(), _exit(128 + late);
-    } else {
+    } else if (number == SIGCHLD) {
+        take_ended();
+    } else if (number != SIGALRM || heeds_alarm) {
         take_ended();  // which may be reported only after this signal
-        if (number != SIGCHLD) stopped = number;
-        if (number != SIGCHLD && !program) {
-            late = number;
-            alarm(PATIENCE);
-        } else if (number != SIGCHLD && info->si_code <= 0) {
-            kill(program, number);
-        }
+        if (is_passed_on(number)) stopped = number;
+        else ending = late = number;
+        if (!program) late = number, wait_a_while();
+        else if (ending) end_program();
+        else if (info->si_code <= 0) kill(program, number);
     }
     errno = before;
 }
 
+// Those that were ignored stay so.
 static void watch_signals(void) {
-    struct sigaction action = {.sa_sigaction = on_signal,
-                               .sa_flags = SA_SIGINFO | SA_RESTART | SA_NOCLDSTOP};
+    struct sigaction was, action = {.sa_sigaction = on_signal,
+                                    .sa_flags = SA_SIGINFO | SA_RESTART | SA_NOCLDSTOP};
     sigfillset(&action.sa_mask);
+    sigaction(SIGALRM, NULL, &was);
+    heeds_alarm = was.sa_handler != SIG_IGN;
+    for (int number = 1; number < NSIG; number++)
+        if (is_an_end(number) && !sigaction(number, NULL, &was) && was.sa_handler != SIG_IGN)
+            sigaction(number, &action, NULL);
     sigaction(SIGCHLD, &action, NULL);
     sigaction(SIGALRM, &action, NULL);
-    for (size_t i = 0; i < sizeof passed_on / sizeof *passed_on; i++)
-        sigaction(passed_on[i], &action, NULL);
     signal(SIGPIPE, SIG_IGN);  // a failing write tells it
 }
 
@@ -281,6 +297,8 @@ static void start(char **words) {
     pid_t own = getpid();
     sigfillset(&all);
     sigprocmask(SIG_BLOCK, &all, &before);
+    for (int number = 1; number < NSIG; number++)  // which trace has put off until here
+        if (is_an_end(number)) sigdelset(&before, number);
     program = fork();
     if (program < 0) fail(OWN_FAULT, "no process for the program");
     if (!program) {
@@ -304,24 +322,30 @@ static bool is_cut(void) {
     return stopped && !closed && (WIFSIGNALED(status) || (!is_own && WEXITSTATUS(status)));
 }
 
+static int end_by(int number) {
+    sigset_t none;
+    sigemptyset(&none);
+    sigprocmask(SIG_SETMASK, &none, NULL);
+    signal(number, SIG_DFL);
+    raise(number);
+    return 128 + number;
+}
+
 static int judged(void) {
     if (converter_failed) fail(OWN_FAULT, "to-din failed: the tracer's lines can't be converted");
     if (!closed && !ran)
         fail(CANNOT_RUN, "the program can't be run: see the message of its tracer");
-    if (is_cut() && goes_to_a_pipe()) {
+    if ((ending && !closed) || (is_cut() && goes_to_a_pipe())) {
         put_mark("a signal ended it: what stands above is not all");
-    } else if (skips && !wrote && !fault && !stopped) {
+    } else if (skips && !wrote && !output.fault && !stopped) {
         fail(OWN_FAULT, "--skip omits all references of the program");
     }
-    if (fault && fault != EPIPE) mark_full_file();
-    if (close(trace) && !fault) fault = errno;
-    if (fault == EPIPE) {
-        signal(SIGPIPE, SIG_DFL);
-        raise(SIGPIPE);
-        return 128 + SIGPIPE;
-    }
-    errno = fault;
-    if (fault) err(OWN_FAULT, "%s", trace_name);
+    bool is_full = output.fault && output.fault != EPIPE;
+    const char *how = is_full ? end_full_output(program_invocation_short_name) : "";
+    if (close(output.file) && !output.fault) output.fault = errno;
+    if (output.fault == EPIPE) return end_by(SIGPIPE);
+    if (output.fault) errx(OWN_FAULT, "%s: %s%s", trace_name, strerror(output.fault), how);
+    if (ending) return end_by(ending);
     if (closed) return 0;
     if (WIFSIGNALED(status)) return 128 + WTERMSIG(status);
     if (memory && !memory->exited)
@@ -370,14 +394,14 @@ static void trace_by_lines(char **words) {
 int main(int words_count, char **words) {
     if (words_count < 10) errx(OWN_FAULT, "this is the inner half of trace");
     signal(SIGXFSZ, SIG_IGN);  // and so it is here
-    trace = atoi(words[1]);
+    begin_output(atoi(words[1]));
     trace_name = words[2];
     kind = *words[3];
     skip = strtoull(words[4], NULL, 10);
     skips = skip > 0;
     count = strtoull(words[5], NULL, 10);
     if (!count) count = UINT64_MAX;
-    fcntl(trace, F_SETFD, FD_CLOEXEC);
+    fcntl(output.file, F_SETFD, FD_CLOEXEC);
     if (!strcmp(words[6], "qemu")) trace_by_qemu(words + 6);
     else trace_by_lines(words + 6);
     return judged();
