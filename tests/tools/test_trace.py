@@ -10,7 +10,7 @@ import shutil
 import signal
 import subprocess
 
-from base import PROGRAM, TOOLS, comes, copy_tools
+from base import EXAMPLES, PROGRAM, TOOLS, comes, copy_tools
 from trace_base import SPACE, TRACED, TraceTest, program_of
 
 QEMU = f"qemu-{platform.machine()}"
@@ -313,18 +313,22 @@ class StandIn(TraceTest):
             self.refused(self.trace("-o", "kept", name, "2:1"), status, name, text)
             self.assertFalse((self.folder / "kept").exists())
 
-    def test_an_earlier_trace_is_not_left(self):
-        """Where no new one can be made: it would look like the new one."""
-        space = "--bsize 16 --sets 1 --assoc 1 --size 16 -t"
-        for arguments in (["./none"], ["--nosuch", "1", self.program],
-                          ["--count", "0", self.program], []):
+    def test_an_earlier_trace_is_left(self):
+        """Where no new one can be made. But who waits at a pipe learns it, and is not waited for."""
+        fake = {"PATH": f"{self.folder}/none"}
+        for arguments, env in (
+            *(([*words, self.program], {}) for words in (
+                ["--nosuch", "1"], ["--count", "0"], ["--map", "nosuch/file"],
+                ["--program-output", "nosuch/file"], ["--from", "none"])),
+            (["./none"], {}), ([], {}), (["/dev/null"], {}), ([EXAMPLES / "sort.c"], {}),
+            ([self.program], fake), (["--with", "lackey", self.program], fake),
+        ):
             (self.folder / "old").write_text("0 10\n")
-            ran = self.trace("-o", "old", *arguments)
-            self.assertIn(ran.returncode, (125, 127))
-            self.assertEqual(ran.stdout, b"")
-            ran = self.run_command(PROGRAM, "sweep", *space.split(), "old")
-            self.refused(ran, 1, "cachesim: line 1: bad label")
-        # who waits at a pipe learns it too, and no one is waited for
+            ran = self.trace("-o", "old", *arguments, env=env)
+            self.refused(ran, ran.returncode, "trace: ")
+            self.assertIn(ran.returncode, (125, 126, 127))
+            self.assertEqual((self.folder / "old").read_text(), "0 10\n", arguments)
+        space = "--bsize 16 --sets 1 --assoc 1 --size 16 -t"
         os.mkfifo(self.folder / "pipe")
         self.assertEqual(self.trace("-o", "pipe", "./none", seconds=20).returncode, 127)
         line = f"cachesim sweep {space} pipe & sleep 0.5; trace -o pipe ./none; wait $!"

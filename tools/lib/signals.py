@@ -12,6 +12,7 @@ from lib import STOPS
 
 # when an alarm comes that was set before the tool began, and whether it ends the tool; once known
 alarm_comes, heeds_alarm = None, None
+overdue = 0  # ticks of an earlier timer that have yet to come
 
 
 # at its end Python takes back what it calls at signals
@@ -52,14 +53,17 @@ def look_each_second(look=lambda *_: None, first=1):
     """Calls `look` each second, in place of what was called before. Python only takes note of a
     signal that comes just before a wait, and heeds it when the wait is interrupted: by this. The
     timer may have been set before: that alarm still ends the tool, and so does one that is sent."""
-    global alarm_comes, heeds_alarm
+    global alarm_comes, heeds_alarm, overdue
     left, _ = signal.setitimer(signal.ITIMER_REAL, 0)
-    if alarm_comes is None:
+    if alarm_comes is not None:
+        overdue = int(not left)
+    else:
         heeds_alarm = signal.getsignal(signal.SIGALRM) != signal.SIG_IGN
         alarm_comes = time.monotonic() + left if left and heeds_alarm else math.inf
 
     def tick(number, frame):
-        is_sent = signal.getitimer(signal.ITIMER_REAL)[0] > 0
+        global overdue
+        is_sent, overdue = signal.getitimer(signal.ITIMER_REAL)[0] > 0 and not overdue, 0
         if heeds_alarm and (is_sent or alarm_comes <= time.monotonic()):
             stop(number, frame)
         set_timer(1)
