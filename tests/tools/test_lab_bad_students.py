@@ -6,69 +6,125 @@ import csv
 import shutil
 
 from base import needs
-from lab_base import running
+from lab_base import SHORT, running
 from test_lab_class import ClassTest
 
-# name, points (and those with --confine, where they differ), what is said, and what csim does: a
+# name, points (and those with --confine, where they differ) and what is said; and what csim does, a
 # script, for which $right is a right program. '-' is one that ends `grade` itself. After a run that
 # does not end well there are no points, whatever it printed.
 STUDENTS = r"""
-silent           | 0   | got    nothing           | :
-fine             | 3   |                          | "$right" "$@"
-status           | 0   | ended with status 3      | "$right" "$@"; exit 3
-status_255       | 0   | ended with status 255    | "$right" "$@"; exit 255
-status_of_signal | 0   | ended by signal 2: Inter | "$right" "$@"; exit 130
-segmentation     | 0   | ended by signal 11: Segm | "$right" "$@"; kill -SEGV $$
-abort            | 0   | ended by signal 6: Abort | kill -ABRT $$
-kills_itself     | 0   | ended by signal 9: Kille | kill -KILL $$
-kills_its_group  | 0   | ended by signal 15: Term | kill -TERM 0
-stops_itself     | 0   | no end within            | kill -STOP $$
-loops            | 0   | no end within            | while :; do :; done
-loops_deaf       | 0   | no end within            | trap '' TERM HUP INT QUIT; while :; do :; done
-sleeps_after     | 0   | no end within            | "$right" "$@"; exec sleep 1000
-child            | 3   |                          | sleep 1000 & "$right" "$@"
-child_of_session | 3   |                          | setsid sleep 1000 & "$right" "$@"
-daemon           | 3   |                          | (setsid sleep 1000 &); "$right" "$@"
-children         | 3   |                          | for i in {1..60}; do setsid sleep 1000 & done; "$right" "$@"
-child_prints     | 3   |                          | "$right" "$@"; (sleep 2; echo hits:0 misses:0 evictions:0) &
-floods           | 0   | ended by signal 25: File | exec yes
-floods_a_file    | 0   | ended by signal 25: File | "$right" "$@"; head -c 70000000 /dev/zero > large
-floods_messages  | 0   | ended by signal 25: File | exec yes >&2
-no_files         | 0   | ended by signal 25: File | ulimit -f 0; exec "$right" "$@"
-many_files       | 3   |                          | touch file-{1..2000}; "$right" "$@"
-deep_folders     | 3   |                          | "$right" "$@"; for i in {1..1500}; do mkdir d && cd d; done
-deep_locked      | 3   |                          | "$right" "$@"; for i in {1..40}; do mkdir d && cd d && chmod 0 .; done
-long_names       | 3   |                          | n=$(printf '%0200d' 0); "$right" "$@"; for i in {1..40}; do mkdir $n && cd $n; done
-locked_folders   | 3   |                          | mkdir -p a/b/c; touch a/b/f; chmod 0 a/b a; "$right" "$@"
-locked_room      | 3   |                          | "$right" "$@"; chmod 0 .
-room_moved       | 3   |                          | "$right" "$@"; mv "$PWD" ../moved 2> /dev/null; :
-room_a_link      | 3   |                          | "$right" "$@"; mv "$PWD" ../moved 2> /dev/null && ln -s "$here" "$PWD"; :
-results_pipe     | 3   |                          | "$right" "$@"; rm .csim_results; mkfifo .csim_results
-results_link     | 3   |                          | "$right" "$@"; ln -sf /dev/zero .csim_results
-results_folder   | 3   |                          | "$right" "$@"; rm .csim_results; mkdir .csim_results
-results_huge     | 0   | .csim_results has        | "$right" "$@"; head -c 5000000 /dev/zero > .csim_results
-results_binary   | 0   | has '\x1b[31m\xff'       | "$right" "$@"; printf '\033[31m\377' > .csim_results
-results_digits   | 0   | .csim_results has '0000  | "$right" "$@"; printf '%04300d' 1 > .csim_results
-results_empty    | 0   | .csim_results has ''     | "$right" "$@"; : > .csim_results
-digits           | 0   | no summary; the last lin | printf 'hits:%04300d misses:1 evictions:1\n' 1
-negative         | 0   | got    hits:-1 misses:-1 | echo hits:-1 misses:-1 evictions:-1
-no_line_feed     | 3   |                          | printf %s "$("$right" "$@")"
-carriage_return  | 3   |                          | "$right" "$@" | sed 's/$/\r/'
-escapes          | 0   | '\x1b[2J\x9b31m\x7f'     | printf '\033[2J\302\23331m\177\n'
-long_line        | 3   |                          | head -c 3000000 /dev/zero | tr '\0' x; echo; "$right" "$@"
-zeros            | 3   |                          | head -c 100000 /dev/zero; echo; "$right" "$@"
-two_summaries    | 0   | got    hits:0 misses:0   | "$right" "$@"; rm .csim_results; echo hits:0 misses:0 evictions:0
-to_messages      | 0   | got    nothing           | "$right" "$@" >&2
-no_output        | 0   | got    nothing           | exec >&-; "$right" "$@"
-no_descriptors   | 0   | got    nothing           | exec <&- >&- 2>&-; "$right" "$@"
-reads_input      | 3   |                          | cat; "$right" "$@"
-reads_again      | 3   |                          | cat "${@: -1}" "${@: -1}" > copy; "$right" "$@"
-removes_trace    | 3   |                          | "$right" "$@"; rm -r traces
-writes_trace     | 3   |                          | "$right" "$@"; echo nonsense | tee "${@: -1}" > traces/other
-trace_a_pipe     | 3   |                          | "$right" "$@"; rm "${@: -1}"; mkfifo "${@: -1}"
-leaves_temporary | 3   |                          | mktemp -d > name; mktemp >> name; "$right" "$@"
-ends_grade       | -/0 | no end within            | kill -TERM $PPID; exec sleep 1000
-kills_grade      | -/0 | no end within            | kill -KILL $PPID; exec sleep 1000
+silent 0 got    nothing
+    :
+fine 3
+    "$right" "$@"
+status 0 ended with status 3
+    "$right" "$@"; exit 3
+status_255 0 ended with status 255
+    "$right" "$@"; exit 255
+status_of_signal 0 ended by signal 2: Inter
+    "$right" "$@"; exit 130
+segmentation 0 ended by signal 11: Segm
+    "$right" "$@"; kill -SEGV $$
+abort 0 ended by signal 6: Abort
+    kill -ABRT $$
+kills_itself 0 ended by signal 9: Kille
+    kill -KILL $$
+kills_its_group 0 ended by signal 15: Term
+    kill -TERM 0
+stops_itself 0 no end within
+    kill -STOP $$
+loops 0 no end within
+    while :; do :; done
+loops_deaf 0 no end within
+    trap '' TERM HUP INT QUIT; while :; do :; done
+sleeps_after 0 no end within
+    "$right" "$@"; exec sleep 1000
+child 3
+    sleep 1000 & "$right" "$@"
+child_of_session 3
+    setsid sleep 1000 & "$right" "$@"
+daemon 3
+    (setsid sleep 1000 &); "$right" "$@"
+children 3
+    for i in {1..60}; do setsid sleep 1000 & done; "$right" "$@"
+child_prints 3
+    "$right" "$@"; (sleep 2; echo hits:0 misses:0 evictions:0) &
+floods 0 ended by signal 25: File
+    exec yes
+floods_a_file 0 ended by signal 25: File
+    "$right" "$@"; head -c 70000000 /dev/zero > large
+floods_messages 0 ended by signal 25: File
+    exec yes >&2
+no_files 0 ended by signal 25: File
+    ulimit -f 0; exec "$right" "$@"
+many_files 3
+    touch file-{1..2000}; "$right" "$@"
+deep_folders 3
+    "$right" "$@"; mkdir -p $(printf 'd/%.0s' {1..1500})
+deep_locked 3
+    "$right" "$@"; for i in {1..40}; do mkdir d && cd d && chmod 0 .; done
+long_names 3
+    n=$(printf '%0200d' 0); "$right" "$@"; for i in {1..40}; do mkdir $n && cd $n; done
+locked_folders 3
+    mkdir -p a/b/c; touch a/b/f; chmod 0 a/b a; "$right" "$@"
+locked_room 3
+    "$right" "$@"; chmod 0 .
+room_moved 3
+    "$right" "$@"; mv "$PWD" ../moved 2> /dev/null; :
+room_a_link 3
+    "$right" "$@"; mv "$PWD" ../moved 2> /dev/null && ln -s "$here" "$PWD"; :
+results_pipe 0 .csim_results has ''
+    "$right" "$@"; rm .csim_results; mkfifo .csim_results
+results_link 3
+    "$right" "$@"; ln -sf /dev/zero .csim_results
+results_folder 3
+    "$right" "$@"; rm .csim_results; mkdir .csim_results
+results_huge 0 .csim_results has
+    "$right" "$@"; head -c 5000000 /dev/zero > .csim_results
+results_binary 0 has '\x1b[31m\xff'
+    "$right" "$@"; printf '\033[31m\377' > .csim_results
+results_digits 0 .csim_results has '0000
+    "$right" "$@"; printf '%04300d' 1 > .csim_results
+results_empty 0 .csim_results has ''
+    "$right" "$@"; : > .csim_results
+digits 0 no summary; the last lin
+    printf 'hits:%04300d misses:1 evictions:1\n' 1
+negative 0 got    hits:-1 misses:-1
+    echo hits:-1 misses:-1 evictions:-1
+no_line_feed 3
+    printf %s "$("$right" "$@")"
+carriage_return 3
+    "$right" "$@" | sed 's/$/\r/'
+escapes 0 '\x1b[2J\x9b31m\x7f'
+    printf '\033[2J\302\23331m\177\n'
+long_line 3
+    head -c 3000000 /dev/zero | tr '\0' x; echo; "$right" "$@"
+zeros 3
+    head -c 100000 /dev/zero; echo; "$right" "$@"
+two_summaries 0 got    hits:0 misses:0
+    "$right" "$@"; rm .csim_results; echo hits:0 misses:0 evictions:0
+to_messages 0 got    nothing
+    "$right" "$@" >&2
+no_output 0 got    nothing
+    exec >&-; "$right" "$@"
+no_descriptors 0 got    nothing
+    exec <&- >&- 2>&-; "$right" "$@"
+reads_input 3
+    cat; "$right" "$@"
+reads_again 3
+    cat "${@: -1}" "${@: -1}" > copy; "$right" "$@"
+removes_trace 3
+    "$right" "$@"; rm -r traces
+writes_trace 3
+    "$right" "$@"; echo nonsense | tee "${@: -1}" > traces/other
+trace_a_pipe 3
+    "$right" "$@"; rm "${@: -1}"; mkfifo "${@: -1}"
+leaves_temporary 3
+    mktemp -d > name; mktemp >> name; "$right" "$@"
+ends_grade -/0 no end within
+    kill -TERM $PPID; exec sleep 1000
+kills_grade -/0 no end within
+    kill -KILL $PPID; exec sleep 1000
 """
 OPTIONS = ["--geometry", "4,1,4", "--seconds", "20"]
 SIDE_BY_SIDE = 8  # most wait
@@ -76,18 +132,18 @@ SIDE_BY_SIDE = 8  # most wait
 
 def students():
     """Of each student the name, the points without and with --confine, a text and a script."""
-    for line in STUDENTS.strip().splitlines():
-        name, points, said, script = (word.strip() for word in line.split("|", 3))
+    lines = STUDENTS.strip().splitlines()
+    for head, script in zip(lines[::2], lines[1::2]):
+        name, points, *said = head.split(None, 2)
         plain, _, confined = points.partition("/")
-        yield name, plain, confined or plain, said, script
+        yield name, plain, confined or plain, "".join(said), script
 
 
 @needs("bubblewrap")
 class BadStudents(ClassTest):
     def setUp(self):
         super().setUp()
-        self.write("short.trace", " L 10,1\n M 20,1\n L 22,1\n S 18,1\n L 110,1\n L 210,1\n M 12,1\n")
-        self.trace = self.folder / "short.trace"
+        self.trace = self.write("short.trace", SHORT)
         for name, *_, script in students():
             lines = 'here=$(dirname "$0")', "right=$here/right", script
             folder = self.enrol(name, self.executable(f"made/{name}", *lines))

@@ -1,4 +1,4 @@
-"""What the tools for the cache lab read, write, start and leave: by the same rules in all of them."""
+"""What the tools for the cache lab read, write, start and leave, by the same rules in all."""
 
 import contextlib
 import importlib
@@ -9,11 +9,10 @@ import signal
 import subprocess
 from unittest import mock
 
-from base import PROGRAM, ended, needs
-from lab_base import LAB, STUDENTS, StudentTest, comes, running, traces
+from base import catches, ended, needs
+from lab_base import LAB, SHORT, STUDENTS, StudentTest, comes, running, traces
 
 private = importlib.import_module("parts.private")
-TRACE = " L 10,1\n M 20,1\n L 22,1\n S 18,1\n L 110,1\n L 210,1\n M 12,1\n"
 ONE = ["--geometry", "4,1,4"]
 # a tool, its words, and a file that it is to write
 KEEPS = (
@@ -35,7 +34,7 @@ READ_TOO = (
     ("grade-class", "bob/grade.txt", "ann bob/ linked"),
     ("grade-class", "short.trace", "--trace short.trace ann >> short.trace"),
 )
-# a tool that waits, and what it is given; each has something private then
+# a tool that waits, and what it is given; each but replay has a private folder then
 WAITING = (
     ("grade", [*ONE, "--seconds", "60", "waits", "short.trace"]),
     ("grade-class", [*ONE, "--seconds", "60", "--trace", "short.trace", "waiting", "ann"]),
@@ -48,10 +47,19 @@ PAGE = 4096
 PAGES = 64
 
 
-class LabFiles(StudentTest):
+class FilesTest(StudentTest):
+    def ended_at_last(self):
+        """What still runs, and is ended now."""
+        left = running()
+        for number in left:
+            os.kill(int(number), signal.SIGKILL)
+        return left
+
+
+class LabFiles(FilesTest):
     def setUp(self):
         super().setUp()
-        self.write("short.trace", TRACE)
+        self.write("short.trace", SHORT)
         shutil.copy(self.student(), self.folder / "right")
         shutil.copy(STUDENTS / "trans.c", self.folder)
         for name in ("ann", "bob"):
@@ -98,7 +106,7 @@ class LabFiles(StudentTest):
                     shutil.copy(self.folder / "right", place)
                 before = place.read_bytes()
                 ran = self.by_bash(f"{LAB}/{tool} {words}")
-                self.refused(ran, 2, f"{tool}: ", " one file; " if "one" in words else "")
+                self.refused(ran, 2, f"{tool}: ")
                 self.assertEqual(ran.stderr.count(b"\n"), 1)
                 self.assertEqual(place.read_bytes(), before)
                 if is_made:
@@ -129,14 +137,14 @@ class LabFiles(StudentTest):
 
         def grow(path):
             with open(path, "a", encoding="ascii") as file:
-                file.write(TRACE)
+                file.write(SHORT)
 
         def replace(path):
             shutil.copy(path, f"{path}.new")
             os.replace(f"{path}.new", path)
 
         for change in (cut, grow, replace):
-            trace = self.write("changes.trace", TRACE)
+            trace = self.write("changes.trace", SHORT)
 
             def opened(file, mode, change=change, trace=trace):
                 stream = open(file, mode)
@@ -149,7 +157,7 @@ class LabFiles(StudentTest):
                     contextlib.redirect_stderr(io.StringIO()) as told:
                 private.copy(trace, self.folder / "copy")
             self.assertIn(f"{trace} has changed while it was copied\n", told.getvalue())
-            self.assertLessEqual((self.folder / "copy").stat().st_size, len(TRACE))
+            self.assertLessEqual((self.folder / "copy").stat().st_size, len(SHORT))
 
     def test_traces_are_judged_as_they_were(self):
         """Each student of a class by the same, though one changes it."""
@@ -181,10 +189,7 @@ class LabFiles(StudentTest):
             with self.subTest(tool):
                 line = f"sleep 61 > sleep.out 2>&1 & exec {LAB}/{tool} {' '.join(words)}"
                 self.by_bash(line)
-                left = running()
-                for number in left:
-                    os.kill(int(number), signal.SIGKILL)
-                self.assertEqual(len(left), 1)
+                self.assertEqual(len(self.ended_at_last()), 1)
 
     def test_a_compiler_without_an_end(self):
         """It has the time of a student's function: it waits for a pipe among the includes."""
@@ -207,7 +212,8 @@ class LabFiles(StudentTest):
                     given = {**self.in_folder(TMPDIR=str(self.private)), "stdin": subprocess.PIPE,
                              "stdout": subprocess.DEVNULL, "stderr": subprocess.PIPE}
                     with ended(subprocess.Popen([LAB / tool, *words], **given)) as one:
-                        self.assertTrue(comes(lambda: any(self.private.iterdir()), 60))
+                        self.assertTrue(comes(lambda: tool == "replay" and catches(one.pid, number)
+                                              or any(self.private.iterdir()), 60))
                         one.send_signal(number)
                         self.assertIn(one.wait(60), (128 + number, -number))
                         self.assertEqual(one.stderr.read(), b"")
@@ -217,8 +223,8 @@ class LabFiles(StudentTest):
     @needs("bubblewrap")
     def test_no_room(self):
         """A right program is never wrong: it is right, or not judged."""
-        said = {self.with_pages(pages, f"{LAB}/grade {' '.join(ONE)} right short.trace", pages)
-                for pages in range(6)}
+        line = f"{LAB}/grade {' '.join(ONE)} right short.trace"
+        said = {self.with_pages(pages, line) for pages in range(6)}
         fault = "the private folder can't be written: No space left on device"
         unjudged = (f"not judged: -s 4 -E 1 -b 4 -t short.trace\n    {fault}\n"
                     f"1 of 1 cases are not judged: {fault}\n0 of 0 right\n2\n")
@@ -226,14 +232,12 @@ class LabFiles(StudentTest):
 
     @needs("bubblewrap")
     def test_no_room_for_a_part(self):
-        """A program that fills the device itself is not judged then; nor is one beside it. The
-        numbers are of what was judged."""
-        fills = ('[ "$2" = 4 ] && head -c 400000 /dev/zero > large', 'exec ./right "$@"')
-        self.executable("fills", *fills)
-        line = f"{LAB}/grade {' '.join(ONE)} --geometry 1,1,4 --points {{}} short.trace"
-        self.executable("fills", f'[ "$2" = 4 ] && head -c 900000 /dev/zero > large',
+        """What fills the device is not judged then, and others are. The numbers are of what was
+        judged, alone and in a class."""
+        self.executable("fills", '[ "$2" = 4 ] && head -c 900000 /dev/zero > large',
                         f'exec {self.folder}/right "$@"')
-        said = self.with_pages(PAGES, line.format("fills")).splitlines()
+        line = f"{LAB}/grade {' '.join(ONE)} --geometry 1,1,4 --points fills short.trace"
+        said = self.with_pages(PAGES, line).splitlines()
         self.assertEqual(said[-2:], ["1 of 1 right, 3 of 3 points", "2"])
         self.assertIn("not judged: -s 4 -E 1 -b 4 -t short.trace", said)
         self.assertNotIn("why: ", "\n".join(said))
@@ -247,18 +251,18 @@ class LabFiles(StudentTest):
             "name,right,of,points,short.trace,reason", "ann,1,1,3,1,", f"cat,0,0,0,0,{missed}",
             "bob,1,1,3,1,", f"grade-class: {self.folder}/cat/csim: {missed}", "1"])
 
-    def with_pages(self, pages, line, *_):
-        """What a line of bash says, and its status, where the private folder's device has room for
-        so many pages."""
+    def with_pages(self, pages, line):
+        """What a line of bash says, its status and what it leaves, where the private folder's
+        device has room for so many pages."""
         room = self.folder / "room"
         room.mkdir(exist_ok=True)
-        filled = f"head -c {(PAGES - pages) * PAGE} /dev/zero > {room}/filler"
-        script = f"{filled}; export TMPDIR={room}; {line} 2>&1; echo $?; rm {room}/filler; ls -A {room}"
+        script = (f"head -c {(PAGES - pages) * PAGE} /dev/zero > {room}/filler; "
+                  f"export TMPDIR={room}; {line} 2>&1; echo $?; rm {room}/filler; ls -A {room}")
         words = ["bwrap", "--dev-bind", "/", "/", "--size", PAGES * PAGE, "--tmpfs", room]
         return self.good(self.run_command(*words, "--", "bash", "-c", script))
 
 
-class OfValgrind(StudentTest):
+class OfValgrind(FilesTest):
     @needs("valgrind")
     def test_children_of_others(self):
         """The same of lab-trace at a signal, which ends what the program has started."""
@@ -269,7 +273,4 @@ class OfValgrind(StudentTest):
             self.assertEqual(tool.stderr.readline(), b"begun\n")
             tool.terminate()
             tool.wait(60)
-            left = running()
-            for number in left:
-                os.kill(int(number), signal.SIGKILL)
-            self.assertEqual(len(left), 1)
+            self.assertEqual(len(self.ended_at_last()), 1)

@@ -6,7 +6,6 @@ import io
 import os
 import re
 import subprocess
-import sys
 from collections import namedtuple
 
 from lib import files, processes

@@ -1,7 +1,7 @@
-"""The traces by which a student's program is judged: copies of those that are named, or six that are
-the same at each run. Each of these finds mistakes that others miss; `grade --help` says which. The
-random ones come from Python's generator with fixed seeds. No access to data crosses a block of 8
-bytes."""
+"""The traces by which a student's program is judged: copies of those that are named, or six that
+are the same each time. Each of these finds mistakes that others miss; `grade --help` says which.
+The random ones come from Python's generator with fixed seeds. No access to data crosses a block of
+8 bytes."""
 
 import os
 import random
