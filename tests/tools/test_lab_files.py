@@ -42,7 +42,7 @@ WAITING = (
     ("replay", ["-s", "1", "-E", "1", "-b", "4"]),
 )
 SIGNALS = (signal.SIGHUP, signal.SIGINT, signal.SIGQUIT, signal.SIGTERM, signal.SIGUSR1,
-           signal.SIGUSR2, signal.SIGXCPU, signal.SIGVTALRM)
+           signal.SIGUSR2, signal.SIGXCPU, signal.SIGALRM)
 PAGE = 4096
 PAGES = 64
 

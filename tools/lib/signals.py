@@ -55,8 +55,6 @@ def look_each_second(look=lambda *_: None, first=1):
     timer may have been set before: that alarm still ends the tool, and so does one that is sent."""
     global alarm_comes, heeds_alarm, overdue
     left, _ = signal.setitimer(signal.ITIMER_REAL, 0)
-    if signal.SIGALRM in signal.sigpending():  # the timer's own, which came as signals are put off
-        signal.sigwait({signal.SIGALRM})
     if alarm_comes is not None:
         overdue = int(not left)
     else:
