@@ -11,11 +11,12 @@ SORT = (base.EXAMPLES / "sort.din").read_bytes()
 
 class Reading:
     """Tests of any of these tools: TOOL is called with words BEFORE the trace and OPTIONS behind
-    it. After a fault MARK is the last that it writes, and of a trace that is not there it tells
-    what NO_TRACE says."""
+    it. After a fault MARK is the last that it writes, of a full device it tells FULL, and of a
+    trace that is not there what NO_TRACE says."""
 
     BEFORE = OPTIONS = ()
     MARK = b""
+    FULL = "write failed"
     NO_TRACE = dict.fromkeys(("none", "none.gz", "."), "{tool}: {trace}: no file that can be read")
 
     def words(self, trace):
@@ -92,7 +93,7 @@ class Reading:
         (self.folder / "long").write_bytes(SORT * 20)
         (self.folder / "short").write_bytes(b"0 10\n" * 10)
         for trace in ("long", "short"):
-            self.on_full_device(self.TOOL, *self.words(trace))
+            self.on_full_device(self.TOOL, *self.words(trace), told=self.FULL)
 
     def test_a_reader_that_goes(self):
         """The tool ends without a word."""

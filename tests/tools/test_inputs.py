@@ -122,6 +122,28 @@ class StandardOutput(InputTest):
             self.kept("lab/lab-trace", line, f"{name} is standard output too", 125, place)
 
 
+class OfFiles(InputTest):
+    """Files that a tool writes by name, or reads beside the trace or table."""
+
+    def test_each(self):
+        d, maps = TEXTS["d"], "00400000-00401000 r-xp 00000000 08:01 1 /bin/sort\n"
+        self.write("t.din", d)
+        cache = " ".join(CACHE)
+        for tool, text, line, told in (
+            ("plot", TABLE, "- input.svg < input.svg", "OUT and a table"),
+            ("plot", TABLE, "input.svg ./input.svg", "OUT and a table"),
+            ("by-line", d, f"- {cache} --callgrind input.svg < input.svg",
+             "--callgrind and the trace"),
+            ("by-line", maps, f"t.din {cache} --map input.svg >> input.svg",
+             "standard output and --map"),
+            ("by-line", maps, f"t.din {cache} --map input.svg --callgrind ./input.svg",
+             "--callgrind and --map"),
+        ):
+            with self.subTest(tool=tool, line=line):
+                self.write("input.svg", text)
+                self.kept(tool, f'"$0" {line}', f"{told} are one file", 2, "input.svg")
+
+
 class OfTrace(InputTest):
     """The program, by its path and by its name on the path, a script, standard input, and a map,
     which it writes: each is `input`, of which None stands for a compiled program."""
@@ -130,6 +152,9 @@ class OfTrace(InputTest):
         "./input": (None, "the program"), "input": (None, "the program"),
         "./input -x": ("#!/bin/sh\n", "the program"), "sort < input": ("0 10\n", "standard input"),
         "--map input sort": ("00400000-00401000 r-xp 00000000 08:01 1 /bin/sort\n", "--map"),
+        "./outer": ("#!/bin/sh\n", "its interpreter"),
+        "sh input": ("echo\n", "its argument input"),
+        "sort --output=input": ("a\n", "its argument --output=input"),
     }
 
     def spared(self, options, told):
@@ -138,6 +163,7 @@ class OfTrace(InputTest):
             with self.subTest(options=options, words=words):
                 self.write("input", Path("/bin/true").read_bytes() if text is None else text)
                 (self.folder / "input").chmod(0o755)
+                self.write("outer", "#!./input\n").chmod(0o755)
                 line = f'PATH="$PWD:$PATH"; "$0" {options} {words}'
                 explained = f"{told}; 'trace --help' explains the arguments"
                 self.kept("trace", line, explained.replace("NAME", name), 125)
@@ -145,6 +171,12 @@ class OfTrace(InputTest):
     def test_what_is_read(self):
         self.spared("-o input", "--output and NAME are one file")
         self.spared("-o t --program-output input", "--program-output and NAME are one file")
+
+    def test_what_is_not_there_yet(self):
+        """A script that would grow as it is read."""
+        ran = self.run_tool("trace", "-o", "s.sh", "sh", "s.sh", seconds=20)
+        self.refused(ran, 125, "--output and its argument s.sh are one file")
+        self.assertFalse((self.folder / "s.sh").exists())
 
     def test_a_fault_before(self):
         """One that is found before it is known what is read."""
@@ -181,7 +213,8 @@ class OfByLine(InputTest):
         for words, name, told in (
             ("--map s.map --callgrind ./srt", "--callgrind", path),
             ("--map s.map >> srt", "standard output", path),
-            ("--program srt >> srt", "standard output", "./srt"),
+            ("--program srt >> srt", "standard output", "--program"),
+            ("--map s.map --heap srt --by site >> srt", "standard output", "--heap"),
         ):
             with self.subTest(words):
                 line = f'"$0" {self.trace} {words}'

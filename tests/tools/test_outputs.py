@@ -1,8 +1,18 @@
-"""What tools do where their output fails."""
+"""What tools do where their output fails, or ends before it is whole: no byte is lost that was
+there before, and no part of a trace looks like the whole."""
 
+import contextlib
+import os
+import re
+import resource
 import shutil
+import signal
+import subprocess
+import time
 
-from base import EXAMPLES, TOOLS, TOP, ToolTest
+from base import EXAMPLES, PROGRAM, TOOLS, TOP, ToolTest, comes, ended, needs
+from test_trace import QEMU
+from trace_base import TRACED, program_of
 
 SPACE = "--bsize 16-64 --sets 1-16 --assoc 1-4 --size 16-4k".split()
 YI = TOP / "tests/cases/inputs/handout.lackey"
@@ -61,3 +71,78 @@ class Outputs(ToolTest):
         for tool in RUNS:
             with self.subTest(tool):
                 self.assertEqual(self.by_bash(tool, '"$0" "$@" | true'), (b"", "", 141))
+
+
+CACHE = "-l1-dsize 128 -l1-dbsize 16".split()
+COUNT = 20000
+ADDRESSES = [0x10000 + 0x1000 * number for number in range(COUNT)]
+DIN = "".join(f"0 {address:x}\n" for address in ADDRESSES)
+LACKEY = "".join(f" L {address:x},8\n" for address in ADDRESSES)
+# tools that write a trace: their words, what they read, and what they write then; trace has steps
+# of its stand-in for QEMU, which wait at the end
+STEPS = ["./program", f"many:{COUNT}", "call"]
+MANY = "".join(f"0 {number:x}\n" for number in range(COUNT))
+TRACES = {
+    "to-din": (["addresses", "-"], DIN.replace("0 ", "", 1).replace("\n0 ", "\n"), DIN),
+    "second-level": (["-", *CACHE], DIN, DIN),
+    "lab/lab-trace": (["true"], LACKEY, LACKEY),
+    "trace": (STEPS, "", MANY),
+    "trace lackey": (["--with", "lackey", "--kind", "d", "true"], LACKEY, DIN),
+}
+SIGNALS = [getattr(signal, f"SIG{name}") for name in
+           "HUP INT QUIT USR1 USR2 ALRM TERM STKFLT XCPU VTALRM PROF IO PWR RTMIN RTMAX".split()
+           if hasattr(signal, f"SIG{name}")]
+PASSED_ON = {signal.SIGHUP, signal.SIGINT, signal.SIGQUIT, signal.SIGUSR1, signal.SIGUSR2,
+             signal.SIGTERM}  # to a program that is traced: a file is good until there
+BEFORE = "# what the user had\n" * 3000
+
+
+class CutTraces(ToolTest):
+    def setUp(self):
+        super().setUp()
+        shutil.copy(shutil.which("true"), self.folder / "program")
+        lackey = self.executable(
+            "bin/valgrind", 'for word; do case $word in --log-fd=*) log=${word#*=} ;; esac; done',
+            'exec cat >&"$log"')
+        (lackey.parent / QEMU).symlink_to(program_of(TRACED / "fake_qemu.c", "-rdynamic"))
+        self.env = self.in_folder(PATH=f"{lackey.parent}:{os.environ['PATH']}", FAKE_HELP="-plugin",
+                                  FAKE_VERSION="7.2.22", FAKE_START="0")
+        for tool in ("to-din", "second-level", "trace"):
+            self.run_tool(tool, "--build")
+
+    def words(self, tool):
+        return [TOOLS / tool.split()[0], *TRACES[tool][0]]
+
+    @contextlib.contextmanager
+    def waiting(self, tool, output):
+        """A tool that has written a part, and waits for more."""
+        words = [*self.words(tool), *["wait"] * (tool == "trace")]
+        def no_core():
+            resource.setrlimit(resource.RLIMIT_CORE, (0, 0))
+        with ended(subprocess.Popen(words, stdin=subprocess.PIPE, stdout=output, **self.env,
+                                    stderr=subprocess.PIPE, preexec_fn=no_core)) as running:
+            running.stdin.write(TRACES[tool][1].encode())
+            running.stdin.flush()
+            yield running
+
+    def lines_before(self, tool, text, last):
+        """What a cut trace has is whole lines of it, and a last one that no simulator takes."""
+        body, found = re.subn(rf"(?:{last})\n\Z", "", text)
+        self.assertEqual(found, 1, (tool, text[-200:]))
+        self.assertTrue(TRACES[tool][2].startswith(body) and body[-1:] in ("", "\n"), body[-99:])
+
+    def test_each_signal(self):
+        """In a file, where a part is there as it comes. It ends in the mark, behind a whole line;
+        what can't be caught ends within a line."""
+        for tool in TRACES:
+            for sent in SIGNALS:
+                if tool.startswith("trace") and sent in PASSED_ON:
+                    continue
+                with self.subTest(tool=tool, sent=sent), open(self.folder / "cut", "wb") as cut:
+                    with self.waiting(tool, cut) as running:
+                        self.assertTrue(comes(lambda: os.fstat(cut.fileno()).st_size))
+                        running.send_signal(sent)
+                        _, told = running.communicate(timeout=60)
+                        self.assertEqual((told, running.returncode), (b"", -sent))
+                    last = "[a-z-]+ failed: what .* not all|trace: a signal ended it: .* not all"
+                    self.lines_before(tool, (self.folder / "cut").read_text(), last)

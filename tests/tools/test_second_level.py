@@ -14,6 +14,7 @@ SPLIT = [*shape("l1-i", 16, 8, 1), *shape("l1-d", 16, 4, 2)]
 
 class SecondLevel(log_base.Filtering, base.ToolTest):
     TOOL = "second-level"
+    FULL = "write failed: No space left on device"
     MARK = LAST
 
     def judge(self, text, *options):

@@ -44,8 +44,8 @@ def uninterrupted():
 
 def stop(number, _):
     """Ends the tool at a signal, once, so that what it has begun is ended and removed."""
-    for other in STOPS:
-        signal.signal(other, signal.SIG_IGN)
+    for other in STOPS:  # not by SIG_IGN: of one that has just come Python would tell then
+        signal.signal(other, lambda *_: None)
     raise Stopped(128 + number)
 
 
