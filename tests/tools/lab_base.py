@@ -18,6 +18,7 @@ STUDENTS = TOP / "tests/tools/lab"
 sys.path.append(str(LAB))
 traces = importlib.import_module("parts.traces")
 PR_SET_CHILD_SUBREAPER = 36
+SHORT = " L 10,1\n M 20,1\n L 22,1\n S 18,1\n L 110,1\n L 210,1\n M 12,1\n"  # a trace
 
 
 def adopt_orphans(is_wanted):

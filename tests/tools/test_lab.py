@@ -148,7 +148,8 @@ class Grade(StudentTest):
         """Python takes note of it, and waits all the same: as of one that another thread got."""
         lines = ("import signal, sys, threading, time",
                  f"sys.path.insert(0, {str(LAB)!r})",
-                 "from parts.student import Limited, stop_at_signals",
+                 "from parts.student import Limited",
+                 "from lib.signals import stop_at_signals",
                  "def stop():",
                  "    time.sleep(0.3)",
                  "    signal.pthread_kill(threading.get_ident(), signal.SIGTERM)",

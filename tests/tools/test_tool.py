@@ -8,7 +8,7 @@ import subprocess
 import unittest
 
 import common
-from base import ToolTest, comes, copy_tools, processes
+from base import TOOLS, ToolTest, comes, copy_tools, processes
 from lib import tool
 from lib.compiled import Make
 
@@ -26,6 +26,28 @@ class Sizes(unittest.TestCase):
     def test_texts(self):
         sizes = {0: "0", 100: "100", 1024: "1k", 1536: "1536", 1 << 20: "1m", 3 << 30: "3g"}
         self.assertEqual([tool.size_text(size) for size in sizes], list(sizes.values()))
+
+
+class Visible(unittest.TestCase):
+    """What would steer a terminal, end a line, or is no UTF-8 is shown as an escape."""
+
+    def test_letters(self):
+        for text, shown in {
+            "\x1b[31m": "\\x1b[31m", "a\nb\tc": "a\\nb\\tc", "\x7f": "\\x7f", "\x9b2J": "\\x9b2J",
+            "\x85": "\\x85", "\0": "\\x00", "\x1f\x20\x7e\x80": "\\x1f ~\\x80", "\xa0": "\xa0",
+            os.fsdecode(b"\xff"): "\\udcff", "é, 字 \U0001f40e 'x' \\": "é, 字 \U0001f40e 'x' \\",
+        }.items():
+            self.assertEqual(tool.visible(text), shown)
+
+    def test_messages(self):
+        """One line of a tool's own; those of another program stay lines."""
+        for call, shown in {
+            "fail('a\\nb\\x9b')": "-c: a\\nb\\x9b\n", "warn('a\\n\\x7f')": "-c: a\\n\\x7f\n",
+            "end('a\\nb\\x1b', 1)": "a\nb\\x1b\n",
+        }.items():
+            words = ["python3", "-c", f"from lib import tool\ntool.{call}"]
+            ran = subprocess.run(words, cwd=TOOLS, capture_output=True, text=True, check=False)
+            self.assertEqual(ran.stderr, shown)
 
 
 class Several(unittest.TestCase):

@@ -27,15 +27,19 @@ def is_regular(file):
         return False
 
 
-def is_same(file, other):
-    """Whether two names or descriptors are of one file, whose contents would be lost; also of one
-    that is not there yet."""
+def identity(file):
+    """What names and descriptors of one file have in common, whose contents could be lost; also
+    names of one that is not there yet. None of a device, a pipe or a folder."""
     try:
-        found = os.stat(file), os.stat(other)
+        found = os.stat(file)
     except OSError:
-        names = [os.path.realpath(name) for name in (file, other) if isinstance(name, str)]
-        return len(names) == 2 and names[0] == names[1]
-    return os.path.samestat(*found) and stat.S_ISREG(found[0].st_mode)
+        return os.path.realpath(file) if isinstance(file, str) else None
+    return (found.st_dev, found.st_ino) if stat.S_ISREG(found.st_mode) else None
+
+
+def is_same(file, other):
+    """Whether two names or descriptors are of one such file."""
+    return None is not identity(file) == identity(other)
 
 
 def readable(trace):
@@ -59,26 +63,32 @@ def apart(outputs, inputs=()):
     """Ends the tool where a file that it is to write is read too, or is another such file. Each has
     what it is called by its name or descriptor, which may be empty; '-' is read from standard
     input."""
-    written = [(name, file) for name, file in outputs if file not in (None, "")]
-    read = [(name, 0 if file == "-" else file) for name, file in inputs]
-    for number, (name, file) in enumerate(written):
-        for other, path in [*read, *written[:number]]:
-            if path not in (None, "") and is_same(path, file):
-                tool.misused(f"{name} and {other} are one file", tool.Spared)
+    names = {identity(0 if file == "-" else file): name for name, file in inputs
+             if file not in (None, "")}
+    for name, file in outputs:
+        if file not in (None, "") and (own := identity(file)):
+            if own in names:
+                tool.misused(f"{name} and {names[own]} are one file", tool.Spared)
+            names[own] = name
 
 
 # ---- Whole files
+
+def claim(place):
+    """Ends the tool where the name of a file that it is to write is something else's."""
+    try:
+        kind = stat.S_IFMT(os.lstat(place).st_mode)
+    except FileNotFoundError:
+        return
+    if kind != stat.S_IFREG:
+        tool.fail(f"{place} is no file of its own: it is {KINDS.get(kind, 'something else')}")
+
 
 def keep(place, data, mode=0o644):
     """Writes a file of the tool's own as a whole, never through a link. Ends the tool where its
     name is something else's."""
     with tool.faults_of(place):
-        try:
-            kind = stat.S_IFMT(os.lstat(place).st_mode)
-        except FileNotFoundError:
-            kind = stat.S_IFREG
-        if kind != stat.S_IFREG:
-            tool.fail(f"{place} is no file of its own: it is {KINDS.get(kind, 'something else')}")
+        claim(place)
         replace(place, data, mode)
 
 

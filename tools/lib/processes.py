@@ -15,6 +15,7 @@ TOLD = 1 << 18  # the bytes of its messages that are looked at
 UNPACKERS = {".gz": ("gzip", "gzip"), ".xz": ("xz", "xz-utils"), ".zst": ("zstd", "zstd")}
 PR_SET_CHILD_SUBREAPER = 36
 F_SETPIPE_SZ = 1031  # in fcntl from Python 3.10 on
+inherited = None  # the children that this process did not start itself
 
 
 class Fault(Exception):
@@ -258,17 +259,28 @@ def output_of(words, package, text=None, of="", env=None):
     return output
 
 
+def children():
+    """The processes that are this one's now."""
+    with open(f"/proc/self/task/{os.getpid()}/children", encoding="ascii") as file:
+        return set(map(int, file.read().split()))
+
+
 def adopt_orphans():
-    """Has what a process leaves behind become this one's child."""
-    import ctypes
-    ctypes.CDLL(None).prctl(PR_SET_CHILD_SUBREAPER, 1, 0, 0, 0)
+    """Has what a process leaves behind become this one's child. Those that it has as it begins are
+    another's: a shell that became this tool had started them."""
+    global inherited
+    if inherited is None:
+        import ctypes
+        inherited = children()
+        ctypes.CDLL(None).prctl(PR_SET_CHILD_SUBREAPER, 1, 0, 0, 0)
 
 
 def end_orphans():
     """Ends all children of this process, and theirs, which it has adopted."""
-    with contextlib.suppress(ChildProcessError):  # none is left
-        while True:
-            with open(f"/proc/self/task/{os.getpid()}/children", encoding="ascii") as file:
-                for child in file.read().split():
-                    os.kill(int(child), signal.SIGKILL)
-            os.waitpid(-1, 0)
+    while own := children() - inherited:
+        for child in own:
+            try:
+                os.kill(child, signal.SIGKILL)
+                os.waitpid(child, 0)
+            except PermissionError:  # it has become another user's
+                inherited.add(child)

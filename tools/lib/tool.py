@@ -18,29 +18,39 @@ NAME = os.path.basename(sys.argv[0])
 FAILED, MISUSED, READER_GONE = 1, 2, 141
 failure = None
 UNITS = {"": 0, "k": 10, "m": 20, "g": 30}
+UNSEEN = re.compile("[\0-\x1f\x7f-\x9f\ud800-\udfff]")  # control letters, lone surrogates
 
 
 class Spared(SystemExit):
     """The end of a tool that leaves its output as it is: it is read too, or has no more room."""
 
 
+def visible(text):
+    """What a message or a table shows of a name, or of another program's words: as escapes such as
+    \\x1b what would steer a terminal or end a line, and bytes of no UTF-8."""
+    return UNSEEN.sub(lambda found: repr(found[0])[1:-1], text)
+
+
+def tell(text):
+    """Writes lines to standard error, which may be closed."""
+    with contextlib.suppress(OSError, AttributeError):
+        print(*map(visible, text.split("\n")), sep="\n", file=sys.stderr, flush=True)
+
+
 def end(text, status, kind=SystemExit):
-    """Ends the tool with a message."""
-    with contextlib.suppress(OSError, AttributeError):  # standard error may be closed
-        print(text, file=sys.stderr, flush=True)
+    """Ends the tool with a message, perhaps of several lines."""
+    tell(text)
     raise kind(status)
 
 
 def fail(text, status=FAILED, kind=SystemExit):
     """Ends the tool with one line on standard error, also where a name has several."""
-    text = "".join(letter if letter >= " " else repr(letter)[1:-1] for letter in text)
-    end(f"{NAME}: {text}", failure or status, kind)
+    end(f"{NAME}: {visible(text)}", failure or status, kind)
 
 
 def warn(text):
     """A line on standard error."""
-    with contextlib.suppress(OSError, AttributeError):
-        print(f"{NAME}: {text}", file=sys.stderr, flush=True)
+    tell(f"{NAME}: {visible(text)}")
 
 
 def misused(text, kind=SystemExit):

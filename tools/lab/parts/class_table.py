@@ -6,22 +6,22 @@ import io
 import os
 import re
 import subprocess
-import sys
 from collections import namedtuple
 
-from lib import files
+from lib import files, processes
 from parts import tool, traces
-from parts.student import shown
+from parts.student import visible_name
 
 GRADE = f"{tool.HERE}/lab/grade"
 LAST = re.compile(r"^(\d+) of (\d+) right, (\d+) of \d+ points\n\Z", re.MULTILINE)
 WHY = re.compile(r"^why: .*", re.MULTILINE)
 REASON = re.compile(r"^wrong: .*(\n {4}(?!see )\S.*)*", re.MULTILINE)
 OF_A_TRACE = re.compile(r"^(\d+) of \d+ right on ", re.MULTILINE)
+UNJUDGED = re.compile(r"^\d+ of \d+ cases are not judged: .*", re.MULTILINE)
 
 
 class Judgement(namedtuple("Judgement", "text right of points fault")):
-    """What `grade` said of a program, in text and numbers, and what kept it from judging at all."""
+    """What `grade` said of a program, in text and numbers, and what kept it from judging all."""
 
     @property
     def reason(self):
@@ -36,47 +36,55 @@ class Judgement(namedtuple("Judgement", "text right of points fault")):
         return numbers if len(numbers) == count else [self.right // count] * count
 
 
+def unjudged(text, fault):
+    """The judgement on a program for which there are no numbers."""
+    return Judgement(f"{text}{fault}\n", 0, None, 0, fault)
+
+
 class Class:
     """Runs `grade` for one student after another, several at a time, and can end all that runs."""
 
-    def __init__(self, options, traces, folder):
-        self.options, self.traces = options, traces
+    def __init__(self, options, given, folder):
+        self.options = [*options, *(f"--name={name}" for _, name in given)]
+        self.traces = [place for place, _ in given]
         cachesim = os.path.abspath(tool.find_cachesim())
-        self.given = {"cwd": folder, "env": {**os.environ, "CACHESIM": cachesim}}
+        # what a `grade` leaves that was killed goes with the folder
+        self.env = {**os.environ, "CACHESIM": cachesim, "TMPDIR": folder}
         self.running, self.is_stopped, self.faults = set(), False, []
 
     def judge(self, program, *options):
-        """What `grade` says of a program; run in the folder of the traces that are named."""
+        """What `grade` says of a program."""
         command = [GRADE, "--points", *self.options, *options, "--", program, *self.traces]
         pipes = {"stdin": subprocess.DEVNULL, "stdout": subprocess.PIPE, "stderr": subprocess.PIPE}
-        process = subprocess.Popen(command, **pipes, **self.given, encoding="utf-8",
+        process = subprocess.Popen(command, **pipes, env=self.env, encoding="utf-8",
                                    errors="backslashreplace")
         self.running.add(process)
         if self.is_stopped:
             process.terminate()
         text, message = process.communicate()
         self.running.discard(process)
-        numbers = LAST.search(text)
+        numbers, missed = LAST.search(text), UNJUDGED.search(text)
+        if missed:
+            self.faults.append(f"{program}: {missed[0]}")
         if numbers:
-            return Judgement(text, *map(int, numbers.groups()), "")
+            return Judgement(text, *map(int, numbers.groups()), missed[0] if missed else "")
         message, ended = message.strip().removeprefix("grade: "), process.returncode
         is_of_program = ended == 2 and message.startswith(f"{program}: ")
         if not is_of_program and not self.is_stopped:
             fault = message if ended == 2 else f"grade ended with status {ended}"
             self.faults.append(f"{program}: {fault}")
-        return Judgement(text, 0, 0, 0, message.replace(f"{program}: ", "csim: ") or "not judged")
+        return unjudged(text, message.replace(f"{program}: ", "csim: ") or "not judged")
 
     def student(self, folder):
         """The judgement on a student; its text is kept in the folder."""
         program = os.path.join(folder, "csim")
         if self.is_stopped:
             return None
-        missing = Judgement("", 0, 0, 0, "csim: no such file")
-        found = self.judge(program) if os.path.isfile(program) else missing
+        is_there = os.path.isfile(program)
+        found = self.judge(program) if is_there else unjudged("", "csim: no such file")
         try:
             if not self.is_stopped:
-                text = found.text + found.fault + "\n" * bool(found.fault)
-                text = text.encode(errors="backslashreplace")
+                text = found.text.encode(errors="backslashreplace")
                 files.replace(os.path.join(folder, "grade.txt"), text, 0o644)
         except OSError as fault:
             self.faults.append(f"{folder}: grade.txt can't be written: {fault.strerror}")
@@ -102,20 +110,19 @@ def csv_line(fields):
     return line.getvalue()
 
 
-def write_table(group, folders, jobs):
+def write_table(group, names, folders, jobs):
     """Judges all, and writes a row for each as soon as it and those before it are judged."""
     # a fault of the arguments, before it is said of each student
     nobody = group.judge("/bin/true", "--verbose-lines=no")
     if nobody.fault:
         tool.fail(nobody.fault)
-    traces = list(dict.fromkeys(group.traces))
-    names = [shown(os.fsencode(trace)) for trace in traces]
     tool.write_lines([csv_line(["name", "right", "of", "points", *names, "reason"])])
     with concurrent.futures.ThreadPoolExecutor(jobs) as threads:
         try:
             for name, found in zip(names_of(folders), threads.map(group.student, folders)):
-                by_trace = found.by_trace(len(traces))
-                row = [name, found.right, nobody.of, found.points, *by_trace, found.reason]
+                of = nobody.of if found.of is None else found.of
+                by_trace = found.by_trace(len(names))
+                row = [visible_name(name), found.right, of, found.points, *by_trace, found.reason]
                 tool.write_lines([csv_line(row)])
         except BaseException:
             group.stop()
@@ -124,15 +131,16 @@ def write_table(group, folders, jobs):
 
 def of_class(asked, private):
     """Judges all, and returns the status."""
-    folders = list(dict.fromkeys(map(os.path.abspath, asked.folders)))
     options = [f"--seconds={asked.seconds}", *(f"--geometry={cache}" for cache in asked.geometry),
                *["--confine"] * asked.confine]
-    if asked.trace:
-        group = Class(options, asked.trace, None)
-    else:
-        group = Class(options, traces.write(private), private)
+    given = traces.in_folder(list(dict.fromkeys(asked.trace)), private)
+    processes.adopt_orphans()
+    group = Class(options, given, private)
     group.faults += [f"{name}: left out, as it is no folder" for name in asked.left_out]
-    write_table(group, folders, asked.jobs)
+    try:
+        write_table(group, [visible_name(name) for _, name in given], asked.folders, asked.jobs)
+    finally:
+        processes.end_orphans()
     for fault in group.faults:
-        print(f"{tool.NAME}: {fault}", file=sys.stderr)
+        tool.warn(fault)
     return 1 if group.faults else 0

@@ -7,8 +7,9 @@ import re
 import shlex
 import subprocess
 
+from lib import files
 from parts import student, tool, traces
-from parts.student import Case, last_line, shown, tail_of
+from parts.student import Case, last_line, shown, tail_of, visible_name
 
 # Set bits, lines per set, block bits: those of the lab's tests, that of the handout's example, a
 # single byte, a single set, ways that are no power of two, a first level of today, many sets, and
@@ -23,6 +24,7 @@ LOST = (
     "note: what a program has printed but not flushed (fflush) when it crashes or is stopped is "
     "lost; a terminal would show it, since each line is flushed there"
 )
+UNJUDGED = ("not judged",)  # the way of a case in which a program had no room for what it wrote
 LAB_LINE = re.compile(rb"(I +| [LSM] )[0-9a-fA-F]+,[0-9]+\n?")
 
 
@@ -55,6 +57,10 @@ class Judgement(collections.namedtuple("Judgement", "said got points has_lost wa
     that is right, where it ended well; whether output may be lost; and in which way it is wrong:
     cases that have the same are alike."""
 
+    @property
+    def word(self):
+        return "not judged" if self.way == UNJUDGED else "wrong" if self.said else "right"
+
 
 def judged(ran, wanted):
     got = numbers_in(tail_of(ran.output))
@@ -71,6 +77,8 @@ def judged(ran, wanted):
         kept = tuple(map(int, words)) if are_numbers else ()
     if kept != (got or wanted):
         said.append(f".csim_results has '{shown(results)}'")
+    if said and ran.no_room:
+        return Judgement([ran.no_room], way=UNJUDGED)
     right = [one == two == three for one, two, three in zip(wanted, got or (), kept)]
     points = 0 if ran.fault else sum(right)
     signs = tuple((have > want) - (have < want) for have, want in zip(got or (), wanted))
@@ -80,17 +88,18 @@ def judged(ran, wanted):
 
 def first_wrong_line(cachesim, student, case, ended_well):
     """Where the output with -v is wrong first, in words. Where the program fails, its lines come
-    one by one, so that none is lost."""
-    wanted = f"{student.folder}/wanted"
-    with open(wanted, "wb") as file:
-        reference(cachesim, case, "-v", output=file)
+    one by one, so that none is lost. Nothing where there is no room for what it writes."""
     ran = student.run(case, "-v", by_line=not ended_well)
     if ended_well and ran.fault:
         ran = student.run(case, "-v", by_line=True)
+    if ran.no_room:
+        return []
     with open(ran.output, "rb") as file:
         if not any(ACCESS.match(line) for line in file):
             return ["with -v it writes no line for an access"]
-    with open(wanted, "rb") as lines, open(ran.output, "rb") as file:
+    with open(os.memfd_create("wanted"), "w+b") as lines, open(ran.output, "rb") as file:
+        reference(cachesim, case, "-v", output=lines)
+        lines.seek(0)
         for number, (line, got) in enumerate(itertools.zip_longest(lines, file), 1):
             if line is None or line.startswith(b"hits:"):
                 is_access = got is not None and ACCESS.match(got)
@@ -147,16 +156,26 @@ class Grading:
         self.asked, self.cachesim, self.student = asked, cachesim, student
         self.right = self.points = 0
         self.slow, self.has_results, self.has_lost = set(), False, False
-        self.wrong = []  # the cases that are wrong, each with what was wanted and its judgement
+        self.others = []  # cases that are not right, with what was wanted and their judgements
         self.runs = []  # cases with the numbers that were wanted and got
+
+    @property
+    def wrong(self):
+        return [other for other in self.others if other[2].way != UNJUDGED]
+
+    @property
+    def unjudged(self):
+        return [other for other in self.others if other[2].way == UNJUDGED]
 
     def of_case(self, case, wanted):
         """What is wrong in a case; nothing where the program is right."""
         if case.trace in self.slow:
             return Judgement(["not run: a run on this trace took too long"], way="not run")
         ran = self.student.run(case)
-        self.has_results |= ran.results is not None
         found = judged(ran, wanted)
+        if found.way == UNJUDGED:
+            return found
+        self.has_results |= ran.results is not None
         self.points += found.points
         self.has_lost |= found.has_lost
         if found.got:
@@ -169,7 +188,7 @@ class Grading:
         return found
 
     def has_seen(self, found):
-        return any(found.way == other.way for _, _, other in self.wrong)
+        return any(found.way == other.way for _, _, other in self.others)
 
     def all(self, cases):
         wanted = [numbers_in(reference(self.cachesim, case)) for case in cases]
@@ -177,20 +196,19 @@ class Grading:
             found = self.of_case(case, numbers)
             self.right += not found.said
             if self.asked.all or found.said and not self.has_seen(found):
-                word = "wrong" if found.said else "right"
-                tool.write_lines(["\n    ".join([f"{word}: {case}", *found.said])])
+                tool.write_lines(["\n    ".join([f"{found.word}: {case}", *found.said])])
             if found.said:
-                self.wrong.append((case, numbers, found))
+                self.others.append((case, numbers, found))
         if not self.asked.all:
             self.tell_alike()
 
     def tell_alike(self):
-        """Lists the cases that are wrong as one before them is."""
+        """Lists the cases that are as one before them is."""
         alike = {}
-        for case, _, found in self.wrong:
-            alike.setdefault(found.way, []).append(case)
-        for first, *others in filter(lambda cases: len(cases) > 1, alike.values()):
-            tool.write_lines([f"wrong in the same way as {first}, with s,E,b:"])
+        for case, _, found in self.others:
+            alike.setdefault((found.way, found.word), []).append(case)
+        for (_, word), (first, *others) in alike.items():
+            tool.write_lines([f"{word} in the same way as {first}, with s,E,b:"] * bool(others))
             for name in dict.fromkeys(case.name for case in others):
                 caches = " ".join(case.cache for case in others if case.name == name)
                 tool.write_lines([f"    {caches} -t {name}"])
@@ -212,46 +230,57 @@ class Grading:
         return evidence.reason(self.runs, crashed)
 
     def tell_by_trace(self, cases):
-        """How many cases are right on each of several traces."""
+        """How many cases are right on each of several traces, of those that are judged."""
         all = collections.Counter(case.name for case in cases)
-        wrong = collections.Counter(case.name for case, _, _ in self.wrong)
-        if wrong and len(all) > 1:
-            for name, count in all.items():
+        wrong, unjudged = (collections.Counter(case.name for case, _, _ in some)
+                           for some in (self.wrong, self.unjudged))
+        if self.others and len(all) > 1:
+            for name in all:
+                count = all[name] - unjudged[name]
                 tool.write_lines([f"{count - wrong[name]} of {count} right on {name}"])
 
     def end(self, cases):
-        """The last lines. Returns whether all is right."""
+        """The last lines. Returns the status."""
         if self.has_lost:
             tool.write_lines([LOST])
         if self.right and not self.has_results:
             tool.write_lines(["note: no .csim_results was written; the lab's printSummary would "
                               "have done so"])
-        reason = self.wrong and self.why()
+        wrong, unjudged = self.wrong, self.unjudged
+        reason = wrong and not unjudged and self.why()
         if reason:
             tool.write_lines([f"why: {reason}"])
         self.tell_by_trace(cases)
-        points = f", {self.points} of {3 * len(cases)} points" if self.asked.points else ""
-        tool.write_lines([f"{self.right} of {len(cases)} right{points}"])
-        return self.right == len(cases)
+        if unjudged:
+            tool.write_lines([f"{len(unjudged)} of {len(cases)} cases are not judged: "
+                              f"{unjudged[0][2].said[0]}"])
+        count = len(cases) - len(unjudged)
+        points = f", {self.points} of {3 * count} points" if self.asked.points else ""
+        tool.write_lines([f"{self.right} of {count} right{points}"])
+        return 2 if unjudged else 1 if wrong else 0
 
 
-def own_traces(keep, folder):
-    """The six traces, each with the name that is shown for it, in a folder that is to keep them or
-    in a private one."""
-    if keep is None:
-        hard = f"{folder}/hard"
-        os.mkdir(hard)
-        return [(f"{hard}/{name}", name) for name in traces.write(hard)]
-    from pathlib import Path
-    Path(keep).mkdir(parents=True, exist_ok=True)
-    return [(str(Path(keep, name)),) * 2 for name in traces.write(keep)]
+def kept(keep, given, program):
+    """The six traces, kept in a folder, by their names there."""
+    names = [os.path.join(keep, name) for _, name in given]
+    os.makedirs(keep, exist_ok=True)
+    files.apart([("standard output", 1), *zip(names, names)], [("CSIM", program)])
+    for name in names:
+        files.claim(name)
+    for (place, _), name in zip(given, names):
+        with open(place, "rb") as trace:
+            files.keep(name, trace.read())
+    return [(place, name) for (place, _), name in zip(given, names)]
 
 
 def grade(asked, folder):
     """Judges all cases; returns the status."""
     cachesim = tool.find_cachesim()
-    given = ([(trace, shown(os.fsencode(trace))) for trace in asked.traces]
-             or own_traces(asked.keep, folder))
+    given = traces.in_folder(asked.traces, folder)
+    if asked.keep is not None and not asked.traces:
+        given = kept(asked.keep, given, asked.program)
+    names = asked.name or [name for _, name in given]
+    given = [(place, visible_name(name)) for (place, _), name in zip(given, names)]
     around = student.confinement(asked.program, cachesim, folder) if asked.confine else None
     cases = [Case(cache, *trace, cache == TURNED and not asked.geometry)
              for trace in given for cache in asked.geometry or CACHES]
@@ -260,6 +289,6 @@ def grade(asked, folder):
     grading.all(cases)
     for trace in given:
         tool.write_lines(notes_on(*trace))
-    if grading.wrong and not asked.traces and asked.keep is None:
+    if grading.others and not asked.traces and asked.keep is None:
         tool.write_lines(["note: --keep . keeps the traces that are named above"])
-    return 0 if grading.end(cases) else 1
+    return grading.end(cases)

@@ -91,12 +91,13 @@ def replayed(cache, format, given):
     command = [tool.find_cachesim(), "log", *cache.options, "-informat", format]
     picture = Picture(cache, given.set)
     with processes.Group() as group, tool.faults_of("the trace can't be replayed"), \
-            tempfile.NamedTemporaryFile(prefix="cachesim-replay.") as copy:
+            tempfile.TemporaryFile() as copy:
         copied(given.t, copy, given.until, given.decimal)
-        own, (read, write) = os.open(copy.name, os.O_RDONLY), os.pipe()
+        place = f"/proc/self/fd/{copy.fileno()}"  # it has no name that could stay
+        own, (read, write) = os.open(place, os.O_RDONLY), os.pipe()
         running = group.start(processes.Helper, command, own, write, ends=(own, write))
         with open(read, errors="replace") as log:
-            follow(picture, log, entries(copy.name, format), given.until is not None)
+            follow(picture, log, entries(place, format), given.until is not None)
         running.wait()
     if running.code:
         fail = tool.misused if running.code == tool.MISUSED else tool.fail

@@ -1,5 +1,5 @@
 """A student's program and its runs: each has a private folder and limits, and on request bubblewrap
-around it. At the end what else the tools that run programs share: texts and a private folder."""
+around it; and what is shown of its words."""
 
 import contextlib
 import os
@@ -7,14 +7,12 @@ import resource
 import shutil
 import signal
 import subprocess
-import sys
-import tempfile
 import time
 from collections import namedtuple
 
 from lib import processes
-from lib.signals import heed_stops, look_each_second, put_off_stops, stop_at_signals
-from parts import tool
+from lib.signals import heed_stops, look_each_second, put_off_stops
+from parts import private, tool
 
 LEAST_LIMIT = 64 << 20
 TAIL = 1 << 20
@@ -39,9 +37,10 @@ class Case(namedtuple("Case", "cache trace name is_turned", defaults=(False,))):
         return " ".join(self.arguments(self.name))
 
 
-class Run(namedtuple("Run", "fault is_slow is_killed output results")):
+class Run(namedtuple("Run", "fault is_slow is_killed output results no_room")):
     """What a run of a student's program left: a file of its output, and its results, or None. The
-    fault is empty where it ended well. A run that was killed had no time to flush."""
+    fault is empty where it ended well. A run that was killed had no time to flush. Where there was
+    no room for what it writes, words say so, and it can't be judged as wrong."""
 
 
 class Student:
@@ -58,25 +57,34 @@ class Student:
         that hangs costs its time once; one that hangs only with flags keeps its time for runs
         without them."""
         seconds = self.few_seconds if flags and self.slow_runs else self.seconds
-        output, messages = f"{self.folder}/output", f"{self.folder}/messages"
-        trace = os.path.join("traces", os.path.basename(case.trace))
-        with temporary_folder(dir=self.folder) as room:
-            os.mkdir(os.path.join(room, "traces"))
-            shutil.copyfile(case.trace, os.path.join(room, trace))
-            before = ["stdbuf", "-oL"] if by_line else [] if is_filled else UNFILLED
-            command = [*self.around(room), *before, self.program, *flags, *case.arguments(trace)]
-            limit = max(LEAST_LIMIT, 16 * os.path.getsize(case.trace))
-            given = {"cwd": room, "env": environment()}
-            with open(output, "wb") as out, open(messages, "wb") as err:
-                with Limited(command, limit, seconds, stdout=out, stderr=err, **given) as running:
-                    status = running.status()
-            is_slow = status is None
-            ran = Run(fault_of(status, messages, seconds), is_slow, is_slow or is_signal(status),
-                      output, results_in(room))
+        before = ["stdbuf", "-oL"] if by_line else [] if is_filled else UNFILLED
+        try:
+            with private.temporary(self.folder) as room:
+                ran = self.run_in(room, case, [*before, self.program, *flags], seconds)
+        except OSError as fault:
+            if fault.errno not in private.FULL:
+                raise
+            return Run("", False, False, os.devnull, None, private.no_room_text(fault))
         if ran.is_slow:
             self.slow_runs += 1
             self.seconds = self.seconds if flags else self.few_seconds
         return ran
+
+    def run_in(self, room, case, words, seconds):
+        """Runs some words on a case, for some seconds, in a folder of its own."""
+        output, messages = f"{self.folder}/output", f"{self.folder}/messages"
+        trace = os.path.join("traces", os.path.basename(case.trace))
+        os.mkdir(os.path.join(room, "traces"))
+        private.copy(case.trace, os.path.join(room, trace))
+        command = [*self.around(room), *words, *case.arguments(trace)]
+        limit = max(LEAST_LIMIT, 16 * os.path.getsize(case.trace))
+        given = {"cwd": room, "env": environment(room)}
+        with open(output, "wb") as out, open(messages, "wb") as err:
+            with Limited(command, limit, seconds, stdout=out, stderr=err, **given) as running:
+                status = running.status()
+        is_slow = status is None
+        return Run(fault_of(status, messages, seconds), is_slow, is_slow or is_signal(status),
+                   output, results_in(room), private.no_room(self.folder))
 
 
 class Limited:
@@ -91,7 +99,8 @@ class Limited:
         """Bounds the size of files, before the program begins; no core files."""
         heed_stops()
         most = resource.getrlimit(resource.RLIMIT_FSIZE)[1]
-        resource.setrlimit(resource.RLIMIT_FSIZE, (self.limit, most))
+        limit = self.limit if most == resource.RLIM_INFINITY else min(self.limit, most)
+        resource.setrlimit(resource.RLIMIT_FSIZE, (limit, most))
         resource.setrlimit(resource.RLIMIT_CORE, (0, 0))
 
     def kill(self):
@@ -158,13 +167,14 @@ def status_in_words(status):
     return f"ended by signal {number_of(status)}: {signal.strsignal(number_of(status))}"
 
 
-def environment():
-    """That of a student's program: it leads to no cachesim but one among the system's programs."""
+def environment(room):
+    """That of a student's program: what it writes for a time goes to its room, and it leads to no
+    cachesim but one among the system's programs."""
     folders = os.environ.get("PATH", PATH).split(":")
     kept = [folder for folder in folders if folder in PATH.split(":")
             or not os.access(f"{folder}/cachesim", os.X_OK)]
     own = {name: value for name, value in os.environ.items() if name != "CACHESIM"}
-    return {**own, **FILLED, "PATH": ":".join(kept)}
+    return {**own, **FILLED, "PATH": ":".join(kept), "TMPDIR": room}
 
 
 def without_links(program):
@@ -229,8 +239,12 @@ def results_in(room):
 def shown(line, most=120):
     """A line of a student's program, in a form that does nothing to a terminal."""
     text = line[:most].decode("utf-8", "backslashreplace").rstrip()
-    plain = "".join(letter if letter.isprintable() else repr(letter)[1:-1] for letter in text)
-    return plain + ".." * (len(line) > most)
+    return tool.visible(text) + ".." * (len(line) > most)
+
+
+def visible_name(path):
+    """The name of a file, in such a form."""
+    return tool.visible(os.fsencode(path).decode("utf-8", "backslashreplace"))
 
 
 def tail_of(path):
@@ -242,43 +256,3 @@ def tail_of(path):
 def last_line(path):
     """The last line of a file that isn't blank, or nothing."""
     return tail_of(path).rstrip().rpartition(b"\n")[2]
-
-
-@contextlib.contextmanager
-def temporary_folder(**given):
-    """The path of a folder that is removed at the end; what can't be removed there stays. Python
-    3.10 has an option for this."""
-    folder = tempfile.TemporaryDirectory(**given)
-    try:
-        yield folder.name
-    finally:
-        try:
-            folder.cleanup()
-        except OSError:
-            remove(folder.name)
-
-
-def remove(folder):
-    """Removes a folder, as far as that can be done, by a descriptor at a time: shutil has more for
-    each level, and there may be none."""
-    for place, folders, files in os.walk(folder, topdown=False):
-        for path in (os.path.join(place, name) for name in [*folders, *files]):
-            with contextlib.suppress(OSError):
-                (os.rmdir if os.path.isdir(path) and not os.path.islink(path) else os.unlink)(path)
-    with contextlib.suppress(OSError):
-        os.rmdir(folder)
-
-
-def in_private_folder(work):
-    """What some work returns in a folder that is removed at its end, also by a signal. What it
-    writes to standard output may have any letters."""
-    if sys.stdout:  # it may be closed
-        sys.stdout.reconfigure(errors="backslashreplace")
-    stop_at_signals()
-    try:
-        prefix = f"cachesim-{tool.NAME}."
-        with temporary_folder(prefix=prefix) as folder:
-            return work(folder)
-    except OSError as fault:
-        place = f"{fault.filename}: " if fault.filename else ""
-        return tool.fail(f"{place}{fault.strerror}")

@@ -1,9 +1,12 @@
-"""The traces by which a student's program is judged where none is named, the same at each run. Each
-finds mistakes that others miss; `grade --help` tells which. The random ones come from Python's
-generator with fixed seeds. No access to data crosses a block of 8 bytes."""
+"""The traces by which a student's program is judged: copies of those that are named, or six that
+are the same each time. Each of these finds mistakes that others miss; `grade --help` says which.
+The random ones come from Python's generator with fixed seeds. No access to data crosses a block of
+8 bytes."""
 
 import os
 import random
+
+from parts import private
 
 # Each letter is a block. They share one set in every cache of grade; the first has tag 0 in most.
 ORDER = "La Lb Sa Lc La Mc Ld Lc La Le Sb Lf Lg Lh Li La Sd Lj Lb Mk Lc Le Lh Lj"
@@ -69,3 +72,17 @@ def write(folder):
         with open(os.path.join(folder, names[-1]), "w", encoding="ascii") as file:
             file.writelines(lines)
     return names
+
+
+def in_folder(named, folder):
+    """The traces that are judged by, each as its place in a private folder and its name: those that
+    are named, or the six."""
+    if not named:
+        return [(os.path.join(folder, name), name) for name in write(folder)]
+    places = []
+    for number, trace in enumerate(named):
+        own = os.path.join(folder, f"given.{number}")
+        os.mkdir(own)
+        places.append(os.path.join(own, os.path.basename(trace)))
+        private.copy(trace, places[-1])
+    return list(zip(places, named))

@@ -7,13 +7,13 @@ import pathlib
 import re
 import shlex
 import subprocess
-import sys
 
-from lib import log
-from parts import tool
+from lib import files, log
+from parts import private, tool
 from parts.student import Limited, last_line, shown, status_in_words
 
 SIZES = ("32x32", "64x64", "61x67")
+KEPT = "[0-9]+x[0-9]+-[0-9]+[.]trace"
 # points, for at most so many misses; none from so many on
 POINTS = {"32x32": (8, 300, 600), "64x64": (8, 1300, 2000), "61x67": (10, 2000, 3000)}
 CACHE = "-l1-dsize 1k -l1-dbsize 32 -l1-dassoc 1 -informat l".split()  # -s 5 -E 1 -b 5
@@ -114,8 +114,16 @@ class Result(collections.namedtuple("Result", "fault lines place", defaults=((),
     """What a function did: what is wrong with it, and where it ended well its accesses, as lines,
     and where the data is."""
 
+    is_judged = True
 
-def compiled(source, folder):
+
+class Unjudged(Result):
+    """What it did is not known, as there was no room to say it."""
+
+    is_judged = False
+
+
+def compiled(source, folder, seconds):
     """The program that calls the functions. A cachelab.h beside the source comes first."""
     (folder / "cachelab.h").write_text(HEADER)
     (folder / "driver.c").write_text(DRIVER)
@@ -125,13 +133,26 @@ def compiled(source, folder):
         compiler = ["cc"]
     command = [*compiler, "-g", "-O0", "-std=gnu99", "-idirafter", folder, "-o", folder / "driver"]
     command += ["-x", "c", folder / "driver.c", os.path.join(".", source)]
-    with tool.faults_of(compiler[0]):
-        ran = subprocess.run(command, stderr=subprocess.PIPE, check=False)
-    if ran.returncode:
-        sys.stderr.write(ran.stderr.decode(errors="replace"))
-        ended = f": {compiler[0]} {status_in_words(ran.returncode)}" * (ran.returncode < 0)
-        tool.fail(f"{source} can't be compiled{ended}")
+    with tool.faults_of(compiler[0]), limited(command, folder, seconds) as running:
+        drain(running)
+        status = running.status()
+    if status != 0:
+        for line in (folder / "messages").read_bytes().splitlines():
+            tool.tell(line.decode(errors="replace"))
+        ended = f": {compiler[0]} {end_text(status, seconds)}" * (status is None or status < 0)
+        fail(f"{source} can't be compiled{ended}", folder)
     return folder / "driver"
+
+
+def fail(text, folder):
+    """Ends the tool with a fault of what it was given, but where its folder may be to blame."""
+    tool.fail(private.no_room(folder) or text)
+
+
+def drain(running):
+    """Reads what a run writes, up to its end."""
+    for _ in log.pieces(running.process.stdout.fileno()):
+        pass
 
 
 @contextlib.contextmanager
@@ -143,13 +164,17 @@ def limited(command, folder, seconds):
             yield running
 
 
+def end_text(status, seconds):
+    """A status in words."""
+    return f"has no end within {seconds:g} s" if status is None else status_in_words(status)
+
+
 def end_of(running):
     """What the end of a run was, in words."""
     status = running.status()
-    if status is None:
-        return f"it has no end within {running.seconds:g} s"
-    said = status_in_words(status)
-    return f"it {said}" if "signal" in said else f"it has ended the program ({said})"
+    said = end_text(status, running.seconds)
+    return f"it {said}" if status is None or "signal" in said else (
+        f"it has ended the program ({said})")
 
 
 def functions_in(program, source, folder, seconds):
@@ -157,15 +182,14 @@ def functions_in(program, source, folder, seconds):
     report = folder / "functions"
     report.write_bytes(b"")
     with limited([program, report], folder, seconds) as running:
-        for _ in log.pieces(running.process.stdout.fileno()):
-            pass
+        drain(running)
         fault = end_of(running)
     *names, rest = report.read_bytes().split(b"\0")
     if rest or running.process.returncode:
         said = shown(rest.strip() or last_line(folder / "messages"))
-        tool.fail(f"{source}: registering its functions: {fault}" + f"; {said}" * bool(said))
+        fail(f"{source}: registering its functions: {fault}" + f"; {said}" * bool(said), folder)
     if not names:
-        tool.fail(f"{source} registers no function")
+        fail(f"{source} registers no function", folder)
     return [shown(name.replace(b"\n", b" ")) for name in names]
 
 
@@ -181,6 +205,8 @@ def traced(program, number, size, folder, seconds):
                 return Result(f"it makes more than {MOST:,} accesses")
         fault = end_of(running)
     place, *judged = report.read_text().split("\n")[:-1] or [""]
+    if not judged and (no_room := private.no_room(folder)):
+        return Unjudged(f"not judged: {no_room}")
     if not place:
         said = shown(last_line(folder / "messages"))
         tool.fail(f"{size}: no function has begun: {fault}" + f"; {said}" * bool(said))
@@ -247,7 +273,8 @@ def points_of(size, misses, is_right):
 def lines_of(size, result, cachesim):
     """What is said of a function at a size."""
     if not result.place:
-        yield f"    {size}  {result.fault}{points_of(size, 0, False)}"
+        points = points_of(size, 0, False) * result.is_judged
+        yield f"    {size}  {result.fault}{points}"
         return
     counts = counted(result, cachesim)
     total = sum(counts.values(), collections.Counter())
@@ -264,21 +291,32 @@ def lines_of(size, result, cachesim):
         yield f"        {name:6}  " + "  ".join(aligned)
 
 
+def keeper(asked):
+    """What keeps the accesses of a function under a name. It is a fault where such a name in the
+    folder is another's."""
+    if asked.keep is None:
+        return lambda name, lines: None
+    os.makedirs(asked.keep, exist_ok=True)
+    places = [os.path.join(asked.keep, name) for name in sorted(os.listdir(asked.keep))
+              if re.fullmatch(KEPT, name) and name.partition("-")[0] in (asked.size or SIZES)]
+    files.apart([("standard output", 1), *zip(places, places)], [("TRANS.C", asked.source)])
+    for place in places:
+        files.claim(place)
+    return lambda name, lines: files.keep(os.path.join(asked.keep, name), b"".join(lines))
+
+
 def judge(asked, folder):
-    """Counts all functions for all sizes: what is said, by function, and whether all are right."""
-    cachesim, is_right, texts = tool.find_cachesim(), True, {}
+    """Counts all functions for all sizes: what is said, by function, and the status."""
+    cachesim, status, texts, keep = tool.find_cachesim(), 0, {}, keeper(asked)
     folder = pathlib.Path(folder)
-    program = compiled(asked.source, folder)
+    program = compiled(asked.source, folder, asked.seconds)
     names = functions_in(program, asked.source, folder, asked.seconds)
     for each in asked.size or SIZES:
         for number, about in enumerate(names):
             result = traced(program, number, each, folder, asked.seconds)
-            if asked.keep is not None and result.place:
-                keep = pathlib.Path(asked.keep)
-                keep.mkdir(parents=True, exist_ok=True)
-                kept = keep / f"{each}-{number + 1}.trace"
-                kept.write_bytes(b"".join(result.lines))
+            if result.place:
+                keep(f"{each}-{number + 1}.trace", result.lines)
             said = lines_of(each, result, cachesim)
             texts.setdefault((number, about), []).extend(said)
-            is_right &= not result.fault
-    return texts, is_right
+            status = max(status, 1 if result.fault else 0, 0 if result.is_judged else 2)
+    return texts, status
