@@ -168,7 +168,7 @@ class Run:
         elif self.status and not (self.is_whole(whole) or self.is_seen_to_be_cut(whole)):
             yield f"what it wrote looks whole, and ends in {self.written[-40:]!r}"
         if "Traceback" in self.told:
-            yield f"a traceback: {self.told}"
+            yield f"a traceback: {self.told.strip()[-200:]!r}"
         if self.private and not may_leave:
             yield f"it leaves {self.private}"
         if self.left and not may_leave:
@@ -247,7 +247,8 @@ class EndedTest(ToolTest):
     def judge(self, tasks):
         tasks = [self.pool.submit(*task) for task in tasks]
         faults = [fault for task in tasks for fault in task.result()]
-        self.assertFalse(faults, "\n".join(faults))
+        if faults:
+            self.fail("\n".join(faults))
 
 
 class Ended(EndedTest):
