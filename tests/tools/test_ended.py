@@ -57,6 +57,8 @@ WRITES_A_TRACE = "lab/lab-trace", "second-level", "to-din", "trace"
 WRITES_BY_AND_BY = "lab/grade", "lab/grade-class"  # what is judged, line by line
 VARIES = "lab/lab-trace", "trace", "trace lackey"  # the stack is elsewhere in each run
 SIGNALS = "HUP INT QUIT TERM USR1 USR2 ALRM XCPU PIPE KILL".split()
+# which trace passes on to its program: in a file the trace is good until this has ended by it
+PASSED_ON = SIGNALS[:6]
 PLACES = "appended to", "new", "a pipe"
 # the bytes of a file that may not grow further, also that of the memory that trace shares
 LIMIT = 4000 << 10
@@ -115,6 +117,7 @@ class Run:
     def __init__(self, place, tool, words, before=b"", is_piped=False):
         self.place, self.tool, self.words, self.before = place, tool, words, before
         self.is_piped, self.is_early, self.status = is_piped, True, None
+        self.may_look_whole = False
 
     def reader(self, file):
         """What puts into the file what comes through a pipe, and its pipe; or else the file."""
@@ -165,7 +168,8 @@ class Run:
             yield f"{len(self.before) - self.kept} bytes of what was there are lost"
         elif self.status == 0 and not self.is_whole(whole):
             yield "status 0, and its output is not the whole"
-        elif self.status and not (self.is_whole(whole) or self.is_seen_to_be_cut(whole)):
+        elif self.status and not (self.may_look_whole or self.is_whole(whole)
+                                  or self.is_seen_to_be_cut(whole)):
             yield f"what it wrote looks whole, and ends in {self.written[-40:]!r}"
         if "Traceback" in self.told:
             yield f"a traceback: {self.told.strip()[-200:]!r}"
@@ -213,6 +217,7 @@ def signalled(place, tool, words, whole, seconds, where, name, moment):
         process.send_signal(number)
 
     run.run(end)
+    run.may_look_whole = tool.startswith("trace") and where != "a pipe" and name in PASSED_ON
     what = f"{tool}, its output {where}, {name} after {moment * seconds:.3f} s"
     return [f"{what}: {fault}" for fault in run.faults(whole, name == "KILL")]
 
