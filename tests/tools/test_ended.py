@@ -116,8 +116,8 @@ class Run:
 
     def __init__(self, place, tool, words, before=b"", is_piped=False):
         self.place, self.tool, self.words, self.before = place, tool, words, before
-        self.is_piped, self.is_early, self.status = is_piped, True, None
-        self.may_look_whole = False
+        self.is_piped, self.status = is_piped, None
+        self.allowed = {"nothing"}  # of what else is a fault
 
     def reader(self, file):
         """What puts into the file what comes through a pipe, and its pipe; or else the file."""
@@ -160,7 +160,7 @@ class Run:
                 with contextlib.suppress(ProcessLookupError):
                     os.kill(int(number), signal.SIGKILL)
 
-    def faults(self, whole, may_leave=False):
+    def faults(self, whole):
         """What is wrong with how it ended, each in a few words."""
         if self.status is None:
             yield "it doesn't end"
@@ -168,15 +168,13 @@ class Run:
             yield f"{len(self.before) - self.kept} bytes of what was there are lost"
         elif self.status == 0 and not self.is_whole(whole):
             yield "status 0, and its output is not the whole"
-        elif self.status and not (self.may_look_whole or self.is_whole(whole)
+        elif self.status and not ("a part" in self.allowed or self.is_whole(whole)
                                   or self.is_seen_to_be_cut(whole)):
             yield f"what it wrote looks whole, and ends in {self.written[-40:]!r}"
-        if "Traceback" in self.told:
+        if "Traceback" in self.told and "a traceback" not in self.allowed:
             yield f"a traceback: {self.told.strip()[-200:]!r}"
-        if self.private and not may_leave:
-            yield f"it leaves {self.private}"
-        if self.left and not may_leave:
-            yield f"it leaves the processes {self.left}"
+        if (self.private or self.left) and "a rest" not in self.allowed:
+            yield f"it leaves the files {self.private}, the processes {self.left}"
 
     def is_whole(self, whole):
         if self.tool in VARIES:
@@ -184,10 +182,9 @@ class Run:
         return self.written == whole
 
     def is_seen_to_be_cut(self, whole):
-        """By a simulator, which refuses it, or since its last line has no end. A signal that is not
-        caught leaves nothing, where nothing was written yet."""
+        """By a simulator, which refuses it, or since its last line has no end."""
         if not self.written:
-            return self.is_early or self.tool.split()[0] not in WRITES_A_TRACE
+            return "nothing" in self.allowed or self.tool.split()[0] not in WRITES_A_TRACE
         if self.tool in WRITES_BY_AND_BY:
             return whole.startswith(self.written)
         if self.tool.split()[0] not in WRITES_A_TRACE:
@@ -213,13 +210,20 @@ def signalled(place, tool, words, whole, seconds, where, name, moment):
 
     def end(process):
         time.sleep(moment * seconds)
-        run.is_early = not catches(process.pid, number)
+        caught = [catches(process.pid, each) for each in (number, signal.SIGINT, signal.SIGTERM)]
         process.send_signal(number)
+        if caught == [True, True, False]:  # Python has only begun, and catches it itself
+            run.allowed.add("a traceback")
+        elif caught[0]:
+            run.allowed.remove("nothing")
 
+    if name == "KILL":
+        run.allowed.add("a rest")
+    if tool.startswith("trace") and where != "a pipe" and name in PASSED_ON:
+        run.allowed.add("a part")
     run.run(end)
-    run.may_look_whole = tool.startswith("trace") and where != "a pipe" and name in PASSED_ON
     what = f"{tool}, its output {where}, {name} after {moment * seconds:.3f} s"
-    return [f"{what}: {fault}" for fault in run.faults(whole, name == "KILL")]
+    return [f"{what}: {fault}" for fault in run.faults(whole)]
 
 
 def without_room(place, tool, words, whole, _, around, size, room):
@@ -286,7 +290,7 @@ class FullDevice(EndedTest):
         """A small one in memory, to which the output is copied before, and from it at the end."""
         full = self.place.folder / "full"
         full.mkdir()
-        script = f"""cat /dev/stdout > {full}/it; "$@" >> {full}/it; status=$?
+        script = f"""cat /proc/$$/fd/1 > {full}/it; "$@" >> {full}/it; status=$?
                      : > /dev/stdout; cat {full}/it; exit $status"""
         around = ["bwrap", "--dev-bind", "/", "/", "--size", str(DEVICE), "--tmpfs", full,
                   "bash", "-c", script, "bash"]
