@@ -1,6 +1,8 @@
 """A tool that ends with status 0 has given its whole answer, whatever failed on the way: each
 command that it runs, its standard streams, and its limits. It ends soon, without a traceback, and
-leaves no process and no file. System folders are read-only in all runs."""
+leaves no process and no file. System folders are read-only in all runs, where bubblewrap is there.
+
+What needs no package is among the plain tests, of which `some` leaves out a part."""
 
 import concurrent.futures
 import os
@@ -10,9 +12,11 @@ import shutil
 import subprocess
 import tempfile
 
-from base import (EXAMPLES, PROGRAM, TOOLS, TOP, ToolTest, comes, copy_tools, needs,
+import test_ended
+from base import (EXAMPLES, PLAIN, PROGRAM, TOOLS, TOP, ToolTest, comes, copy_tools, needs,
                   processes)
-from lab_base import STUDENTS
+from lab_base import STUDENTS, TRANS
+from test_style import tools
 from lib.trace.functions import start_of_code
 from trace_base import TRACED, program_of, symbols_of
 
@@ -22,34 +26,38 @@ QEMU = f"qemu-{platform.machine()}"
 FAKE = {"FAKE_VERSION": "7.2.22", "FAKE_HELP": "-plugin ..", "FAKE_START": "0"}
 # what each tool is given: files, and in the place of INPUT a trace, and of MAIN how far a function
 # is behind the start of the code. Behind a blank stands what it is asked for beside its usual work,
-# by options that call other commands
+# by options that call other commands. These need Python, a C compiler and bash, ..
 RUNS = {
     "best": ["table.csv"],
-    "by-line": ["INPUT", *CACHE],
-    "by-line names": ["lines.din", *CACHE, "--program", "traced", "--callgrind", "counts"],
     "by-page": ["INPUT", *CACHE],
     "cluster/submit": ["run", "2", "INPUT", *SPACE],
     "din-table": ["2", "INPUT", *CACHE[:2], "-l1-dbsize", "16,32"],
     "lab/grade": ["./csim", "handout.lackey", "--geometry", "1,1,4"],
     "lab/grade-class": ["students/ann", "--trace", "handout.lackey", "--geometry", "1,1,4"],
-    "lab/lab-trace": ["./program"],
-    "lab/lab-transpose": ["--size", "8x8", "trans.c"],
     "lab/replay": "-s 1 -E 2 -b 4 -t handout.lackey --text".split(),
     "over-time": ["INPUT", *CACHE, "--each", "50"],
     "plot": ["--script", "table.csv", "-"],
-    "plot png": ["table.csv", "a.png"],
-    "plot text": ["table.csv", "-"],
     "second-level": ["INPUT", *CACHE],
     "sweep-parallel": ["2", "INPUT", *SPACE],
     "three-c": ["INPUT", *SPACE],
     "to-din": ["lackey", "handout.lackey"],
     "trace": ["./program", "2:1", "many:100"],
+    "warm": ["9", "INPUT", *SPACE],
+}
+# .. and these a package
+OF_PACKAGES = {
+    "by-line": ["INPUT", *CACHE],
+    "by-line names": ["lines.din", *CACHE, "--program", "traced", "--callgrind", "counts"],
+    "lab/lab-trace": ["./program"],
+    "lab/lab-transpose": ["--size", "8x8", "trans.c"],
+    "plot png": ["table.csv", "a.png"],
+    "plot text": ["table.csv", "-"],
     "trace from": ["--from", "main", "./traced", "2:1", "2:MAIN", "many:100"],
     "trace lackey": ["--with", "lackey", "--kind", "d", "./program"],
     "trace to": ["--to", "main", "./traced", "2:1", "many:100"],
-    "warm": ["9", "INPUT", *SPACE],
 }
-OF_A_TRACE = [tool for tool, words in RUNS.items() if "INPUT" in words]
+of_packages = needs("binutils", "bubblewrap", "gnuplot-nox", "llvm", "valgrind", "xz-utils", "zstd")
+UNPACKS = [tool for tool, words in RUNS.items() if "INPUT" in words and tool != "cluster/submit"]
 WRITES_A_TRACE = ("lab/lab-trace", "second-level", "to-din", "trace")
 TO_A_FILE = {"plot png"}  # which is all that they write
 OF_VALGRIND = ("lab/lab-trace", "lab/lab-transpose", "trace lackey")  # no room in some limits
@@ -59,29 +67,30 @@ OF_STUDENTS = ("lab/grade", "lab/grade-class", "lab/lab-transpose")
 COMMANDS = "addr2line cc gnuplot gzip llvm-addr2line nm readelf valgrind xz zstd".split()
 # stand-ins for those of a cluster, which do nothing
 OF_CLUSTERS = {"sbatch": "echo 7", "scancel": "", "squeue": "exit 1"}
-TRANS = """\
-void registerTransFunction(void (*)(int M, int N, int[N][M], int[M][N]), char *);
-static void by_rows(int M, int N, int A[N][M], int B[M][N]) {
-    for (int i = 0; i < N; i++) for (int j = 0; j < M; j++) B[j][i] = A[i][j];
-}
-void registerFunctions(void) { registerTransFunction(by_rows, "by rows"); }
-"""
-# counts the calls of a command, and fails in that one which the environment names
+# counts the calls of a command, and fails in that one which the environment names, by a status or
+# by a signal, as if another process had sent it
 STAND_IN = """\
 #!/bin/bash
 set -o noclobber
 for ((at = 1; at < 99; at++)); do { : > "$CALLS/${0##*/}.$at"; } 2> /dev/null && break; done
 if [ "${0##*/}.$at" = "${FAILING-}" ]; then
-    case $WAY in killed) kill -KILL $$ ;; *) exit 1 ;; esac
+    case $WAY in [0-9]*) exit $WAY ;; *) kill -$WAY $$ ;; esac
 fi
 exec -a "${0##*/}" REAL "$@"
 """
+WAYS = "1", "3", "KILL", "PIPE"
 # how a tool is started
 PIPES = {"stdout": subprocess.PIPE, "stderr": subprocess.PIPE, "start_new_session": True}
 
 
-@needs("bubblewrap", "binutils", "gnuplot-nox", "llvm", "valgrind", "xz-utils", "zstd")
+def some(values):
+    """Of several limits or places all; in the plain tests, which are of the gate, every third."""
+    return [*values][::3] if PLAIN else [*values]
+
+
 class FailureTest(ToolTest):
+    runs, packed, main = RUNS, ("trace.gz",), ""
+
     @classmethod
     def setUpClass(cls):
         """A copy of the tools with stand-ins for all commands, and a folder with what they read."""
@@ -126,29 +135,22 @@ class FailureTest(ToolTest):
         shutil.copy(TOP / "tests/cases/inputs/handout.lackey", given)
         shutil.copy(EXAMPLES / "sort.din", given / "long.din")
         shutil.copy(EXAMPLES / "transpose.lackey", given / "long.lackey")
-        for pack in (["xz", "-k"], ["zstd", "-q"]):
-            subprocess.run([*pack, given / "trace.din"], check=True)
         shutil.copy(shutil.which("true"), given / "program")
-        traced = program_of(TRACED / "own_arrays.c", "-g")
-        shutil.copy(traced, given / "traced")
-        start, size = symbols_of(traced)["first"]
-        lines = [f"2 {at:x}\n0 {symbols_of(traced)['first_array'][0]:x}\n"
-                 for at in range(start, start + size)]
-        (given / "lines.din").write_text("".join(lines))
-        cls.main = f"{symbols_of(traced)['main'][0] - start_of_code(traced):x}"
         (given / "students/ann").mkdir(parents=True)
         for name in ("csim", "students/ann/csim"):
             shutil.copy(program_of(STUDENTS / "student.c"), given / name)
-        (given / "trans.c").write_text(TRANS)
         sweep = [PROGRAM, "sweep", *SPACE, "-t", given / "trace.din"]
         (given / "table.csv").write_bytes(subprocess.check_output(sweep))
+        cls.around = cls.confined()
 
-    def confined(self):
-        """What keeps a run from writing to the system's folders."""
-        words = ["--ro-bind", "/", "/", "--dev-bind", "/dev", "/dev", "--proc", "/proc"]
-        for folder in (self.place, self.folder):
-            words += ["--bind", str(folder), str(folder)]
-        return [shutil.which("bwrap"), *words, "--die-with-parent", "--"]
+    @staticmethod
+    def confined():
+        """What keeps a run from writing to the system's folders; nothing where it doesn't work."""
+        folder = tempfile.gettempdir()
+        words = ["bwrap", *"--ro-bind / / --dev-bind /dev /dev --proc /proc".split(),
+                 "--bind", folder, folder, "--die-with-parent", "--"]
+        tried = subprocess.run(["env", *words, "true"], capture_output=True, check=False)
+        return [shutil.which("bwrap"), *words[1:]] if tried.returncode == 0 else []
 
     @staticmethod
     def replace(path, real):
@@ -157,7 +159,7 @@ class FailureTest(ToolTest):
 
     def words(self, tool, trace="trace.din"):
         words = (trace if word == "INPUT" else word.replace("MAIN", self.main)
-                 for word in RUNS[tool])
+                 for word in self.runs[tool])
         return [str(self.tools / tool.split()[0]), *words]
 
     def environment(self, calls, **more):
@@ -179,7 +181,7 @@ class FailureTest(ToolTest):
         given = {"env": env, "cwd": folder, "stdin": subprocess.DEVNULL, **PIPES}
         folder.chmod(0o777)
         command = ["/bin/bash", "-c", f'{before} "$@" {after}', "bash", *words]
-        command = [*self.confined(), *command]
+        command = [*self.around, *command]
         with subprocess.Popen(command, **given) as running:
             out, told = self.end_of(running)
         out = out.replace(str(folder).encode(), b"its folder")
@@ -235,30 +237,43 @@ class FailureTest(ToolTest):
                 yield what, got
 
 
+class Tools(ToolTest):
+    def test_each_is_tried(self):
+        """Here, and by signals, except for one that only has a cluster do something."""
+        ended = {**test_ended.RUNS, **test_ended.OF_PACKAGES, "cluster/submit": []}
+        there = {os.path.relpath(path, TOOLS) for path in tools() if path.startswith(f"{TOOLS}/")}
+        for runs in ({**RUNS, **OF_PACKAGES}, ended):
+            self.assertEqual({tool.split()[0] for tool in runs}, there)
+
+
 class Commands(FailureTest):
     def test_each_command_in_turn(self):
-        for tool in RUNS:
-            is_packed = tool in ("sweep-parallel", "warm", "second-level")
-            packed = ("trace.gz", "trace.din.xz", "trace.din.zst") if is_packed else ()
-            for trace in ("trace.din", *packed):
+        """In the plain tests only the first call of each."""
+        for tool in self.runs:
+            with self.subTest(tool):
+                self.judge_commands(tool)
+        for tool in UNPACKS:
+            for trace in self.packed:
                 with self.subTest(tool=tool, trace=trace):
                     self.judge_commands(tool, trace)
 
-    def judge_commands(self, tool, trace):
+    def judge_commands(self, tool, trace="trace.din"):
         """A command that fails or is killed is named."""
         whole, calls = self.whole(tool, trace)
+        calls = [call for call in calls if not PLAIN or call.endswith(".1") and (
+            trace == "trace.din" or call.startswith("gzip"))]
         runs = [(f"{call} {way}", (self.words(tool, trace),), {"FAILING": call, "WAY": way})
-                for call in calls for way in ("fails", "killed")]
+                for call in calls for way in WAYS]
         for what, ran in self.each(tool, whole, runs):
             command, told = what.rpartition(".")[0], ran.stderr.decode()
             if ran.returncode and command not in ("valgrind", QEMU):  # the program's own status
                 # some have told themselves why they failed
-                named = command if "killed" in what else f"{command}|no job|compiled"
+                named = f"{command}|no job|compiled" if what[-1].isdigit() else command
                 self.assertRegex(told, rf"(?m)\A.*({named}|page \d|the run of|row).*$", what)
 
     def test_each_command_missing(self):
         """It is named with its package."""
-        for tool in RUNS:
+        for tool in self.runs:
             whole, calls = self.whole(tool)
             called = {call.rpartition(".")[0] for call in calls}
             for command in called - {"cachesim", "second-level", "to-din"}:
@@ -276,10 +291,10 @@ class Commands(FailureTest):
 
 class Surroundings(FailureTest):
     def test_closed_streams(self):
-        for tool in RUNS:
+        for tool in self.runs:
             with self.subTest(tool):
                 whole, _ = self.whole(tool)
-                places = ("<&-", "2>&-", ">&-", "<&- 2>&-", "<&- >&- 2>&-")
+                places = some([">&-", "<&-", "2>&-", "<&- >&- 2>&-", "<&- 2>&-"])
                 runs = [(place, (self.words(tool), "", place), {}) for place in places]
                 for place, ran in self.each(tool, whole, runs):
                     if ">&-" in place.replace("2>&-", "") and tool not in TO_A_FILE:
@@ -287,10 +302,10 @@ class Surroundings(FailureTest):
 
     def test_few_descriptors(self):
         # under Valgrind the program itself ends with a status for want of them: its trace is whole
-        for tool in (tool for tool in RUNS if tool not in OF_VALGRIND):
+        limits = some([5, 6, 7, 8, 9, 10, 12, 14, 17])  # with fewer Python doesn't begin
+        for tool in (tool for tool in self.runs if tool not in OF_VALGRIND):
             with self.subTest(tool):
                 whole, _ = self.whole(tool)
-                limits = (5, 6, 7, 8, 9, 10, 12, 14, 17)  # with fewer Python doesn't begin
                 runs = [(f"{most} descriptors", (self.words(tool), f"ulimit -n {most};"), {})
                         for most in limits]
                 for what, ran in self.each(tool, whole, runs):
@@ -301,26 +316,26 @@ class Limits(FailureTest):
     """What the system may refuse: sizes of files, memory, processes, processor time, room."""
 
     def judge_limits(self, limits, others=()):
-        for tool in (tool for tool in RUNS if tool not in (*OF_STUDENTS, *others)):
+        for tool in (tool for tool in self.runs if tool not in (*OF_STUDENTS, *others)):
             with self.subTest(tool):
                 whole, _ = self.whole(tool)
-                runs = [(limit, (self.words(tool), limit), {}) for limit in limits]
+                runs = [(limit, (self.words(tool), limit), {}) for limit in some(limits)]
                 for what, ran in self.each(tool, whole, runs):
                     self.assertEqual(ran.private, [], f"{tool} {what}")
 
     def test_sizes_of_files(self):
-        self.judge_limits(f"ulimit -f {blocks};" for blocks in (0, 1, 4))
+        self.judge_limits(f"ulimit -f {blocks};" for blocks in (1, 0, 4))
 
     def test_memory(self):
-        limits = [f"ulimit -v {size};" for size in (30000, 40000, 60000, 120000)]
+        limits = [f"ulimit -v {size};" for size in (40000, 30000, 60000, 120000)]
         self.judge_limits(limits, OF_VALGRIND)
 
     def test_processes(self):
         """As another user, for whom there is a limit: no tool waits for one that isn't there."""
         user = "setpriv --reuid 65534 --clear-groups --" if os.geteuid() == 0 else ""
         path = f"PATH=$PATH:{os.path.dirname(shutil.which('setpriv'))}"
-        limits = [f"ulimit -u {most};" for most in (1, 2, 3, 4, 6)]
-        for tool in RUNS:
+        limits = some(f"ulimit -u {most};" for most in (3, 1, 2, 4, 6))
+        for tool in self.runs:
             with self.subTest(tool):
                 whole, _ = self.whole(tool)
                 line = f'{path}; exec {user} /bin/bash -c \'{{}} exec "$@"\' bash'
@@ -332,7 +347,7 @@ class Limits(FailureTest):
         """A full device, which one line tells of; and a reader that goes where signals are ignored,
         as after `trap '' PIPE`."""
         ignored = "trap '' PIPE; PATH=$PATH:/usr/bin; set -o pipefail;"
-        for tool in RUNS.keys() - TO_A_FILE:
+        for tool in self.runs.keys() - TO_A_FILE:
             for before, after, least in ("", "> /dev/full", 1), (ignored, "| true", 0):
                 with self.subTest(tool=tool, after=after):
                     ran = self.run_in("output", self.words(tool), before, after)
@@ -343,7 +358,7 @@ class Limits(FailureTest):
 
     def test_a_trace_that_is_cut(self):
         """In a file that may not grow it ends in a line that no simulator takes."""
-        for tool in ("second-level", "to-din", "trace", "trace lackey", "lab/lab-trace"):
+        for tool in self.runs.keys() & {*WRITES_A_TRACE, "trace lackey"}:
             with self.subTest(tool):
                 longer = {"many:100": "many:900000", "handout.lackey": "long.lackey"}
                 words = [longer.get(word, word) for word in self.words(tool, "long.din")]
@@ -353,3 +368,39 @@ class Limits(FailureTest):
                 self.assert_no_trace(ran.stdout, ran.stderr)
                 self.assertGreater(len(ran.stdout), 0)
                 self.assertRegex(ran.stdout, rb"\n[\w-]+ failed: what stands above is not all\n\Z")
+
+
+class OfPackages(FailureTest):
+    """What tools need packages for, and what these read."""
+
+    runs, packed = OF_PACKAGES, ("trace.din.xz", "trace.din.zst")
+
+    @classmethod
+    def setUpClass(cls):
+        super().setUpClass()
+        given = cls.given
+        for pack in (["xz", "-k"], ["zstd", "-q"]):
+            subprocess.run([*pack, given / "trace.din"], check=True)
+        traced = program_of(TRACED / "own_arrays.c", "-g")
+        shutil.copy(traced, given / "traced")
+        start, size = symbols_of(traced)["first"]
+        lines = [f"2 {at:x}\n0 {symbols_of(traced)['first_array'][0]:x}\n"
+                 for at in range(start, start + size)]
+        (given / "lines.din").write_text("".join(lines))
+        cls.main = f"{symbols_of(traced)['main'][0] - start_of_code(traced):x}"
+        (given / "trans.c").write_text(TRANS)
+
+
+@of_packages
+class CommandsOfPackages(OfPackages, Commands):
+    pass
+
+
+@of_packages
+class SurroundingsOfPackages(OfPackages, Surroundings):
+    pass
+
+
+@of_packages
+class LimitsOfPackages(OfPackages, Limits):
+    pass
