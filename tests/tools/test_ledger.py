@@ -44,8 +44,10 @@ class TheLedger(ToolTest):
         changed = re.sub(old, new, before, count=1, flags=re.S)
         self.assertNotEqual(changed, before)
         path.write_text(changed)
-        yield
-        path.write_text(before)
+        try:
+            yield
+        finally:
+            path.write_text(before)
 
     def fails_after(self, file, old, new, text):
         """One change, which must be seen and told so."""
