@@ -9,23 +9,24 @@ import trace_base
 
 SOURCE = "int table[9];\nint main(void) {\n    table[2] = 1;\n    return 0;\n}\n"
 WAITS = "pipe", "device", "large"
-ALL = *WAITS, "folder", "socket", "empty"
+ALL = *WAITS, "endless", "folder", "socket", "empty"
 # what is put where, the words of a run, and of which kinds it is a fault
 WAYS = (
-    ("X", "by-line s.din --program X", ALL),
-    ("X", "by-line s.din --map X", ALL),
-    ("X", "by-line s.din --by site --heap X", ALL),
-    ("X", "by-line s.din --program plain --callgrind X", ("pipe", "folder", "socket")),
-    ("X", "by-line s.din --map names.map", ()),
-    ("X", "by-line s.din --program lined", ()),
-    ("X", "by-line s.din --program linked", WAITS),
-    (".debug/X", "by-line s.din --program linked", WAITS),
+    ("odd.file", "by-line s.din --program odd.file", ALL),
+    ("odd.file", "by-line s.din --map odd.file", ALL),
+    ("odd.file", "by-line s.din --by site --heap odd.file", ALL),
+    ("odd.file", "by-line s.din --program plain --callgrind odd.file",
+     ("pipe", "endless", "folder", "socket")),
+    ("odd.file", "by-line s.din --map names.map", ()),
+    ("odd.file", "by-line s.din --program lined", ()),
+    ("odd.file", "by-line s.din --program linked", WAITS),
+    (".debug/odd.file", "by-line s.din --program linked", WAITS),
     ("split.dwo", "by-line s.din --program split", WAITS),
     ("plain.dwp", "by-line s.din --program plain", WAITS),
-    ("X", "trace -o t --from main ./linked", ALL),
-    (".debug/X", "trace -o t --from main ./linked", ALL),
-    ("X", "trace -o t ./X", ALL),
-    ("X", "trace -o t ./script", ALL),
+    ("odd.file", "trace -o t --from main ./linked", ALL),
+    (".debug/odd.file", "trace -o t --from main ./linked", ALL),
+    ("odd.file", "trace -o t ./odd.file", ALL),
+    ("odd.file", "trace -o t ./script", ALL),
 )
 
 
@@ -34,22 +35,23 @@ class Waiting(base.ToolTest):
     def setUp(self):
         super().setUp()
         self.write("plain.c", SOURCE)
-        self.write("lined.c", f'#line 1 "X"\n{SOURCE}')
+        self.write("lined.c", f'#line 1 "odd.file"\n{SOURCE}')
         for words in ("cc -no-pie -g -o plain plain.c", "cc -no-pie -g -o lined lined.c",
                       "cc -no-pie -g -gsplit-dwarf -c -o split.o plain.c", "rm split.dwo",
-                      "cc -no-pie -o split split.o", "mkdir .debug", "cp plain X",
-                      "objcopy --strip-all --add-gnu-debuglink=X plain linked", "rm X"):
+                      "cc -no-pie -o split split.o", "mkdir .debug", "cp plain odd.file",
+                      "objcopy --strip-all --add-gnu-debuglink=odd.file plain linked",
+                      "rm odd.file"):
             self.good(self.run_command(*words.split()))
         start, size = trace_base.symbols_of(self.folder / "plain")["main"]
         self.write("s.din", "".join(f"2 {at:x}\n0 10\n" for at in range(start, start + size)))
-        self.write("names.map", f"400000-500000 r-xp 00000000 08:01 1 {self.folder}/X\n")
-        self.executable("script", "").write_text(f"#!{self.folder}/X\n")
+        self.write("names.map", f"400000-500000 r-xp 00000000 08:01 1 {self.folder}/odd.file\n")
+        self.executable("script", "").write_text(f"#!{self.folder}/odd.file\n")
 
     def put(self, kind, place):
         if kind == "pipe":
             os.mkfifo(place)
-        elif kind == "device":
-            place.symlink_to("/dev/zero")
+        elif kind in ("device", "endless"):  # the latter says that it is regular, and empty
+            place.symlink_to("/dev/zero" if kind == "device" else "/proc/self/pagemap")
         elif kind == "folder":
             place.mkdir()
         elif kind == "socket":
