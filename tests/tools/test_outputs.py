@@ -96,6 +96,10 @@ PASSED_ON = {signal.SIGHUP, signal.SIGINT, signal.SIGQUIT, signal.SIGUSR1, signa
 BEFORE = "# what the user had\n" * 300000
 
 
+def without_core():
+    resource.setrlimit(resource.RLIMIT_CORE, (0, 0))
+
+
 class CutTraces(ToolTest):
     def setUp(self):
         super().setUp()
@@ -116,10 +120,8 @@ class CutTraces(ToolTest):
     def waiting(self, tool, output):
         """A tool that has written a part, and waits for more."""
         words = [*self.words(tool), *["wait"] * (tool == "trace")]
-        def no_core():
-            resource.setrlimit(resource.RLIMIT_CORE, (0, 0))
         with ended(subprocess.Popen(words, stdin=subprocess.PIPE, stdout=output, **self.env,
-                                    stderr=subprocess.PIPE, preexec_fn=no_core)) as running:
+                                    stderr=subprocess.PIPE, preexec_fn=without_core)) as running:
             running.stdin.write(TRACES[tool][1].encode())
             running.stdin.flush()
             yield running
