@@ -54,7 +54,7 @@ static void end_program(void) {
     wait_a_while();
 }
 
-// The same of a trace that is cut, with what would tell of the tracer's last line, which may be cut.
+// The same of a trace that is cut, with the converter, which would tell of a line that is cut.
 static void give_up(void) {
     if (converter) kill(converter, SIGKILL);
     end_program();
@@ -270,9 +270,9 @@ static int end_by(int number) {
 }
 
 // A signal from a terminal goes to the program as well; one that was sent to this process is passed
-// on, or ends the program and then this process. After the program's end it ends this process, which
-// may wait for a reader; but in some time, as the program has often just ended by it, for its last
-// lines.
+// on, or ends the program and then this process. After the program's end it ends this process,
+// which may wait for a reader; but in some time, as the program has often just ended by it, for its
+// last lines.
 static void on_signal(int number, siginfo_t *info, void *context) {
     static volatile sig_atomic_t late;
     (void)context;
