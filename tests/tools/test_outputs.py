@@ -8,7 +8,6 @@ import resource
 import shutil
 import signal
 import subprocess
-import time
 
 from base import EXAMPLES, PROGRAM, TOOLS, TOP, ToolTest, comes, ended, needs
 from test_trace import QEMU
@@ -87,14 +86,18 @@ TRACES = {
     "second-level": (["-", *CACHE], DIN, DIN),
     "lab/lab-trace": (["true"], LACKEY, LACKEY),
     "trace": (STEPS, "", MANY),
-    "trace lackey": (["--with", "lackey", "--kind", "d", "true"], LACKEY, DIN),
+    "trace lackey": (["--with", "lackey", "--kind", "d", "true"], LACKEY * 8, DIN * 8),
 }
 SIGNALS = [getattr(signal, f"SIG{name}") for name in
            "HUP INT QUIT USR1 USR2 ALRM TERM STKFLT XCPU VTALRM PROF IO PWR RTMIN RTMAX".split()
            if hasattr(signal, f"SIG{name}")]
 PASSED_ON = {signal.SIGHUP, signal.SIGINT, signal.SIGQUIT, signal.SIGUSR1, signal.SIGUSR2,
              signal.SIGTERM}  # to a program that is traced: a file is good until there
-BEFORE = "# what the user had\n" * 3000
+BEFORE = "# what the user had\n" * 300000
+
+
+def without_core():
+    resource.setrlimit(resource.RLIMIT_CORE, (0, 0))
 
 
 class CutTraces(ToolTest):
@@ -117,10 +120,8 @@ class CutTraces(ToolTest):
     def waiting(self, tool, output):
         """A tool that has written a part, and waits for more."""
         words = [*self.words(tool), *["wait"] * (tool == "trace")]
-        def no_core():
-            resource.setrlimit(resource.RLIMIT_CORE, (0, 0))
         with ended(subprocess.Popen(words, stdin=subprocess.PIPE, stdout=output, **self.env,
-                                    stderr=subprocess.PIPE, preexec_fn=no_core)) as running:
+                                    stderr=subprocess.PIPE, preexec_fn=without_core)) as running:
             running.stdin.write(TRACES[tool][1].encode())
             running.stdin.flush()
             yield running
@@ -146,3 +147,97 @@ class CutTraces(ToolTest):
                         self.assertEqual((told, running.returncode), (b"", -sent))
                     last = "[a-z-]+ failed: what .* not all|trace: a signal ended it: .* not all"
                     self.lines_before(tool, (self.folder / "cut").read_text(), last)
+
+    def test_a_kill(self):
+        """It can't be caught: the last line is one that no simulator takes."""
+        for tool in TRACES:
+            with self.subTest(tool), open(self.folder / "cut", "wb") as cut:
+                with self.waiting(tool, cut) as running:
+                    self.assertTrue(comes(lambda: os.fstat(cut.fileno()).st_size))
+                    running.kill()
+                    running.wait()
+                text = (self.folder / "cut").read_text()
+                self.assertTrue(TRACES[tool][2].startswith(text))
+                self.assert_refused(text)
+
+    def assert_refused(self, text):
+        form = "l" if text.startswith(" ") else "d"
+        swept = self.run_command(PROGRAM, "sweep", *SPACE, "--format", form, "-t", "/dev/stdin",
+                                 stdin=text.encode())
+        self.refused(swept, 1, "cachesim: line ")
+
+    def no_room(self, tool, line, before, seconds=60):
+        """A line of bash runs a tool that appends to a file which has no room for all. What stands
+        there then, behind what stood there before, which is as it was."""
+        self.write("cut", before)
+        ran = self.run_command("bash", "-c", line, *self.words(tool), seconds=seconds,
+                               stdin=TRACES[tool][1].encode(), env=self.env["env"])
+        told = ran.stderr.decode()
+        self.assertEqual((ran.returncode, told.count("\n")),
+                         (125 if "trace" in tool else 1, 1), told)
+        text = (self.folder / "cut").read_text()
+        self.assertTrue(text.startswith(before), (tool, len(text)))
+        return text[len(before):], told
+
+    def test_a_file_that_may_not_grow(self):
+        """The mark takes the place of this run's own last lines; where there are too few, nothing
+        of it stands there, and the message says so."""
+        for tool in TRACES:
+            blocks = 4000 if tool == "trace" else 64  # which shares memory
+            line = f'ulimit -f {blocks}; "$0" "$@" >> cut'
+            with self.subTest(tool):
+                text, _ = self.no_room(tool, line, BEFORE[:1024 * blocks - 5000])
+                self.lines_before(tool, text, r"[a-z-]+ failed: what stands above is not all *")
+                for length in (1024 * blocks - 20, 1024 * blocks, 1024 * blocks + 99):
+                    text, told = self.no_room(tool, line, BEFORE[:length])
+                    self.assertEqual(text, "")
+                    self.assertIn("; none of it is kept\n", told)
+
+    @needs("bubblewrap")
+    def test_a_full_device(self):
+        """The same on a device of its own."""
+        line = ('exec bwrap --dev-bind / / --size 65536 --tmpfs "$PWD/small" --bind "$PWD" '
+                '"$PWD/out" bash -c \'cat out/cut > small/cut; "$0" "$@" >> small/cut; status=$?; '
+                'cat small/cut > out/cut; exit $status\' "$0" "$@"')
+        for place in ("small", "out"):
+            (self.folder / place).mkdir()
+        for tool in TRACES:
+            last = r"[a-z-]+ failed: what stands above is not all *"
+            with self.subTest(tool):
+                text, told = self.no_room(tool, line, BEFORE[:50000])
+                self.assertIn("No space left" if tool != "lab/lab-trace" else "written", told)
+                self.lines_before(tool, text, last)
+
+    def test_another_that_appends(self):
+        """What it wrote is left, also where the mark finds no place."""
+        for tool in ("to-din", "second-level", "lab/lab-trace"):
+            with self.subTest(tool):
+                self.write("cut", BEFORE[:1000])
+                limit = self.executable("limited", 'ulimit -f 256; exec "$@"')
+                with open(self.folder / "cut", "ab") as cut, ended(subprocess.Popen(
+                        [limit, *self.words(tool)], stdin=subprocess.PIPE, stdout=cut,
+                        stderr=subprocess.PIPE, **self.env)) as running:
+                    half = TRACES[tool][1].encode()
+                    running.stdin.write(half)
+                    running.stdin.flush()
+                    self.assertTrue(comes(lambda: os.fstat(cut.fileno()).st_size > 1000))
+                    with open(self.folder / "cut", "ab") as other:
+                        other.write(b"# another's\n")
+                    _, told = running.communicate(half * 2, timeout=60)
+                    self.assertNotEqual(running.returncode, 0, told)
+                text = (self.folder / "cut").read_text()
+                self.assertTrue(text.startswith(BEFORE[:1000]))
+                self.assertIn("# another's\n", text)
+                self.assertRegex(text, r"\n[a-z-]+ failed: what stands above is not all *\n\Z")
+
+    def test_a_parents_alarm(self):
+        """It ends a tool as it ends `cat`."""
+        alarm = "import os, signal, sys; signal.alarm(2); os.execv(sys.argv[1], sys.argv[1:])"
+        for tool in TRACES:
+            words = [*self.words(tool), *["wait"] * (tool == "trace")]
+            with self.subTest(tool), ended(subprocess.Popen(
+                    ["/usr/bin/python3", "-c", alarm, *words], **self.env, stdin=subprocess.PIPE,
+                    stdout=subprocess.PIPE)) as running:
+                self.assertEqual(running.wait(60), -signal.SIGALRM)  # also where nobody reads
+                last = rb"(trace: a signal ended it|[a-z-]+ failed): what stands above is not all\n"
+                self.assertRegex(running.stdout.read(), last + rb"\Z")

@@ -222,6 +222,20 @@ class PackedTraces(Shared):
         self.assertEqual(ran.returncode, 1)
         self.assertIn(b"trailing garbage", ran.stderr)
 
+    def test_an_unpacker_that_is_killed(self):
+        """By whatever signal: what came before is no whole trace."""
+        for number in ("KILL", "PIPE", "TERM"):
+            line = f"printf '0 10\\n0 20\\n'; kill -{number} $$"
+            env = self.stand_in("gzip", line)
+            self.write("t.gz", gzip.compress(LINES))
+            for tool in [*JOINING, "by-line"]:
+                with self.subTest(tool=tool, number=number):
+                    ran = self.read_by(tool, "t.gz", env=env)
+                    self.assertEqual(ran.returncode, 1, ran.stderr)
+                    self.assertIn(b"gzip ended with signal", ran.stderr)
+                    self.assertEqual(ran.stdout, b"0 10\n0 20\n" * bool(mark_of(tool)) +
+                                     mark_of(tool))
+
     def test_missing_packages(self):
         """All that a plain trace needs is there."""
         self.write("t.din", LINES)

@@ -314,7 +314,7 @@ class StandIn(TraceTest):
             self.assertFalse((self.folder / "kept").exists())
 
     def test_an_earlier_trace_is_left(self):
-        """Where no new one can be made. But who waits at a pipe learns it, and is not waited for."""
+        """Where no new one can be made. Who waits at a pipe learns it, and nobody is waited for."""
         fake = {"PATH": f"{self.folder}/none"}
         for arguments, env in (
             *(([*words, self.program], {}) for words in (

@@ -177,6 +177,8 @@ class Output:
         """Ends a file that has no more room, and returns what a message says of it."""
         if self.begin is None:
             return ""
+        if not self.tail:
+            return "; none of it is kept"
         end, mark = os.lseek(self.descriptor, 0, os.SEEK_CUR), mark_line()
         start = end - len(self.tail)
         with contextlib.suppress(OSError), \

@@ -54,10 +54,16 @@ static void end_program(void) {
     wait_a_while();
 }
 
+// The same of a trace that is cut, with the converter, which would tell of a line that is cut.
+static void give_up(void) {
+    if (converter) kill(converter, SIGKILL);
+    end_program();
+}
+
 static void heed_fault(void) {
     if (!output.fault || closed) return;
     closed = true;
-    end_program();
+    give_up();
 }
 
 static void drain(void) {
@@ -212,7 +218,8 @@ static void follow_lines(int in) {
     size_t room = 0;
     if (!lines) fail(OWN_FAULT, "no lines to read");
     for (ssize_t length; (length = getline(&line, &room, lines)) > 0;)
-        if (length < ROOM / 2) write_line(line, (size_t)length);
+        if (length < ROOM / 2 && line[length - 1] == '\n')  // a killed converter cuts its last
+            write_line(line, (size_t)length);
     finish();
     while (program || converter) sem_wait(&ends);
 }
@@ -253,17 +260,26 @@ static void take_ended(void) {
     sem_post(memory ? &memory->full : &ends);
 }
 
+static int end_by(int number) {
+    sigset_t none;
+    sigemptyset(&none);
+    sigprocmask(SIG_SETMASK, &none, NULL);
+    signal(number, SIG_DFL);
+    raise(number);
+    return 128 + number;
+}
+
 // A signal from a terminal goes to the program as well; one that was sent to this process is passed
-// on, or ends the program and then this process. After the program's end it ends this process, which
-// may wait for a reader; but in some time, as the program has often just ended by it, for its last
-// lines.
+// on, or ends the program and then this process. After the program's end it ends this process,
+// which may wait for a reader; but in some time, as the program has often just ended by it, for its
+// last lines.
 static void on_signal(int number, siginfo_t *info, void *context) {
     static volatile sig_atomic_t late;
     (void)context;
     int before = errno;
     if (number == SIGALRM && is_patient) {
         if (program) kill(program, SIGKILL), wait_a_while();
-        else if (late) leave_mark(), _exit(128 + late);
+        else if (late) leave_mark(), _exit(ending ? end_by(ending) : 128 + late);
     } else if (number == SIGCHLD) {
         take_ended();
     } else if (number != SIGALRM || heeds_alarm) {
@@ -271,7 +287,7 @@ static void on_signal(int number, siginfo_t *info, void *context) {
         if (is_passed_on(number)) stopped = number;
         else ending = late = number;
         if (!program) late = number, wait_a_while();
-        else if (ending) end_program();
+        else if (ending) give_up();
         else if (info->si_code <= 0) kill(program, number);
     }
     errno = before;
@@ -316,27 +332,25 @@ static void start(char **words) {
 
 // ---- The whole
 
+static const char cut_by_signal[] = "a signal ended it: what stands above is not all";
+
 // Whether a signal to this process kept the program from going to its end.
 static bool is_cut(void) {
     bool is_own = stopped == SIGUSR1 || stopped == SIGUSR2;  // which programs use themselves
     return stopped && !closed && (WIFSIGNALED(status) || (!is_own && WEXITSTATUS(status)));
 }
 
-static int end_by(int number) {
-    sigset_t none;
-    sigemptyset(&none);
-    sigprocmask(SIG_SETMASK, &none, NULL);
-    signal(number, SIG_DFL);
-    raise(number);
-    return 128 + number;
-}
-
 static int judged(void) {
-    if (converter_failed) fail(OWN_FAULT, "to-din failed: the tracer's lines can't be converted");
+    if (ending && !closed) {
+        put_mark(cut_by_signal);
+        return end_by(ending);
+    }
+    if (converter_failed && !closed)
+        fail(OWN_FAULT, "to-din failed: the tracer's lines can't be converted");
     if (!closed && !ran)
         fail(CANNOT_RUN, "the program can't be run: see the message of its tracer");
-    if ((ending && !closed) || (is_cut() && goes_to_a_pipe())) {
-        put_mark("a signal ended it: what stands above is not all");
+    if (is_cut() && goes_to_a_pipe()) {
+        put_mark(cut_by_signal);
     } else if (skips && !wrote && !output.fault && !stopped) {
         fail(OWN_FAULT, "--skip omits all references of the program");
     }
@@ -368,6 +382,7 @@ static void trace_by_qemu(char **words) {
     close(descriptor);
     make_digits();
     follow_blocks();
+    if (ending) return;
     if (!memory->loaded) fail(OWN_FAULT, "QEMU didn't take the plugin: see its message");
     ran = memory->ran;
     if (ran && !memory->began)
