@@ -47,6 +47,18 @@ PAGE = 4096
 PAGES = 64
 
 
+FILLS = """\
+#include "cachelab.h"
+#include <stdlib.h>
+static void fills(int M, int N, int A[N][M], int B[M][N])
+{
+    system("head -c 9000000 /dev/zero > $TMPDIR/large 2> /dev/null");
+    for (int i = 0; i < N; i++) for (int j = 0; j < M; j++) B[j][i] = A[i][j];
+}
+void registerFunctions(void) { registerTransFunction(fills, "fills"); }
+"""
+
+
 class FilesTest(StudentTest):
     def ended_at_last(self):
         """What still runs, and is ended now."""
@@ -54,6 +66,16 @@ class FilesTest(StudentTest):
         for number in left:
             os.kill(int(number), signal.SIGKILL)
         return left
+
+    def with_pages(self, pages, line):
+        """What a line of bash says, its status and what it leaves, where the private folder's
+        device has room for so many pages."""
+        room = self.folder / "room"
+        room.mkdir(exist_ok=True)
+        script = (f"head -c {(PAGES - pages) * PAGE} /dev/zero > {room}/filler; "
+                  f"export TMPDIR={room}; {line} 2>&1; echo $?; rm {room}/filler; ls -A {room}")
+        words = ["bwrap", "--dev-bind", "/", "/", "--size", PAGES * PAGE, "--tmpfs", room]
+        return self.good(self.run_command(*words, "--", "bash", "-c", script))
 
 
 class LabFiles(FilesTest):
@@ -212,8 +234,8 @@ class LabFiles(FilesTest):
                     given = {**self.in_folder(TMPDIR=str(self.private)), "stdin": subprocess.PIPE,
                              "stdout": subprocess.DEVNULL, "stderr": subprocess.PIPE}
                     with ended(subprocess.Popen([LAB / tool, *words], **given)) as one:
-                        self.assertTrue(comes(lambda: tool == "replay" and catches(one.pid, number)
-                                              or any(self.private.iterdir()), 60))
+                        self.assertTrue(comes(lambda: any(self.private.iterdir()) or tool ==
+                                              "replay" and catches(one.pid, signal.SIGTERM), 60))
                         one.send_signal(number)
                         self.assertIn(one.wait(60), (128 + number, -number))
                         self.assertEqual(one.stderr.read(), b"")
@@ -251,16 +273,6 @@ class LabFiles(FilesTest):
             "name,right,of,points,short.trace,reason", "ann,1,1,3,1,", f"cat,0,0,0,0,{missed}",
             "bob,1,1,3,1,", f"grade-class: {self.folder}/cat/csim: {missed}", "1"])
 
-    def with_pages(self, pages, line):
-        """What a line of bash says, its status and what it leaves, where the private folder's
-        device has room for so many pages."""
-        room = self.folder / "room"
-        room.mkdir(exist_ok=True)
-        script = (f"head -c {(PAGES - pages) * PAGE} /dev/zero > {room}/filler; "
-                  f"export TMPDIR={room}; {line} 2>&1; echo $?; rm {room}/filler; ls -A {room}")
-        words = ["bwrap", "--dev-bind", "/", "/", "--size", PAGES * PAGE, "--tmpfs", room]
-        return self.good(self.run_command(*words, "--", "bash", "-c", script))
-
 
 class OfValgrind(FilesTest):
     @needs("valgrind")
@@ -274,3 +286,11 @@ class OfValgrind(FilesTest):
             tool.terminate()
             tool.wait(60)
             self.assertEqual(len(self.ended_at_last()), 1)
+
+    @needs("bubblewrap", "valgrind")
+    def test_no_room(self):
+        """A function whose result can't be reported is not judged, and gets no false reason."""
+        self.write("fills.c", FILLS)
+        said = self.with_pages(PAGES, f"{LAB}/lab-transpose --size 32x32 fills.c")
+        fault = "the private folder can't be written: No space left on device"
+        self.assertEqual(said, f"fills\n    32x32  not judged: {fault}\n2\n")
