@@ -47,26 +47,6 @@ PAGE = 4096
 PAGES = 64
 
 
-FILLS = """\
-#include "cachelab.h"
-#include <stdlib.h>
-static void after(int M, int N, int A[N][M], int B[M][N])
-{
-    for (int i = 0; i < N; i++) for (int j = 0; j < M; j++) B[j][i] = A[i][j];
-}
-static void fills(int M, int N, int A[N][M], int B[M][N])
-{
-    system("head -c 9000000 /dev/zero > $TMPDIR/large 2> /dev/null");
-    after(M, N, A, B);
-}
-void registerFunctions(void)
-{
-    registerTransFunction(fills, "fills");
-    registerTransFunction(after, "after");
-}
-"""
-
-
 class FilesTest(StudentTest):
     def ended_at_last(self):
         """What still runs, and is ended now."""
@@ -297,9 +277,16 @@ class OfValgrind(FilesTest):
 
     @needs("bubblewrap", "valgrind")
     def test_no_room(self):
-        """A function that can't report its result is not judged, and gets no false reason."""
-        self.write("fills.c", FILLS)
-        said = self.with_pages(PAGES, f"{LAB}/lab-transpose --size 32x32 fills.c")
+        """A function that can't report anything is not judged, and gets no false reason: here the
+        compiler leaves no page, or only the one on which functions are registered."""
+        shutil.copy(STUDENTS / "trans.c", self.folder)
         fault = "the private folder can't be written: No space left on device"
-        self.assertRegex(said, r"\Afills\n    32x32  hits:")
-        self.assertTrue(said.endswith(f"\nafter\n    32x32  not judged: {fault}\n2\n"), said)
+        line = f"CC={self.folder}/fills {LAB}/lab-transpose --size 32x32 trans.c"
+        for pages, wanted in ((0, f"lab-transpose: {fault}\n2\n"),
+                              (1, f"row by row\n    32x32  not judged: {fault}\nin blocks\n")):
+            self.executable("fills", 'cc "$@"', 'head -c 9000000 /dev/zero > "$TMPDIR/large"',
+                            f'truncate -s -{pages * PAGE} "$TMPDIR/large"')
+            said = self.with_pages(PAGES, line)
+            self.assertTrue(said.startswith(wanted), said)
+            self.assertTrue(said.endswith("\n2\n"), said)
+            self.assertNotIn("points", said)
