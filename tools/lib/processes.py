@@ -287,7 +287,7 @@ def strike_orphans():
 
 
 def end_orphans():
-    """Ends all children of this process, and theirs."""
-    while own := strike_orphans():
+    """Ends all children of this process, and theirs, if it has adopted any."""
+    while inherited is not None and (own := strike_orphans()):
         for child in own:
             os.waitpid(child, 0)

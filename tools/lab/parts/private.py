@@ -8,6 +8,7 @@ import os
 import sys
 import tempfile
 
+from lib import processes
 from lib.runs import state_of
 from lib.signals import heed_stops, put_off_stops, stop_at_signals
 from parts import tool
@@ -103,6 +104,7 @@ def in_private_folder(work):
         finally:
             put_off_stops()
             os.close(spare)
+            processes.end_orphans()  # a signal may have come as a run's were ended
             remove(folder)
             heed_stops()
     except OSError as fault:
