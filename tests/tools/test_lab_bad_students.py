@@ -208,6 +208,6 @@ class BadStudents(ClassTest):
                 text = "not judged" if points == "-" else said
                 self.assertEqual((row["points"], row["of"]), (points.replace("-", "0"), "1"))
                 self.assertIn(text, self.text_of(name))
-                self.assertIn(text, row["reason"])
+                self.assertIn(" ".join(text.split()), row["reason"])
         self.assertEqual(rows, {})
         self.nothing_is_left()

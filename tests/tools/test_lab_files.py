@@ -55,6 +55,16 @@ class FilesTest(StudentTest):
             os.kill(int(number), signal.SIGKILL)
         return left
 
+    def with_pages(self, pages, line):
+        """What a line of bash says, its status and what it leaves, where the private folder's
+        device has room for so many pages."""
+        room = self.folder / "room"
+        room.mkdir(exist_ok=True)
+        script = (f"head -c {(PAGES - pages) * PAGE} /dev/zero > {room}/filler; "
+                  f"export TMPDIR={room}; {line} 2>&1; echo $?; rm {room}/filler; ls -A {room}")
+        words = ["bwrap", "--dev-bind", "/", "/", "--size", PAGES * PAGE, "--tmpfs", room]
+        return self.good(self.run_command(*words, "--", "bash", "-c", script))
+
 
 class LabFiles(FilesTest):
     def setUp(self):
@@ -212,8 +222,8 @@ class LabFiles(FilesTest):
                     given = {**self.in_folder(TMPDIR=str(self.private)), "stdin": subprocess.PIPE,
                              "stdout": subprocess.DEVNULL, "stderr": subprocess.PIPE}
                     with ended(subprocess.Popen([LAB / tool, *words], **given)) as one:
-                        self.assertTrue(comes(lambda: tool == "replay" and catches(one.pid, number)
-                                              or any(self.private.iterdir()), 60))
+                        self.assertTrue(comes(lambda: any(self.private.iterdir()) or tool ==
+                                              "replay" and catches(one.pid, signal.SIGTERM), 60))
                         one.send_signal(number)
                         self.assertIn(one.wait(60), (128 + number, -number))
                         self.assertEqual(one.stderr.read(), b"")
@@ -251,16 +261,6 @@ class LabFiles(FilesTest):
             "name,right,of,points,short.trace,reason", "ann,1,1,3,1,", f"cat,0,0,0,0,{missed}",
             "bob,1,1,3,1,", f"grade-class: {self.folder}/cat/csim: {missed}", "1"])
 
-    def with_pages(self, pages, line):
-        """What a line of bash says, its status and what it leaves, where the private folder's
-        device has room for so many pages."""
-        room = self.folder / "room"
-        room.mkdir(exist_ok=True)
-        script = (f"head -c {(PAGES - pages) * PAGE} /dev/zero > {room}/filler; "
-                  f"export TMPDIR={room}; {line} 2>&1; echo $?; rm {room}/filler; ls -A {room}")
-        words = ["bwrap", "--dev-bind", "/", "/", "--size", PAGES * PAGE, "--tmpfs", room]
-        return self.good(self.run_command(*words, "--", "bash", "-c", script))
-
 
 class OfValgrind(FilesTest):
     @needs("valgrind")
@@ -274,3 +274,19 @@ class OfValgrind(FilesTest):
             tool.terminate()
             tool.wait(60)
             self.assertEqual(len(self.ended_at_last()), 1)
+
+    @needs("bubblewrap", "valgrind")
+    def test_no_room(self):
+        """A function that can't report anything is not judged, and gets no false reason: here the
+        compiler leaves no page, or only the one on which functions are registered."""
+        shutil.copy(STUDENTS / "trans.c", self.folder)
+        fault = "the private folder can't be written: No space left on device"
+        line = f"CC={self.folder}/fills {LAB}/lab-transpose --size 32x32 trans.c"
+        for pages, wanted in ((0, f"lab-transpose: {fault}\n2\n"),
+                              (1, f"row by row\n    32x32  not judged: {fault}\nin blocks\n")):
+            self.executable("fills", 'cc "$@"', 'head -c 9000000 /dev/zero > "$TMPDIR/large"',
+                            f'truncate -s -{pages * PAGE} "$TMPDIR/large"')
+            said = self.with_pages(PAGES, line)
+            self.assertTrue(said.startswith(wanted), said)
+            self.assertTrue(said.endswith("\n2\n"), said)
+            self.assertNotIn("points", said)

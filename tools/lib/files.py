@@ -74,8 +74,8 @@ def apart(outputs, inputs=()):
 
 # ---- Whole files
 
-def claim(place):
-    """Ends the tool where the name of a file that it is to write is something else's."""
+def judge_kind(place):
+    """Ends the tool where the name of a file of its own is something else's."""
     try:
         kind = stat.S_IFMT(os.lstat(place).st_mode)
     except FileNotFoundError:
@@ -84,11 +84,19 @@ def claim(place):
         tool.fail(f"{place} is no file of its own: it is {KINDS.get(kind, 'something else')}")
 
 
+def claim(places, inputs):
+    """Ends the tool, before its work, where it couldn't keep files of its own in some places, or
+    where one is read, or standard output goes there."""
+    apart([("standard output", 1), *zip(places, places)], inputs)
+    for place in places:
+        judge_kind(place)
+
+
 def keep(place, data, mode=0o644):
     """Writes a file of the tool's own as a whole, never through a link. Ends the tool where its
     name is something else's."""
     with tool.faults_of(place):
-        claim(place)
+        judge_kind(place)
         replace(place, data, mode)
 
 

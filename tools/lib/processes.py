@@ -275,12 +275,19 @@ def adopt_orphans():
         ctypes.CDLL(None).prctl(PR_SET_CHILD_SUBREAPER, 1, 0, 0, 0)
 
 
+def strike_orphans():
+    """Kills all children of this process, which has adopted theirs. Returns their numbers."""
+    own = children() - inherited
+    for child in own:
+        try:
+            os.kill(child, signal.SIGKILL)
+        except PermissionError:  # it has become another user's
+            inherited.add(child)
+    return own - inherited
+
+
 def end_orphans():
-    """Ends all children of this process, and theirs, which it has adopted."""
-    while own := children() - inherited:
+    """Ends all children of this process, and theirs, if it has adopted any."""
+    while inherited is not None and (own := strike_orphans()):
         for child in own:
-            try:
-                os.kill(child, signal.SIGKILL)
-                os.waitpid(child, 0)
-            except PermissionError:  # it has become another user's
-                inherited.add(child)
+            os.waitpid(child, 0)

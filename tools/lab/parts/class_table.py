@@ -137,10 +137,7 @@ def of_class(asked, private):
     processes.adopt_orphans()
     group = Class(options, given, private)
     group.faults += [f"{name}: left out, as it is no folder" for name in asked.left_out]
-    try:
-        write_table(group, [visible_name(name) for _, name in given], asked.folders, asked.jobs)
-    finally:
-        processes.end_orphans()
+    write_table(group, [visible_name(name) for _, name in given], asked.folders, asked.jobs)
     for fault in group.faults:
         tool.warn(fault)
     return 1 if group.faults else 0

@@ -262,11 +262,9 @@ class Grading:
 
 def kept(keep, given, program):
     """The six traces, kept in a folder, by their names there."""
-    names = [os.path.join(keep, name) for _, name in given]
     os.makedirs(keep, exist_ok=True)
-    files.apart([("standard output", 1), *zip(names, names)], [("CSIM", program)])
-    for name in names:
-        files.claim(name)
+    names = [os.path.join(keep, name) for _, name in given]
+    files.claim(names, [("CSIM", program)])
     for (place, _), name in zip(given, names):
         with open(place, "rb") as trace:
             files.keep(name, trace.read())

@@ -8,22 +8,24 @@ import os
 import sys
 import tempfile
 
+from lib import processes
 from lib.runs import state_of
 from lib.signals import heed_stops, put_off_stops, stop_at_signals
 from parts import tool
 
 FULL = errno.ENOSPC, errno.EDQUOT
-PAGE = bytes(4096)
+PAGE = 4096
 PIECE = 1 << 20
 
 
 def no_room(folder):
     """Why no more can be written to a folder, in words; nothing where it can. This is asked after
     each run: a program that is wrong may have had no room for what it wrote."""
+    left = bytes(PAGE)
     try:
         with tempfile.TemporaryFile(dir=folder, buffering=0) as file:
-            if file.write(PAGE) < len(PAGE):
-                raise OSError(errno.ENOSPC, os.strerror(errno.ENOSPC))
+            while left:
+                left = left[file.write(left):]
     except OSError as fault:
         return no_room_text(fault)
     return ""
@@ -94,12 +96,15 @@ def in_private_folder(work):
     stop_at_signals()
     put_off_stops()
     try:
+        spare = os.open(os.devnull, os.O_RDONLY)  # at the end there may be no other descriptor
         folder = tempfile.mkdtemp(prefix=f"cachesim-{tool.NAME}.")
         try:
             heed_stops()
             return work(folder)
         finally:
             put_off_stops()
+            os.close(spare)
+            processes.end_orphans()  # a signal may have come as a run's were ended
             remove(folder)
             heed_stops()
     except OSError as fault:

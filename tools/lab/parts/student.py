@@ -104,8 +104,10 @@ class Limited:
         resource.setrlimit(resource.RLIMIT_CORE, (0, 0))
 
     def kill(self):
+        """Kills it, and what has left its session: that may hold a pipe which is read."""
         with contextlib.suppress(ProcessLookupError):
             os.killpg(self.process.pid, signal.SIGKILL)
+        processes.strike_orphans()
 
     def look(self, *_):
         """Ends the run where its time is over."""

@@ -299,9 +299,7 @@ def keeper(asked):
     os.makedirs(asked.keep, exist_ok=True)
     places = [os.path.join(asked.keep, name) for name in sorted(os.listdir(asked.keep))
               if re.fullmatch(KEPT, name) and name.partition("-")[0] in (asked.size or SIZES)]
-    files.apart([("standard output", 1), *zip(places, places)], [("TRANS.C", asked.source)])
-    for place in places:
-        files.claim(place)
+    files.claim(places, [("TRANS.C", asked.source)])
     return lambda name, lines: files.keep(os.path.join(asked.keep, name), b"".join(lines))
 
 
