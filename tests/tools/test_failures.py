@@ -367,7 +367,7 @@ class Limits(FailureTest):
                 ran = self.run_in("cut", words, f"ulimit -f {blocks};", after)
                 self.assert_no_trace(ran.stdout, ran.stderr)
                 self.assertGreater(len(ran.stdout), 0)
-                self.assertRegex(ran.stdout, rb"\n[\w-]+ failed: what stands above is not all\n\Z")
+                self.assertRegex(ran.stdout, rb"\n[\w-]+ failed: what stands above is not all *\n\Z")
 
 
 class OfPackages(FailureTest):
