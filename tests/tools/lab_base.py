@@ -13,11 +13,6 @@ import tempfile
 
 from base import TOOLS, TOP, ToolTest, comes, ended
 
-LAB = TOOLS / "lab"
-STUDENTS = TOP / "tests/tools/lab"
-sys.path.append(str(LAB))
-traces = importlib.import_module("parts.traces")
-PR_SET_CHILD_SUBREAPER = 36
 # a trans.c with a right function
 TRANS = """\
 void registerTransFunction(void (*)(int M, int N, int[N][M], int[M][N]), char *);
@@ -26,6 +21,11 @@ static void by_rows(int M, int N, int A[N][M], int B[M][N]) {
 }
 void registerFunctions(void) { registerTransFunction(by_rows, "by rows"); }
 """
+LAB = TOOLS / "lab"
+STUDENTS = TOP / "tests/tools/lab"
+sys.path.append(str(LAB))
+traces = importlib.import_module("parts.traces")
+PR_SET_CHILD_SUBREAPER = 36
 
 
 def adopt_orphans(is_wanted):
