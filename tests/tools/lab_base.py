@@ -13,12 +13,6 @@ import tempfile
 
 from base import TOOLS, TOP, ToolTest, comes, ended
 
-LAB = TOOLS / "lab"
-STUDENTS = TOP / "tests/tools/lab"
-sys.path.append(str(LAB))
-traces = importlib.import_module("parts.traces")
-PR_SET_CHILD_SUBREAPER = 36
-SHORT = " L 10,1\n M 20,1\n L 22,1\n S 18,1\n L 110,1\n L 210,1\n M 12,1\n"  # a trace
 # a trans.c with a right function
 TRANS = """\
 void registerTransFunction(void (*)(int M, int N, int[N][M], int[M][N]), char *);
@@ -27,6 +21,12 @@ static void by_rows(int M, int N, int A[N][M], int B[M][N]) {
 }
 void registerFunctions(void) { registerTransFunction(by_rows, "by rows"); }
 """
+LAB = TOOLS / "lab"
+STUDENTS = TOP / "tests/tools/lab"
+sys.path.append(str(LAB))
+traces = importlib.import_module("parts.traces")
+PR_SET_CHILD_SUBREAPER = 36
+SHORT = " L 10,1\n M 20,1\n L 22,1\n S 18,1\n L 110,1\n L 210,1\n M 12,1\n"  # a trace
 
 
 def adopt_orphans(is_wanted):

@@ -12,13 +12,9 @@ import shutil
 import subprocess
 import tempfile
 
-import test_ended
-from base import (EXAMPLES, PLAIN, PROGRAM, TOOLS, TOP, ToolTest, comes, copy_tools, needs,
-                  processes)
-from lab_base import STUDENTS, TRANS
-from test_style import tools
-from lib.trace.functions import start_of_code
-from trace_base import TRACED, program_of, symbols_of
+from base import EXAMPLES, PLAIN, PROGRAM, TOOLS, TOP, ToolTest, comes, copy_tools, processes
+from lab_base import STUDENTS
+from trace_base import TRACED, program_of
 
 SPACE = "--bsize 16 --sets 1-4 --assoc 1-2 --size 64".split()
 CACHE = "-l1-dsize 128 -l1-dbsize 16 -l1-dassoc 2".split()
@@ -26,7 +22,7 @@ QEMU = f"qemu-{platform.machine()}"
 FAKE = {"FAKE_VERSION": "7.2.22", "FAKE_HELP": "-plugin ..", "FAKE_START": "0"}
 # what each tool is given: files, and in the place of INPUT a trace, and of MAIN how far a function
 # is behind the start of the code. Behind a blank stands what it is asked for beside its usual work,
-# by options that call other commands. These need Python, a C compiler and bash, ..
+# by options that call other commands. Those that need packages are in test_failures_packages.py
 RUNS = {
     "best": ["table.csv"],
     "by-page": ["INPUT", *CACHE],
@@ -44,19 +40,6 @@ RUNS = {
     "trace": ["./program", "2:1", "many:100"],
     "warm": ["9", "INPUT", *SPACE],
 }
-# .. and these a package
-OF_PACKAGES = {
-    "by-line": ["INPUT", *CACHE],
-    "by-line names": ["lines.din", *CACHE, "--program", "traced", "--callgrind", "counts"],
-    "lab/lab-trace": ["./program"],
-    "lab/lab-transpose": ["--size", "8x8", "trans.c"],
-    "plot png": ["table.csv", "a.png"],
-    "plot text": ["table.csv", "-"],
-    "trace from": ["--from", "main", "./traced", "2:1", "2:MAIN", "many:100"],
-    "trace lackey": ["--with", "lackey", "--kind", "d", "./program"],
-    "trace to": ["--to", "main", "./traced", "2:1", "many:100"],
-}
-of_packages = needs("binutils", "bubblewrap", "gnuplot-nox", "llvm", "valgrind", "xz-utils", "zstd")
 UNPACKS = [tool for tool, words in RUNS.items() if "INPUT" in words and tool != "cluster/submit"]
 WRITES_A_TRACE = ("lab/lab-trace", "second-level", "to-din", "trace")
 TO_A_FILE = {"plot png"}  # which is all that they write
@@ -235,15 +218,6 @@ class FailureTest(ToolTest):
                 told = got.stderr.decode(errors="replace")
                 self.judge(tool, got, whole, f"{tool}: {what}: status {got.returncode}: {told}")
                 yield what, got
-
-
-class Tools(ToolTest):
-    def test_each_is_tried(self):
-        """Here, and by signals, except for one that only has a cluster do something."""
-        ended = {**test_ended.RUNS, **test_ended.OF_PACKAGES, "cluster/submit": []}
-        there = {os.path.relpath(path, TOOLS) for path in tools() if path.startswith(f"{TOOLS}/")}
-        for runs in ({**RUNS, **OF_PACKAGES}, ended):
-            self.assertEqual({tool.split()[0] for tool in runs}, there)
 
 
 class Commands(FailureTest):
