@@ -4,7 +4,7 @@
 #include "output.h"
 
 enum { READY = 1 << 16 };               // so many bytes are written at once
-enum { FULL = 3, READER_GONE = 141 };   // exit statuses, as in lib/processes.py
+enum { FULL = 74, READER_GONE = 141 };  // exit statuses, as in lib/processes.py
 
 static void on_stop(int number) { output_is_stopped = number; }
 

@@ -115,7 +115,7 @@ class Filter(Process):
     reader goes away, and has it end its line before that."""
 
     BLOCKED = STOPS - {signal.SIGXCPU}  # its time is its own
-    FULL = 3  # its status where it has ended a file that has no more room
+    FULL = 74  # its status where it has ended a file that has no more room (EX_IOERR)
 
     def fault(self, code):
         if code == tool.READER_GONE:
