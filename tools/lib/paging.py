@@ -14,9 +14,7 @@ DEEPEST = 256
 def number_of_jobs(word):
     if word == "auto":
         return len(os.sched_getaffinity(0))
-    if not (word.isascii() and word.isdigit() and int(word)):
-        tool.misused(f"{word} is no number of jobs")
-    return int(word)
+    return tool.number_of(word) or tool.misused(f"{word} is no number of jobs")
 
 
 class Pair:

@@ -62,9 +62,9 @@ class Runs:
         self.is_read_once = is_read_once or trace == "-" or is_packed(trace) or is_special
 
     def start_next(self):
-        """Starts the next run, where there is one."""
+        """Starts the next run, where there is one, and returns those that it has started."""
         if len(self.runs) == len(self.commands):
-            return
+            return []
         place, command, *lines = self.commands[len(self.runs)]
         name = file = None
         if not self.is_read_once:
@@ -74,6 +74,7 @@ class Runs:
             file = os.open(f"/proc/self/fd/{self.spool.fileno()}", os.O_RDONLY)
         self.runs.append(
             self.group.start(Run, place, command, *(lines or [None]), name, file))
+        return self.runs[-1:]
 
     def start(self):
         """Starts as many as may run at once."""
@@ -128,13 +129,12 @@ class Runs:
 
     def finish(self):
         """Waits for all runs. Where one ends, the next one begins."""
-        while any(run.is_running for run in self.runs):
+        running = {run.number: run for run in self.runs if run.is_running}
+        while running:
             number, status = os.wait()
-            for run in self.runs:
-                if run.number == number and run.is_running:
-                    run.ended(status)
-                    self.start_next()
-                    break
+            if run := running.pop(number, None):
+                run.ended(status)
+                running.update((new.number, new) for new in self.start_next())
 
     def progress(self):
         """How far the runs are: how many are done, or what that has read which has read least."""

@@ -2,6 +2,7 @@
 
 import math
 import os
+import re
 import textwrap
 from collections import namedtuple
 
@@ -24,8 +25,13 @@ class Place(namedtuple("Place", "area title legend")):
 
 
 def quoted(words):
-    """A text as gnuplot's string, in which all is plain. `]]>` is parted: no SVG may have it."""
-    return "'" + words.replace("'", "''").replace("]]>", "]] >") + "'"
+    """A text as gnuplot's string, in which all is plain: in single quotes, and where it has one, in
+    double quotes with escapes, since two at the beginning are an empty string. `]]>` is parted: no
+    SVG may have it."""
+    words = tool.visible(words).replace("]]>", "]] >")
+    if "'" not in words:
+        return f"'{words}'"
+    return '"' + re.sub("[\\\\\"'`@]", lambda found: f"\\0{ord(found[0]):03o}", words) + '"'
 
 
 def title_of(picture, columns):
