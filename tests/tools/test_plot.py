@@ -212,7 +212,7 @@ class Script(PlotTest):
         """A title is quoted, and told where there are no references; names have blanks and
         dashes."""
         script = self.script("--title", "it's `a` \"b\" \\n \nc", "eight.csv", "a.svg")
-        self.assertIn(r'"it\0047s \0140a\0140 \0042b\0042 \0134n  c"', script)
+        self.assertIn(r"""'it''s `a` "b" \n  c'""", script)
         self.write("t.csv", "64,1,1,64,0,0,0\n64,2,1,128,0,0,0\n")
         self.assertIn("'empty (no references)'", self.script("--title", "empty", "t.csv", "a.png"))
         self.write("-a table.csv", EIGHT)

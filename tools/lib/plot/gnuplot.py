@@ -25,12 +25,12 @@ class Place(namedtuple("Place", "area title legend")):
 
 
 def quoted(words):
-    """A text as gnuplot's string, in which all is plain: in single quotes, and where it has one, in
-    double quotes with escapes, since two at the beginning are an empty string. `]]>` is parted: no
-    SVG may have it."""
+    """A text as gnuplot's string, in which all is plain: in single quotes, with its own doubled.
+    Gnuplot takes these for an end at the beginning, and two pairs of them, so that such a text is
+    in double quotes, with escapes. `]]>` is parted: no SVG may have it."""
     words = tool.visible(words).replace("]]>", "]] >")
-    if "'" not in words:
-        return f"'{words}'"
+    if not re.search("^'|''", words):
+        return "'" + words.replace("'", "''") + "'"
     return '"' + re.sub("[\\\\\"'`@]", lambda found: f"\\0{ord(found[0]):03o}", words) + '"'
 
 
