@@ -59,7 +59,7 @@ def rows_of(program, options):
     """The lines of a table, for an empty trace. Options that the program refuses end this tool."""
     code, table, told = processes.ran([program, "sweep", "-t", "/dev/null", *options])
     if told:
-        print(told, file=sys.stderr)
+        tool.tell(told)
     if code < 0 or code and not told:
         tool.fail(f"{os.path.basename(program)} ended with {processes.end_text(code)}, and no list "
                   "of the rows")

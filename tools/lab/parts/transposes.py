@@ -128,7 +128,7 @@ def compiled(source, folder):
     with tool.faults_of(compiler[0]):
         ran = subprocess.run(command, stderr=subprocess.PIPE, check=False)
     if ran.returncode:
-        sys.stderr.write(ran.stderr.decode(errors="replace"))
+        tool.tell(ran.stderr.decode(errors="replace").rstrip("\n"))
         ended = f": {compiler[0]} {status_in_words(ran.returncode)}" * (ran.returncode < 0)
         tool.fail(f"{source} can't be compiled{ended}")
     return folder / "driver"
