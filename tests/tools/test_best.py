@@ -128,9 +128,9 @@ class Best(base.ToolTest):
 
 
 # 30, 33 and 42 are 35 in the mean, and the deviation is the root of (25 + 4 + 49) / 2
-FIRST, SECOND = "128,16,2,l,128,20,3,0.000,20,20", "128,16,2,f,128,25,3,0.000,25,25"
+FIRST, SECOND = "128,16,2,l,128,20,,,20,20", "128,16,2,f,128,25,,,25,25"
 LAST = "128,16,2,r,128,35,3,6.245,30,42"
-LRU_64, RANDOM_64 = "64,16,2,l,64,100,3,0.000,100,100", "64,16,2,r,64,150,3,30.000,120,180"
+LRU_64, RANDOM_64 = "64,16,2,l,64,100,,,100,100", "64,16,2,r,64,150,3,30.000,120,180"
 ALONE = re.sub("(?m)^(([^,]+,){4})1,", r"\1", din_rows({(64, "l"): (100,)}))
 # 20 of 50 references to the second level, of 109 of the trace: 40 and 18.349 per cent
 TWO = (f"{LEVELS},cycles\n64,256,100,50,50.000,50,20,40.000,20,9,90\n"
@@ -146,7 +146,7 @@ ANSWERS = (
     (GIVEN, "--up-to 64 --within 50", LRU_64, RANDOM_64),
     (GIVEN, "--front", LRU_64, FIRST),
     (GIVEN, "--measure l1-u-percent --rows 3", MEANS.replace("misses", "percent"),
-     "128,16,2,l,128,2,3,0.000,2,2", "128,16,2,f,128,2.500,3,0.000,2.500,2.500",
+     "128,16,2,l,128,2,,,2,2", "128,16,2,f,128,2.500,,,2.500,2.500",
      "128,16,2,r,128,3.500,3,0.624,3,4.200"),
     (GIVEN, "--below 3.5", f"{MEANS},percent", f"{FIRST},2.000", f"{SECOND},2.500",
      f"{LAST},3.500"),

@@ -189,7 +189,7 @@ class Page(PlotTest):
         self.write_din()
         self.write("din.csv", (self.folder / "din.csv").read_text().replace(",0\n", ",30\n"))
         # also those that no cache takes
-        self.assertIn("<p>18 runs, 1,030 references. ", self.page("din.csv"))
+        self.assertIn("<p>10 runs, 1,030 references. ", self.page("din.csv"))
 
     def test_a_line_that_is_cut(self):
         """Nothing is between the points where it is cut, and each keeps what is told of it."""

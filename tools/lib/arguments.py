@@ -12,9 +12,8 @@ argparse._ = str
 
 def columns():
     """Those of the terminal; 80 where there is none."""
-    asked = os.environ.get("COLUMNS", "")
-    if asked.isdigit() and int(asked):
-        return int(asked)
+    if asked := tool.number_of(os.environ.get("COLUMNS", "")):
+        return asked
     try:
         return os.get_terminal_size(1).columns or 80
     except OSError:

@@ -33,7 +33,8 @@ def chosen(asked, rows, is_count):
     if asked.front:
         return table.pareto(rows)
     if asked.rows:
-        return sorted(rows, key=by_measure)[: asked.rows]
+        import heapq
+        return heapq.nsmallest(asked.rows, rows, key=by_measure)
     if asked.below is not None:
         return smallest_below(asked, rows, is_count)
     least = min(row.measured for row in rows)
@@ -65,12 +66,16 @@ def of_din(asked, lines, name):
     from lib import table_din
     costs.refuse_din(asked)
     given = table_din.read_table(lines, name, asked.measure)
+    if given.left_out:
+        tool.warn(given.left_out)
     spread = ["runs", "deviation", "least", "greatest"] if given.has_seeds else []
     percents = ["percent"] * (asked.below is not None and given.is_count)
     yield ",".join([*given.options, "size", given.measure, *spread, *percents])
     for case in chosen(asked, given.cases, given.is_count):
         ends = number_text(min(case.values)), number_text(max(case.values))
-        spread_texts = [str(len(case.values)), f"{case.deviation:.3f}", *ends]
+        several = len(case.values)
+        means = [str(several), f"{case.deviation:.3f}"] if several > 1 else ["", ""]
+        spread_texts = [*means, *ends]
         shares = [f"{float(case.share):.3f}" for _ in percents]
         yield ",".join([*case.given, str(case.size), number_text(case.measured),
                         *spread_texts[:len(spread)], *shares])

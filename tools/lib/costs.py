@@ -1,5 +1,6 @@
 """What the misses of a sweep's caches cost, which the block size has a part in."""
 
+import functools
 import re
 
 from lib import tool
@@ -28,10 +29,18 @@ def add_to(parser):
                         "without /N for each byte; for example 80+2/16, or 100 whatever the block")
 
 
+@functools.lru_cache
+def cost_of(bsize, cost):
+    """The cycles that a miss of a block of this size takes."""
+    fixed, of_byte = cost
+    return fixed + of_byte * bsize
+
+
 def access_time(row, cost):
     """The cycles of a reference in the mean: those of a hit, and what misses add."""
-    fixed, of_byte = cost
-    return HIT + row.misses * (fixed + of_byte * row.bsize) / max(1, row.references)
+    from fractions import Fraction
+    each, references = cost_of(row.bsize, cost), max(1, row.references)
+    return HIT + Fraction(row.misses * each.numerator, references * each.denominator)
 
 
 def column_of(asked):

@@ -14,9 +14,7 @@ DEEPEST = 256
 def number_of_jobs(word):
     if word == "auto":
         return len(os.sched_getaffinity(0))
-    if not (word.isascii() and word.isdigit() and int(word)):
-        tool.misused(f"{word} is no number of jobs")
-    return int(word)
+    return tool.number_of(word) or tool.misused(f"{word} is no number of jobs")
 
 
 class Pair:
@@ -61,7 +59,7 @@ def rows_of(program, options):
     """The lines of a table, for an empty trace. Options that the program refuses end this tool."""
     code, table, told = processes.ran([program, "sweep", "-t", "/dev/null", *options])
     if told:
-        print(told, file=sys.stderr)
+        tool.tell(told)
     if code < 0 or code and not told:
         tool.fail(f"{os.path.basename(program)} ended with {processes.end_text(code)}, and no list "
                   "of the rows")

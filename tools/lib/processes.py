@@ -147,7 +147,7 @@ class Unpacker(Process):
 
     def fault(self, code):
         text = self.message().split("\n")[-1] or f"{self.name} ended with {end_text(code)}"
-        return Fault(f"{tool.NAME}: {self.trace} can't be read: {text}")
+        return Fault(f"{tool.NAME}: {tool.visible(self.trace)} can't be read: {text}")
 
     def own_fault(self):
         """That with which it ends now that its reader has failed, or None."""

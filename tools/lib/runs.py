@@ -57,14 +57,14 @@ class Runs:
         self.runs, self.spool, self.handed = [], None, 0
         # where there is no such file, each run tells it
         is_special = os.path.exists(trace) and not (os.path.isfile(trace) or os.path.isdir(trace))
-        # the program takes no word that isn't UTF-8
-        is_special |= trace.encode(errors="replace") != os.fsencode(trace)
+        # the program takes no word that isn't UTF-8, and can't show other odd ones
+        is_special |= tool.visible(trace) != trace
         self.is_read_once = is_read_once or trace == "-" or is_packed(trace) or is_special
 
     def start_next(self):
-        """Starts the next run, where there is one."""
+        """Starts the next run, where there is one, and returns those that it has started."""
         if len(self.runs) == len(self.commands):
-            return
+            return []
         place, command, *lines = self.commands[len(self.runs)]
         name = file = None
         if not self.is_read_once:
@@ -74,6 +74,7 @@ class Runs:
             file = os.open(f"/proc/self/fd/{self.spool.fileno()}", os.O_RDONLY)
         self.runs.append(
             self.group.start(Run, place, command, *(lines or [None]), name, file))
+        return self.runs[-1:]
 
     def start(self):
         """Starts as many as may run at once."""
@@ -85,7 +86,7 @@ class Runs:
         try:
             self.hand_out(*self.group.start_source(self.trace))
         except OSError as fault:
-            name = "standard input" if self.trace == "-" else self.trace
+            name = "standard input" if self.trace == "-" else tool.visible(self.trace)
             raise Fault(f"{tool.NAME}: {name} can't be read: {fault.strerror}") from None
 
     def keep(self, piece):
@@ -99,7 +100,8 @@ class Runs:
             while left:
                 left = left[self.spool.write(left):]
         except OSError as fault:
-            text = f"the trace can't be kept in {tempfile.gettempdir()}: {fault.strerror}"
+            folder = tool.visible(tempfile.gettempdir())
+            text = f"the trace can't be kept in {folder}: {fault.strerror}"
             raise Fault(f"{tool.NAME}: {text}") from None
 
     def hand_out(self, source, unpacker):
@@ -128,13 +130,12 @@ class Runs:
 
     def finish(self):
         """Waits for all runs. Where one ends, the next one begins."""
-        while any(run.is_running for run in self.runs):
+        running = {run.number: run for run in self.runs if run.is_running}
+        while running:
             number, status = os.wait()
-            for run in self.runs:
-                if run.number == number and run.is_running:
-                    run.ended(status)
-                    self.start_next()
-                    break
+            if run := running.pop(number, None):
+                run.ended(status)
+                running.update((new.number, new) for new in self.start_next())
 
     def progress(self):
         """How far the runs are: how many are done, or what that has read which has read least."""
@@ -203,4 +204,5 @@ def over(trace, commands, jobs, is_read_once=False):
 
 
 def changed(trace):
-    return f"{trace} has changed while it was read: not all runs have counted the same references"
+    return (f"{tool.visible(trace)} has changed while it was read: not all runs have counted the "
+            "same references")

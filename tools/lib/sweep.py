@@ -21,7 +21,8 @@ def options_of(words, place):
 
 
 def numbers(fields):
-    return [int(field) if field.isdigit() else field for field in fields]
+    found = [(tool.number_of(field), field) for field in fields]
+    return [field if number is None else number for number, field in found]
 
 
 class Table:

@@ -12,8 +12,8 @@ HEADER = "bsize,sets,assoc,size,hits,misses,evictions"
 COUNTS = ("hits", "misses", "evictions", "compulsory", "capacity", "conflict")
 # which `three-c` leaves empty for a cache of too many lines
 MAY_BE_EMPTY = ("capacity", "conflict")
-# no longer than a picture's axis can bear
-WHOLE = re.compile("[0-9]{1,64}")
+# no longer than a picture's axis can bear; a field that may be empty; any field
+WHOLE, PERHAPS, ANY = "[0-9]{1,64}", "[0-9]{0,64}", "[^,]*"
 # conflict misses may be below 0
 NUMBER = re.compile("-?[0-9]{1,64}([.][0-9]{1,64})?")
 # an option of a cache, as a column of a table of din-table has it
@@ -94,16 +94,17 @@ def judge_end(lines, name):
         raise BadTable(f"{name}: line {len(lines)} has no end: the table was cut off there")
 
 
-def rows_of(lines, name, columns, whole, what):
-    """The fields of each row but the header, and its number. They are as many as the columns, and
-    whole numbers at these places."""
+def rows_of(lines, name, columns, forms, what):
+    """The fields of each row but the header, and its number. Each column has its form."""
+    row, header = re.compile(",".join(f"({form})" for form in forms)), ",".join(columns)
     for number, line in enumerate(lines, 1):
-        fields = line.rstrip("\r\n").split(",")
-        if number == 1 and fields == columns:
+        text = line.rstrip("\r\n")
+        if number == 1 and text == header:
             continue
-        if len(fields) != len(columns) or not all(WHOLE.fullmatch(fields[at]) for at in whole):
+        found = row.fullmatch(text)
+        if not found:
             raise BadTable(f"{name}: line {number}: no row of {what}")
-        yield number, fields
+        yield number, found.groups()
 
 
 def read_table(lines, name, measure="misses"):
@@ -114,21 +115,22 @@ def read_table(lines, name, measure="misses"):
     rows, seen, empty = [], set(), 0
     own, first = HEADER.split(","), "".join(lines[:1]).rstrip("\r\n").split(",")
     columns = first if first[:len(own)] == own else own
-    for number, fields in rows_of(lines, name, columns, range(len(own)), "a sweep's table"):
-        row = Row(*map(int, fields[:len(own)]))
-        if row.size != row.bsize * row.sets * row.assoc:
+    forms = [WHOLE] * len(own) + [ANY] * (len(columns) - len(own))
+    for number, fields in rows_of(lines, name, columns, forms, "a sweep's table"):
+        numbers, value = [*map(int, fields[:len(own)])], None
+        bsize, sets, assoc, size = numbers[:4]
+        if size != bsize * sets * assoc:
             raise BadTable(f"{name}: line {number}: size is not bsize * sets * assoc")
-        if row.cache in seen:
-            raise BadTable(f"{name}: two rows for the cache {','.join(map(str, row.cache))}")
-        seen.add(row.cache)
+        if (bsize, sets, assoc) in seen:
+            raise BadTable(f"{name}: two rows for the cache {bsize},{sets},{assoc}")
+        seen.add((bsize, sets, assoc))
         if measure != "misses":
             field = fields[column_of(columns, measure, name)]
             if not field and measure in MAY_BE_EMPTY:
                 empty += 1
                 continue
             value = number_of(field, measure, f"{name}: line {number}")
-            row = row._replace(value=value, is_count=measure in COUNTS)
-        rows.append(row)
+        rows.append(Row(*numbers, value, measure in COUNTS))
     if not rows:
         what = f"any {measure}" if empty else "a row"
         raise BadTable(f"{name}: a table without {what}")
@@ -157,8 +159,12 @@ def pareto(rows):
     """The smallest caches that miss least, by size: each misses less often than every other cache
     that is not larger. Of caches that are alike in both, the one of the fewest ways stands here,
     and of these the one of the smallest blocks."""
-    front = []
-    for row in sorted(rows, key=lambda row: (row.size, row.measured, row.ties)):
+    best, front = {}, []
+    for row in rows:
+        before = best.setdefault(row.size, row)
+        if (row.measured, row.ties) < (before.measured, before.ties):
+            best[row.size] = row
+    for _, row in sorted(best.items()):
         if not front or row.measured < front[-1].measured:
             front.append(row)
     return front

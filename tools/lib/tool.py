@@ -18,6 +18,7 @@ NAME = os.path.basename(sys.argv[0])
 FAILED, MISUSED, READER_GONE = 1, 2, 141
 failure = None
 UNITS = {"": 0, "k": 10, "m": 20, "g": 30}
+MOST = (1 << 64) - 1
 UNSEEN = re.compile("[\0-\x1f\x7f-\x9f\ud800-\udfff]")  # control letters, lone surrogates
 
 
@@ -119,11 +120,20 @@ def is_option(word):
     return len(word) > 1 and word.startswith("-") and not os.path.exists(word)
 
 
+def number_of(text):
+    """The number that some digits say, or None where others stand among them, or where it has more
+    than 64 bits, as no address, size or count has. Python itself refuses to read long ones."""
+    if not (text.isascii() and text.isdigit()):
+        return None
+    number = int(text.lstrip("0")[:21] or "0")  # which is too large as well with 21 digits
+    return number if number <= MOST else None
+
+
 def bytes_of(text):
     """The number of bytes that a scaled number as 512, 32k or 1m says, or None."""
     digits = text[:-1] if text[-1:].lower() in ("k", "m", "g") else text
-    is_size = digits.isascii() and digits.isdigit()
-    return int(digits) << UNITS[text[len(digits):].lower()] if is_size else None
+    number = number_of(digits)
+    return None if number is None else number << UNITS[text[len(digits):].lower()]
 
 
 def size_of(text):
@@ -183,7 +193,7 @@ def write_lines(lines):
     if sys.stdout is None:
         fail("standard output: Bad file descriptor")
     text = "".join(f"{line}\n" for line in lines)
-    left = memoryview(text.encode(sys.stdout.encoding, sys.stdout.errors))
+    left = memoryview(text.encode(sys.stdout.encoding, "surrogateescape"))  # as a name's bytes are
     try:
         while left:
             left = left[os.write(1, left):]

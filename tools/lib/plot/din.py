@@ -1,18 +1,22 @@
 """The pictures of tables of din-table: by cache size, with a line for each of the other values."""
 
+import functools
 import html
 import re
+from collections import namedtuple
 
 from lib.plot import pictures
 from lib.plot.pictures import (MOST_LINES, Line, Measure, Picture, Point, bytes_text, sets_text,
                                short, ways_text)
 from lib.table import pareto
 from lib.table_din import NUMBERS, WORDS, cache, kind, read_table, usual_measure
-from lib.tool import fail
+from lib.tool import fail, warn
 
 ACROSS = {"size": pictures.SIZE, "sets": "sets", "bsize": "block size in bytes",
           "assoc": "ways"}
 
+# a table that is drawn, the option on its horizontal axis, and its file
+View = namedtuple("View", "table across file")
 # in a column's name: misses by the references to the first level
 GLOBAL = "-global"
 
@@ -59,11 +63,15 @@ def kind_of_ratio(own, caches):
     return "local " * is_second
 
 
-def measure_of(table):
-    """How the measure is called."""
-    columns = [*table.options, "size", table.measure]
+def measure_of(views):
+    """How the measure is called. Where tables have other ones each, it is the miss ratio."""
+    table, options = views[0].table, options_of(views)
+    measures = {view.table.measure for view in views}
+    columns = [*options, "size", table.measure if len(measures) == 1 else "percent"]
     texts = (f"{html.escape(name)} %{{customdata[{at}]}}" for at, name in enumerate(columns))
     about = "<br>".join(texts) + "<extra></extra>"
+    if len(measures) > 1:
+        return Measure(about=about)
     if not table.measure.endswith("-percent"):
         own = re.fullmatch("(l[12]-[diu])-(.*)", table.measure)
         name = f"{own[2].replace('-', ' ')} of {own[1]}" if own else table.measure.replace("-", " ")
@@ -87,15 +95,30 @@ def value_text(option, value, has_caches):
     return f"{cache(option)} {text}" if has_caches else text
 
 
-def point(table, case, x, lines, has_caches):
-    """A case as a point: the mean of its seeds, and its least and greatest."""
-    values = list(map(float, case.values))
-    ends = (min(values), max(values)) if len(values) > 1 and min(values) < max(values) else ()
+def told(options, table, lines, has_caches, case):
+    """What is said of a case: the mean of its seeds, its least and greatest; and its label. Options
+    that other tables have are empty."""
+    given = dict(zip(table.options, case.given))
+    ends = ends_of(case)
     spread = f" ({ends[0]:.6g} to {ends[1]:.6g})" if ends else ""
-    values = (*case.given, case.size, f"{float(case.measured):.6g}{spread}")
-    label = ", ".join(value_text(option, case.given[table.options.index(option)], has_caches)
-                      for option in lines)
-    return Point(x, float(case.measured), values, label, ends)
+    values = (given.get(option, "") for option in options)
+    label = ", ".join(value_text(option, given[option], has_caches) for option in lines
+                      if given[option])
+    return (*values, case.size, f"{float(case.measured):.6g}{spread}"), label
+
+
+def ends_of(case):
+    """The least and the greatest of several seeds, where they differ."""
+    if len(case.values) == 1:
+        return ()
+    least, greatest = float(min(case.values)), float(max(case.values))
+    return (least, greatest) if least < greatest else ()
+
+
+def points(cases, x, *about):
+    """Some cases as points."""
+    return [Point(x(case), float(case.measured), functools.partial(told, *about, case),
+                  ends_of(case)) for case in cases]
 
 
 def fixed(asked, table, across, lines, file):
@@ -127,19 +150,27 @@ def groups(table, lines):
     return found
 
 
-def by_across(asked, table, across, measure, file):
+def by_across(asked, view, measure, options):
     """The measure by the option on the horizontal axis; a line for each value of the others."""
+    table, across, file = view
+    at = table.options.index(across)
+    cases = [case for case in table.cases if case.given[at]]
+    if len(cases) < len(table.cases):
+        warn(f"{file}: {len(table.cases) - len(cases)} of {len(table.cases)} caches have no "
+             f"{across}, and are left out")
+        table = table._replace(cases=cases)
     lines = [option for option in of_measure(table, varied(table)) if option != across]
     has_caches = len({cache(option) for option in [across, *lines]}) > 1
     table, values = fixed(asked, table, across, lines, file)
     lines = [option for option in lines if option in varied(table)]
-    at, found = table.options.index(across), []
-    for given, cases in groups(table, lines).items():
-        name = ", ".join(value_text(*pair, has_caches) for pair in zip(lines, given))
-        cases = {int(case.given[at]): case for case in reversed(cases)}
-        found.append(Line(name, [[point(table, cases[x], x, lines, has_caches)
-                                  for x in sorted(cases)]]))
-    shown = pictures.evenly(found)
+    found = groups(table, lines)
+    shown = []
+    for given in pictures.evenly(list(found)):
+        pairs = [pair for pair in zip(lines, given) if pair[1]]
+        name = ", ".join(value_text(*pair, has_caches) for pair in pairs)
+        cases = {int(case.given[at]): case for case in reversed(found[given])}
+        shown.append(Line(name, [points([cases[x] for x in sorted(cases)], lambda case: int(
+            case.given[at]), options, table, lines, has_caches)]))
     remarks = [value_text(*pair, has_caches) for pair in values.items()]
     remarks += [f"{len(shown)} of {len(found)} lines"] * (len(shown) < len(found))
     what = ACROSS[kind(across)]
@@ -153,48 +184,69 @@ def by_front(table, measure):
     sizes = [option for option in table.options if kind(option) in ("size", "sets")]
     lines = [option for option in varied(table) if kind(option) != "size" or len(sizes) > 1]
     has_caches = len({cache(option) for option in lines}) > 1
-    cloud, front = ([point(table, case, case.size, lines, has_caches) for case in cases]
+    cloud, front = (points(cases, lambda case: case.size, table.options, table, lines, has_caches)
                     for cases in (table.cases, pareto(table.cases)))
     words = "size of all caches in bytes" if len(sizes) > 1 else pictures.SIZE
     lines = [Line("least up to this size", [front])]
     return Picture("pareto", 0, measure.least, words, "", lines, cloud)
 
 
-def of_several(asked, tables, across, column):
-    """The picture of several tables, and its measure."""
-    drawn, found = [], []
-    for given in tables:
-        table = read_table(given.lines, given.shown, column)
-        measure = measure_of(table)
-        across = across_of(across, table, given.file)
-        drawn.append(by_across(asked, table, across, measure, given.file))
-        found += [Line(f"{given.name}, {line.name}" if line.name else given.name, line.runs)
+def options_of(views):
+    """The options that some tables have."""
+    return list(dict.fromkeys(option for view in views for option in view.table.options))
+
+
+def of_several(asked, tables, views, measure):
+    """The picture of several tables."""
+    options, found, drawn = options_of(views), [], []
+    has_own = len({view.table.measure for view in views}) > 1
+    for given, view in zip(tables, views):
+        drawn.append(by_across(asked, view, measure, options))
+        name = given.name + f" ({cache(view.across)})" * has_own
+        found += [Line(f"{name}, {line.name}" if line.name else name, line.runs)
                   for line in drawn[-1].lines]
     lines = pictures.evenly(found)
     remarks = [f"{len(lines)} of {len(found)} lines"] * (len(lines) < len(found))
-    titles = {picture.title for picture in drawn}
+    titles, axes = ({getattr(picture, name) for picture in drawn} for name in ("title", "across"))
     title = drawn[0].title if len(titles) == 1 else drawn[0].title.split(": ")[0]
-    return drawn[0]._replace(title=": ".join([title, *remarks]), lines=lines), measure
+    across = drawn[0].across if len(axes) == 1 else ACROSS[kind(views[0].across)]
+    return drawn[0]._replace(title=": ".join([title, *remarks]), across=across, lines=lines)
+
+
+def read(asked, given, first=None):
+    """A table with its measure and the option on its axis: those that are asked for, or of the
+    first table, where this one has them; else its own, as of a split cache beside a unified one."""
+    table, columns = read_table(given.lines, given.shown), given.lines[0].strip().split(",")
+    as_first = first.across if first and first.across in table.options else None
+    across = across_of(asked.across or as_first, table, given.file)
+    if first and kind(across) != kind(first.across):
+        across_of(first.across, table, given.file)  # which fails
+    measure = asked.measure or chosen_measure(columns, across)
+    if first and not asked.measure and first.table.measure in columns:
+        measure = first.table.measure
+    table = read_table(given.lines, given.shown, measure)
+    if table.left_out:
+        warn(table.left_out)
+    return View(table, across, given.file)
 
 
 def drawn(asked, tables):
     """The picture that is asked for, its measure, and what a page says of a single table. The axes
     are by the first."""
-    first = tables[0]
-    table = read_table(first.lines, first.shown)
-    across = across_of(asked.across, table, first.file)
-    columns = first.lines[0].strip().split(",")
-    column = asked.measure or chosen_measure(columns, across)
-    table = read_table(first.lines, first.shown, column)
-    runs = sum(len(case.values) for case in table.cases)
-    counts = f"{runs:,} run{'s' * (runs > 1)}, {table.references:,} references"
+    first = read(asked, tables[0])
+    views = [first, *(read(asked, given, first) for given in tables[1:])]
+    measures = {view.table.measure for view in views}
+    if len(measures) > 1 and not all(measure.endswith("-percent") for measure in measures):
+        fail("the tables have no measure in common: name one by --measure")
+    measure = measure_of(views)
+    runs = sum(len(case.values) for case in first.table.cases)
+    counts = f"{runs:,} run{'s' * (runs > 1)}, {first.table.references:,} references"
     if len(tables) > 1:
         if asked.only not in (None, "size"):
             fail("several tables of din have the picture size alone")
-        return *of_several(asked, tables, across, column), counts
-    measure = measure_of(table)
+        return of_several(asked, tables, views, measure), measure, counts
     if asked.only == "pareto":
-        return by_front(table, measure), measure, counts
+        return by_front(first.table, measure), measure, counts
     if asked.only not in (None, "size"):
         fail(f"{first.file}: a table of din has the pictures size and pareto")
-    return by_across(asked, table, across, measure, first.file), measure, counts
+    return by_across(asked, first, measure, first.table.options), measure, counts

@@ -2,6 +2,7 @@
 
 import math
 import os
+import re
 import textwrap
 from collections import namedtuple
 
@@ -24,8 +25,13 @@ class Place(namedtuple("Place", "area title legend")):
 
 
 def quoted(words):
-    """A text as gnuplot's string, in which all is plain. `]]>` is parted: no SVG may have it."""
-    return "'" + words.replace("'", "''").replace("]]>", "]] >") + "'"
+    """A text as gnuplot's string, in which all is plain: in single quotes, with its own doubled.
+    Gnuplot takes these for an end at the beginning, and two pairs of them, so that such a text is
+    in double quotes, with escapes. `]]>` is parted: no SVG may have it."""
+    words = tool.visible(words).replace("]]>", "]] >")
+    if not re.search("^'|''", words):
+        return "'" + words.replace("'", "''") + "'"
+    return '"' + re.sub("[\\\\\"'`@]", lambda found: f"\\0{ord(found[0]):03o}", words) + '"'
 
 
 def title_of(picture, columns):

@@ -99,6 +99,11 @@ def points(some, up, about):
     }
 
 
+def plain(words):
+    """A text for plotly, which takes some of HTML."""
+    return html.escape(words, quote=False)
+
+
 def bars(some, up, colour):
     """The bars from the least to the greatest of several seeds, where there are some."""
     if not any(point and point.ends for point in some):
@@ -121,7 +126,8 @@ def of_lines(picture, up, about, mono):
         if picture.is_front:
             looks["line"]["shape"] = "hv"
         mode = "lines" if picture.is_curve else "lines+markers"
-        traces.append({**points(some, up, about), "mode": mode, "name": line.name, **looks,
+        traces.append({**points(some, up, about), "mode": mode, "name": plain(line.name),
+                       **looks,
                        **bars(some, up, colour)})
     return traces
 
@@ -160,7 +166,7 @@ def axis(ends, words):
     return {
         "type": "log" if ends.log else "linear",
         "range": [measure(ends.low), measure(ends.high)],
-        "title": {"text": words, "font": {"size": 14}, "standoff": 12},
+        "title": {"text": plain(words), "font": {"size": 14}, "standoff": 12},
         "zeroline": False,
         "automargin": True,
     }

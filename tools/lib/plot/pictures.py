@@ -17,8 +17,17 @@ GREYS = ("#f4f4f4", "#dcdcdc", "#c0c0c0", "#a2a2a2", "#848484", "#606060", "#202
 PALE, FRONT, BLACK = "#bbbbbb", "#d55e00", "#000000"
 
 
-class Point(namedtuple("Point", "x y values label ends", defaults=("", ()))):
-    """A cache in a picture: its place, what is said of it, its label, ends over several seeds."""
+class Point(namedtuple("Point", "x y told ends", defaults=((),))):
+    """A cache in a picture: its place, ends over several seeds, and a function of what is said of
+    it and its label, which few of a million are asked for."""
+
+    @property
+    def values(self):
+        return self.told()[0]
+
+    @property
+    def label(self):
+        return self.told()[1]
 
 
 class Line(namedtuple("Line", "name runs")):
@@ -55,10 +64,14 @@ class Picture(namedtuple("Picture", "name fixed title across legend lines cloud 
 class Axis(namedtuple("Axis", "low high log ticks minor foot")):
     """An axis: its ends, whether it is logarithmic, ticks with and without texts, where 0 is."""
 
-    def fraction(self, value):
-        """How far along the axis a value stands: 0 at its low end, 1 at the high one."""
+    def fractions(self, values):
+        """How far along the axis some values stand: 0 at its low end, 1 at the high one."""
         measure = math.log if self.log else float
-        return (measure(value) - measure(self.low)) / (measure(self.high) - measure(self.low))
+        low, high = measure(self.low), measure(self.high)
+        return ((measure(value) - low) / (high - low) for value in values)
+
+    def fraction(self, value):
+        return next(self.fractions([value]))
 
     def height(self, value):
         """Where a value of a cache stands."""
@@ -187,9 +200,10 @@ def size_axis(sizes, closest):
 def thinned(points, across, up, columns, lines):
     """Some points, one for each cell of so many columns and lines that has any."""
     cells = {}
-    for point in points:
-        line = round(lines * up.fraction(up.height(point.y)))
-        cells.setdefault((round(columns * across.fraction(point.x)), line), point)
+    right = across.fractions(point.x for point in points)
+    high = up.fractions(up.height(point.y) for point in points)
+    for x, y, point in zip(right, high, points):
+        cells.setdefault((round(columns * x), round(lines * y)), point)
     return list(cells.values())
 
 

@@ -1,5 +1,7 @@
 """The pictures of tables of sweeps: of one, or of several with a line for each."""
 
+import collections
+import functools
 import html
 import operator
 
@@ -8,7 +10,7 @@ from lib.plot import pictures
 from lib.plot.pictures import (SIZE, Line, Measure, Picture, Point, bytes_text, handful, short,
                                ways_text)
 from lib.table import COUNTS, pareto
-from lib.tool import fail
+from lib.tool import MOST, fail
 
 ABOUT = ("%{customdata[3]:,} bytes: block %{customdata[0]:,}, sets %{customdata[1]:,}, "
          "ways %{customdata[2]:,}<br>"
@@ -23,12 +25,12 @@ MOST_CHOICES = 64  # of a menu of a page
 def judge(rows, name):
     """Ends the tool where the rows are not of one sweep."""
     for row in rows:
-        cache = ",".join(map(str, row.cache))
-        if not 0 < row.size < 1 << 64 or row.references >= 1 << 64:
-            fail(f"{name}: {cache} is no cache of a sweep")
-        if row.references != rows[0].references:
+        references = row.references
+        if not 0 < row.size <= MOST or references > MOST:
+            fail(f"{name}: {cache_text(row)} is no cache of a sweep")
+        if references != rows[0].references:
             fail(f"{name}: the rows are not of one trace: {rows[0].references} references in the"
-                 f" first row, {row.references} in that of {cache}")
+                 f" first row, {references} in that of {cache_text(row)}")
 
 
 def with_rows(asked, given):
@@ -50,8 +52,16 @@ def measure_of(column, is_named=False):
     return Measure(up, name, f"{about}{html.escape(up)}: {value}<extra></extra>", is_count)
 
 
+def cache_text(row):
+    return ",".join(map(str, row.cache))
+
+
+def told(row):
+    return (*row[:7], row.shown), cache_text(row)
+
+
 def point(row, x):
-    return Point(x, row.shown, (*row[:7], row.shown), ",".join(map(str, row.cache)))
+    return Point(x, row.shown, functools.partial(told, row))
 
 
 def line(name, rows, across="size", step="size", steps=()):
@@ -121,9 +131,9 @@ def by_block(tables, ways, measure):
     """By block size at one associativity, a line for each size (of several blocks, if any)."""
     rows = only(tables, "assoc", ways)[0].rows
     blocks = {row.bsize for row in rows}
-    sizes = [row.size for row in rows]
-    several = [size for size in sizes if sizes.count(size) > 1]
-    rows = [row for row in rows if row.size in (several or sizes)]
+    sizes = collections.Counter(row.size for row in rows)
+    most = min(2, max(sizes.values()))
+    rows = [row for row in rows if sizes[row.size] >= most]
     lines = [line(name, group, "bsize", "bsize", blocks)
              for name, group in grouped(rows, "size", short)]
     title = f"{measure.name} by block size: {ways_text(ways)}"

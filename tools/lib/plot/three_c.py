@@ -37,7 +37,7 @@ def caches_of(given):
 def point(kinds, misses, text):
     """The upper end of a kind at a cache's size."""
     share = float(100 * misses / max(1, kinds.row.references))
-    return Point(kinds.row.size, share, (kinds.row.size, f"{text}: {share:.4g} %"))
+    return Point(kinds.row.size, share, lambda: ((kinds.row.size, f"{text}: {share:.4g} %"), ""))
 
 
 def of_ways(kinds):

@@ -20,7 +20,7 @@ class Program:
 
 
 def no_program(status, text):
-    tool.end(f"{tool.NAME}: {text}", status)
+    tool.end(f"{tool.NAME}: {tool.visible(text)}", status)
 
 
 def found(name, script=""):
