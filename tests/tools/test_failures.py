@@ -343,39 +343,3 @@ class Limits(FailureTest):
                 self.assertGreater(len(ran.stdout), 0)
                 last = rb"\n[\w-]+ failed: what stands above is not all *\n\Z"
                 self.assertRegex(ran.stdout, last)
-
-
-class OfPackages(FailureTest):
-    """What tools need packages for, and what these read."""
-
-    runs, packed = OF_PACKAGES, ("trace.din.xz", "trace.din.zst")
-
-    @classmethod
-    def setUpClass(cls):
-        super().setUpClass()
-        given = cls.given
-        for pack in (["xz", "-k"], ["zstd", "-q"]):
-            subprocess.run([*pack, given / "trace.din"], check=True)
-        traced = program_of(TRACED / "own_arrays.c", "-g")
-        shutil.copy(traced, given / "traced")
-        start, size = symbols_of(traced)["first"]
-        lines = [f"2 {at:x}\n0 {symbols_of(traced)['first_array'][0]:x}\n"
-                 for at in range(start, start + size)]
-        (given / "lines.din").write_text("".join(lines))
-        cls.main = f"{symbols_of(traced)['main'][0] - start_of_code(traced):x}"
-        (given / "trans.c").write_text(TRANS)
-
-
-@of_packages
-class CommandsOfPackages(OfPackages, Commands):
-    pass
-
-
-@of_packages
-class SurroundingsOfPackages(OfPackages, Surroundings):
-    pass
-
-
-@of_packages
-class LimitsOfPackages(OfPackages, Limits):
-    pass
