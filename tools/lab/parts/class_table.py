@@ -36,9 +36,10 @@ class Judgement(namedtuple("Judgement", "text right of points fault")):
         return numbers if len(numbers) == count else [self.right // count] * count
 
 
-def unjudged(text, fault):
-    """The judgement on a program for which there are no numbers."""
-    return Judgement(f"{text}{fault}\n", 0, None, 0, fault)
+def unjudged(text, fault, of=None):
+    """The judgement on a program for which there are no numbers: it has no case right, of all or
+    of so many that were judged."""
+    return Judgement(f"{text}{fault}\n", 0, of, 0, fault)
 
 
 class Class:
@@ -73,7 +74,8 @@ class Class:
         if not is_of_program and not self.is_stopped:
             fault = message if ended == 2 else f"grade ended with status {ended}"
             self.faults.append(f"{program}: {fault}")
-        return unjudged(text, message.replace(f"{program}: ", "csim: ") or "not judged")
+        fault = message.replace(f"{program}: ", "csim: ") or "not judged"
+        return unjudged(text, fault, None if is_of_program else 0)
 
     def student(self, folder):
         """The judgement on a student; its text is kept in the folder."""
