@@ -1,5 +1,5 @@
-"""What nobody expects gets a line, whatever reads it: numbers of any length, terminals of any width,
-names of any bytes. No tool shows a traceback, or a letter that would steer a terminal."""
+"""What nobody expects gets a line, whatever reads it: numbers of any length, terminals of any
+width, names of any bytes. No tool shows a traceback, or a letter that would steer a terminal."""
 
 import os
 import re

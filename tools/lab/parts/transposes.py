@@ -7,7 +7,6 @@ import pathlib
 import re
 import shlex
 import subprocess
-import sys
 
 from lib import log
 from parts import tool
