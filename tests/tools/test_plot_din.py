@@ -244,3 +244,55 @@ class Several(PlotTest):
         self.write_din("last.csv", {(64, "f"): (300,)})
         self.shows("din.csv din.csv lru.csv last.csv", texts=[f"'{BY_SIZE}: 5 of 8 lines'"])
         self.assertEqual(len(names_of(self.shows("lru.csv " * 7))), 7)
+
+
+class Split(PlotTest):
+    """A split table beside a unified one, and both in one: what one lacks is empty."""
+
+    UNIFIED = (f"l1-usize,l1-ubsize,{COUNTS},memory-reads", "64,16,100,50,50.000,0,50",
+               "128,16,100,20,20.000,0,20")
+    SPLIT = ("l1-isize,l1-dsize,l1-i-references,l1-i-misses,l1-i-percent,l1-d-references,"
+             "l1-d-misses,l1-d-percent,bypassed,memory-reads", "64,64,60,6,10.000,40,20,50.000,0,26",
+             "64,128,60,6,10.000,40,10,25.000,0,16")
+
+    def setUp(self):
+        super().setUp()
+        for name, lines in ("one.csv", self.UNIFIED), ("two.csv", self.SPLIT):
+            self.write(name, "".join(f"{line}\n" for line in lines))
+        columns = [*dict.fromkeys(",".join((self.UNIFIED[0], self.SPLIT[0])).split(","))]
+        rows = [dict(zip(lines[0].split(","), line.split(",")))
+                for lines in (self.UNIFIED, self.SPLIT) for line in lines[1:]]
+        lines = [columns, *([row.get(column, "") for column in columns] for row in rows)]
+        self.write("both.csv", "".join(f"{','.join(line)}\n" for line in lines))
+
+    def test_two_tables(self):
+        """Each by its own caches, or by a measure that both have."""
+        self.shows("one.csv two.csv", {"size_1": [[(64, 50), (128, 20)]],
+                                       "size_2": [[(64, 50), (128, 25)]]},
+                   ["one (l1-u)", "two (l1-d)"], ["'Miss ratio by cache size'"])
+        self.shows("--measure memory-reads one.csv two.csv", {
+            "size_1": [[(64, 50), (128, 20)]], "size_2": [[(64, 26), (128, 16)]]}, ["one", "two"])
+
+    def test_one_table(self):
+        ran = self.run_tool("best", "both.csv", "--measure", "memory-reads", "--rows", "3")
+        wanted = ("l1-usize,l1-ubsize,l1-isize,l1-dsize,size,memory-reads\n,,64,128,192,16\n"
+                  "128,16,,,128,20\n,,64,64,128,26\n")
+        self.assertEqual(self.good(ran), wanted)
+        ran = self.run_tool("best", "both.csv", "--rows", "3")
+        told = "best: both.csv: 2 of 4 rows have no l1-d-misses, and are left out\n"
+        wanted = ("l1-usize,l1-ubsize,l1-isize,l1-dsize,size,l1-d-misses\n,,64,128,192,10\n"
+                  ",,64,64,128,20\n")
+        self.ends(ran, 0, told, wanted)
+        ran = self.run_tool("plot", "--script", "both.csv", "-")
+        self.assertIn("64 50\n128 25\n", ran.stdout.decode())
+        self.assertEqual(ran.stderr.decode(), told.replace("best:", "plot:").replace("misses",
+                                                                                    "percent"))
+
+    def test_refused(self):
+        """A row in which a cache is there in part, or none is; two that have nothing in common."""
+        for line in "64,,100,50,50.000,0,50", ",16,100,50,50.000,0,50":
+            self.write("t.csv", f"{self.UNIFIED[0].replace('usize', 'usets')}\n{line}\n")
+            self.refused(self.run_tool("best", "t.csv"), 1, "t.csv: line 2: no row of a table of din")
+        self.write("other.csv", "l1-dsize,l1-d-references,l1-d-misses,bypassed\n64,40,20,60\n")
+        ran = self.run_tool("plot", "--script", "one.csv", "other.csv", "-")
+        self.refused(ran, 1, "plot: the tables have no measure in common: name one by --measure")

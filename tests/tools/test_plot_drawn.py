@@ -129,6 +129,26 @@ class Drawn(PlotTest):
         self.assertEqual(len(table.read_table(*table.lines_of(stored / "sort.csv"))), 633)
 
 
+@needs("gnuplot-nox")
+class Texts(PlotTest):
+    """A title, a measure and a name of a table are drawn as they are, whatever letters they have."""
+
+    WILD = ("'a", "''", "a''b", "it's", "'`date`'", "'@GPVAL_VERSION", "@b", '"q"\\n\'', "{c}^2_3",
+            "'0'7\\0471", "&lt;<b>", "x'$y", "'%g'#;!")
+
+    def test_texts(self):
+        for text in self.WILD:
+            with self.subTest(text):
+                rows = f"{table.HEADER},{text}\n16,1,1,16,5,5,4,7\n16,2,1,32,6,4,2,9\n"
+                self.write(f"{text} 1.csv", rows)
+                self.write("2.csv", rows)
+                words = ["--title", text, "--measure", text, "--only", "size"]
+                self.good(self.plot(*words, f"{text} 1.csv", "2.csv", "a.svg"))
+                texts, _ = svg_of((self.folder / "a.svg").read_bytes())
+                self.assertLessEqual({text, f"{text} 1"}, {*texts})
+                self.assertEqual(texts.count(text), 2)
+
+
 @needs("python3-plotly")
 class Page(PlotTest):
     def page(self, *arguments):
