@@ -17,16 +17,15 @@ import subprocess
 import tempfile
 import time
 
-from base import (EXAMPLES, PLAIN, PROGRAM, TOOLS, TOP, ToolTest, catches, comes,
-                  needs)
+from base import EXAMPLES, PLAIN, PROGRAM, TOOLS, TOP, ToolTest, catches, comes, needs
 from lab_base import STUDENTS, TRANS, adopt_orphans, running
 from trace_base import TRACED, program_of
 
 SPACE = "--bsize 16-64 --sets 1-64 --assoc 1-8 --size 16-8k".split()
 CACHE = "-l1-dsize 128 -l1-dbsize 16 -l1-dassoc 2 -l1-isize 16 -l1-ibsize 16".split()
 FAKE = {"FAKE_VERSION": "7.2.22", "FAKE_HELP": "-plugin ..", "FAKE_START": "0"}
-# what each tool does: words with FAKE before a trace by the stand-in for QEMU. These need Python, a
-# C compiler and bash, ..
+# what each tool is given; behind a blank stands what sets a run apart, as that of a stand-in for
+# QEMU. These need Python, a C compiler and bash, ..
 RUNS = {
     "best": ["table.csv", "--rows", "999"],
     "by-page": ["long.din", *CACHE],
@@ -117,7 +116,7 @@ class Run:
     def __init__(self, place, tool, words, before=b"", is_piped=False):
         self.place, self.tool, self.words, self.before = place, tool, words, before
         self.is_piped, self.status = is_piped, None
-        self.allowed = {"nothing"}  # of what else is a fault
+        self.allowed = {"nothing"}  # what is no fault of this run: nothing, a part, a rest, ..
 
     def reader(self, file):
         """What puts into the file what comes through a pipe, and its pipe; or else the file."""
@@ -207,6 +206,10 @@ def signalled(place, tool, words, whole, seconds, where, name, moment):
     """What is wrong with a run that a signal ends at a moment, part of the time that it takes."""
     before, number = former(99990) if where == "appended to" else b"", signal.Signals[f"SIG{name}"]
     run = Run(place, tool, words, before, where == "a pipe")
+    if name == "KILL":
+        run.allowed.add("a rest")
+    if tool.startswith("trace") and where != "a pipe" and name in PASSED_ON:
+        run.allowed.add("a part")
 
     def end(process):
         time.sleep(moment * seconds)
@@ -217,10 +220,6 @@ def signalled(place, tool, words, whole, seconds, where, name, moment):
         elif caught[0]:
             run.allowed.remove("nothing")
 
-    if name == "KILL":
-        run.allowed.add("a rest")
-    if tool.startswith("trace") and where != "a pipe" and name in PASSED_ON:
-        run.allowed.add("a part")
     run.run(end)
     what = f"{tool}, its output {where}, {name} after {moment * seconds:.3f} s"
     return [f"{what}: {fault}" for fault in run.faults(whole)]
@@ -261,7 +260,7 @@ class EndedTest(ToolTest):
 
 
 def without_traces(runs):
-    """Of those that write a trace test_outputs asks more, where they find no room."""
+    """Of a tool that writes a trace and finds no room test_outputs asks more."""
     return [tool for tool in runs if tool.split()[0] not in WRITES_A_TRACE]
 
 

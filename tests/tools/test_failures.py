@@ -332,7 +332,7 @@ class Limits(FailureTest):
 
     def test_a_trace_that_is_cut(self):
         """In a file that may not grow it ends in a line that no simulator takes."""
-        for tool in self.runs.keys() & {*WRITES_A_TRACE, "trace lackey"}:
+        for tool in sorted(self.runs.keys() & {*WRITES_A_TRACE, "trace lackey"}):
             with self.subTest(tool):
                 longer = {"many:100": "many:900000", "handout.lackey": "long.lackey"}
                 words = [longer.get(word, word) for word in self.words(tool, "long.din")]
