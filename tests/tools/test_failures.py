@@ -142,7 +142,7 @@ class FailureTest(ToolTest):
 
     def words(self, tool, trace="trace.din"):
         words = (trace if word == "INPUT" else word.replace("MAIN", self.main)
-                 for word in self.runs[tool])
+                 for word in {**RUNS, **self.runs}[tool])
         return [str(self.tools / tool.split()[0]), *words]
 
     def environment(self, calls, **more):
