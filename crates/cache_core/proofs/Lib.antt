@@ -33,6 +33,7 @@ pub mod Exponents
 pub mod GeometryLaw
 pub mod Counters
 pub mod SystemPushes
+pub mod BehindRows
 pub mod SearchLaw
 pub mod RingLaw
 pub mod RingMarks
