@@ -1,7 +1,7 @@
 -- Lists of slots, no slot in two of them, and the links that keep them.
 use Rattle.std.specs.Prelude.{ℕ, zero, suc, ◌≡◌, ◌≤◌, ◌<◌, ◌+◌, ◌^◌, ◌==◌, nat_lt, Bool, true, false}
 use Rattle.std.specs.Prelude.{if◌then◌else◌, List, [], ◌∷◌, length, map, drop, slice_set, slice_index}
-use Rattle.std.specs.Prelude.{slice_index_or}
+use Rattle.std.specs.Prelude.{slice_index_or, Option, Some, None}
 use Rattle.std.specs.List.{list_any, position_or_len, remove}
 
 -- the slots from 0 on and before `slots`, and lists of some of them
@@ -47,6 +47,10 @@ pub record AreApart (v : SlotListsValue) : Type 0 where
   pub one_list : (j k s : ℕ) → has_slot s (list_at v j) ≡ true → has_slot s (list_at v k) ≡ true →
       j ≡ k
   pub once : (k : ℕ) → IsOnce (list_at v k)
+
+-- a node, if it is a slot
+abbrev pub slot_of : ℕ → ℕ → Option ℕ
+slot_of slots node = if nat_lt node slots then Some node else None
 
 -- node b is the one after node a
 pub record IsLink (before after : List ℕ) (a b : ℕ) : Type 0 where

@@ -1,8 +1,9 @@
 //! Lists of slots, no slot in two of them, that change in a few steps.
 ghost use Rattle.std.specs.Prelude.{◌≡◌, ◌+◌, ◌-◌, ◌<◌, ◌≤◌, ◌^◌, [], true, false, length, replicate};
 ghost use Rattle.std.specs.Prelude.{slice_get, IfOk};
+ghost use Rattle.std.specs.List.{range_with_len};
 ghost use Rattle.block_index.specs.SlotLists.{SlotListsValue, has_slot, is_listed, index_of_slot};
-ghost use Rattle.block_index.specs.SlotLists.{list_at, with_first, without_slot, AreApart};
+ghost use Rattle.block_index.specs.SlotLists.{list_at, with_first, without_slot, AreApart, slot_of};
 
 use std::alloc::{AllocError, Global};
 use std::marker::Model;
@@ -38,8 +39,8 @@ impl SlotLists {
         let nodes = (slots + lists) as u32;
         Ok(SlotLists {
             slots,
-            before: (0..nodes).collect(alloc)?,
-            after: (0..nodes).collect(alloc)?,
+            before: numbers(alloc, nodes)?,
+            after: numbers(alloc, nodes)?,
         })
     }
 
@@ -49,8 +50,7 @@ impl SlotLists {
         requires { list < length self.now.lists }
         ensures { result ≡ slice_get (list_at self.now list) 0 }
     {
-        let node = self.after[self.slots + list] as usize;
-        if node < self.slots { Some(node) } else { None }
+        slot_at(self.after[self.slots + list], self.slots)
     }
 
     /// The last slot of a list.
@@ -59,8 +59,7 @@ impl SlotLists {
         requires { list < length self.now.lists }
         ensures { result ≡ slice_get (list_at self.now list) (length (list_at self.now list) - 1) }
     {
-        let node = self.before[self.slots + list] as usize;
-        if node < self.slots { Some(node) } else { None }
+        slot_at(self.before[self.slots + list], self.slots)
     }
 
     /// The slot after one in a list. The list isn't looked at: it is named for the contract.
@@ -71,8 +70,7 @@ impl SlotLists {
         ensures { result ≡ slice_get (list_at self.now list)
             (index_of_slot slot (list_at self.now list) + 1) }
     {
-        let node = self.after[slot] as usize;
-        if node < self.slots { Some(node) } else { None }
+        slot_at(self.after[slot], self.slots)
     }
 
     /// Puts a slot that is in no list in front of one.
@@ -111,4 +109,23 @@ impl SlotLists {
     {
         let _ = &self.slots;
     }
+}
+
+/// A node, if it is a slot.
+#[inline(always)]
+fn slot_at(node: u32, slots: usize) -> Option<usize>
+    ensures { result ≡ slot_of slots node }
+{
+    if (node as usize) < slots {
+        Some(node as usize)
+    } else {
+        None
+    }
+}
+
+/// The numbers below one.
+fn numbers(alloc: Global, count: u32) -> Result<Vec<u32>, AllocError>
+    ensures { IfOk result (λ v. v.items ≡ range_with_len 0 count) }
+{
+    (0..count).collect(alloc)
 }
