@@ -12,6 +12,8 @@ use Rattle.block_index.specs.SlotLists.{slots_from, lists_of, slot_of, AreLinked
 use Rattle.block_index.proofs.ListLemmas.{has-head, has-behind, has-cases, has-remove, not-both}
 use Rattle.block_index.proofs.ListLemmas.{not-and-has, not-listed, once-remove, lists-of_each}
 use Rattle.block_index.proofs.ListLemmas.{length-le_slots}
+use Rattle.block_index.proofs.ChangeLemmas.{pushed_at, pushed_other, pushed_apart, removed_at}
+use Rattle.block_index.proofs.ChangeLemmas.{removed_other, removed_apart}
 use Rattle.block_index.proofs.PathLemmas.{back, forth, back_and_forth, after_on, before_on}
 use Rattle.block_index.proofs.PathLemmas.{path_kept, slots_from-path, pushed_path, removed_path}
 use Rattle.block_index.proofs.PathLemmas.{before_pushed, after_pushed, path_first, path_last, path_next}
@@ -88,57 +90,6 @@ module _ {before after : List ℕ} {v : SlotListsValue} (h : AreLinked before af
   -- with slot s in front of list k
   module _ (k s : ℕ) (kl : k < length v.lists) (sl : s < v.slots)
       (free : is_listed v.lists s ≡ false) where
-    pushed_at : list_at (with_first v k s) k ≡ s ∷ list_at v k
-    pushed_at = get_or-set_same v.lists k (s ∷ list_at v k) [] kl
-
-    pushed_other : (j : ℕ) → (j ≡ k → ⊥) → list_at (with_first v k s) j ≡ list_at v j
-    pushed_other j ne = get_or-set_other v.lists k j (s ∷ list_at v k) [] ne
-
-    pushed_has : (j t : ℕ) → has_slot t (list_at (with_first v k s) j) ≡ true →
-        ((s ≡ t) × (j ≡ k)) ⊎ (has_slot t (list_at v j) ≡ true)
-    pushed_has j t inside =
-        let P : List ℕ → Type 0 = λ xs. has_slot t xs ≡ true in
-        let Q : ℕ → Type 0 = λ i. has_slot t (list_at v i) ≡ true in
-        let R : ℕ → Type 0 = λ i. has_slot t (list_at (with_first v k s) i) ≡ true in
-        elim (cases_eq j k) [
-          | inl e ↦ elim (has-cases t s (list_at v k) (subst P pushed_at (subst R e inside))) [
-            | inl f ↦ inl (f, e)
-            | inr f ↦ inr (subst Q (sym e) f)
-          ]
-          | inr ne ↦ inr (subst P (pushed_other j ne) inside)
-        ]
-
-    not_in : (j t : ℕ) → s ≡ t → has_slot t (list_at v j) ≡ true → ⊥
-    not_in j t e inside =
-        let P : ℕ → Type 0 = λ u. has_slot u (list_at v j) ≡ true in
-        not-and-has s (list_at v j) (not-listed s v.lists j free) (subst P (sym e) inside)
-
-    pushed_apart : AreApart (with_first v k s)
-    pushed_apart = record {
-      below = λ j t inside. elim (pushed_has j t inside) [
-        | inl e ↦ omega (arith, e.0, sl)
-        | inr e ↦ h.apart.below j t e
-      ];
-      one_list = λ i j t in_i in_j. elim (pushed_has i t in_i) [
-        | inl e ↦ elim (pushed_has j t in_j) [
-          | inl f ↦ e.1 ∙ sym f.1
-          | inr f ↦ absurd (not_in j t e.0 f)
-        ]
-        | inr e ↦ elim (pushed_has j t in_j) [
-          | inl f ↦ absurd (not_in i t f.0 e)
-          | inr f ↦ h.apart.one_list i j t e f
-        ]
-      ];
-      once = λ j.
-          let P : List ℕ → Type 0 = IsOnce in
-          let Q : ℕ → Type 0 = λ i. IsOnce (list_at (with_first v k s) i) in
-          elim (cases_eq j k) [
-            | inl e ↦ subst Q (sym e) (subst P (sym pushed_at)
-                (not-listed s v.lists k free, h.apart.once k))
-            | inr ne ↦ subst P (sym (pushed_other j ne)) (h.apart.once j)
-          ];
-    }
-
     head_other : (j : ℕ) → (j ≡ k → ⊥) → has_slot (v.slots + k) ((v.slots + j) ∷ list_at v j) ≡ false
     head_other j ne =
         not-both (v.slots + k) (v.slots + j) (list_at v j) (λ e. ne (omega (arith, e))) (not_head k j)
@@ -176,13 +127,13 @@ module _ {before after : List ℕ} {v : SlotListsValue} (h : AreLinked before af
         let R : ℕ → Type 0 =
         λ i. IsPath before' after' (v.slots + i) (list_at (with_first v k s) i) (v.slots + i) in
         elim (cases_eq j k) [
-          | inl e ↦ subst R (sym e) (subst Q (sym pushed_at)
+          | inl e ↦ subst R (sym e) (subst Q (sym (pushed_at v k s kl))
               (pushed_path before after head s (omega (arith, h.before_long, sl))
               (omega (arith, h.after_long, sl)) (omega (arith, h.after_long, kl))
               (omega (arith, h.before_long, after_small k head kl (has-head head (list_at v k))))
               (λ e. absurd (omega (arith, e, sl))) (list_at v k) (h.paths k kl)
               (not-listed s v.lists k free) (not_head k k) (h.apart.once k)))
-          | inr ne ↦ subst P (sym (pushed_other j ne))
+          | inr ne ↦ subst P (sym (pushed_other v k s kl j ne))
               (path_kept (set before s head) (set after s f) f s head s (v.slots + j) (list_at v j)
               (v.slots + j) (head_other j ne) (next_other j jl ne)
               (path_kept before after s head s f (v.slots + j) (list_at v j) (v.slots + j)
@@ -212,47 +163,11 @@ module _ {before after : List ℕ} {v : SlotListsValue} (h : AreLinked before af
                 length-set after s f,
               );
           paths = λ j jl. pushed_paths j (omega (arith, jl, long));
-          apart = pushed_apart;
+          apart = pushed_apart v k s kl free sl h.apart;
         }
 
   -- with slot s taken out of list k
   module _ (k s : ℕ) (kl : k < length v.lists) (inside : has_slot s (list_at v k) ≡ true) where
-    abbrev left : List ℕ
-    left = remove (list_at v k) (index_of_slot s (list_at v k))
-
-    removed_at : list_at (without_slot v k s) k ≡ left
-    removed_at = get_or-set_same v.lists k left [] kl
-
-    removed_other : (j : ℕ) → (j ≡ k → ⊥) → list_at (without_slot v k s) j ≡ list_at v j
-    removed_other j ne = get_or-set_other v.lists k j left [] ne
-
-    removed_has : (j t : ℕ) → has_slot t (list_at (without_slot v k s) j) ≡ true →
-        has_slot t (list_at v j) ≡ true
-    removed_has j t on =
-        let P : List ℕ → Type 0 = λ xs. has_slot t xs ≡ true in
-        let Q : ℕ → Type 0 = λ i. has_slot t (list_at v i) ≡ true in
-        let R : ℕ → Type 0 = λ i. has_slot t (list_at (without_slot v k s) i) ≡ true in
-        elim (cases_eq j k) [
-          | inl e ↦ subst Q (sym e) (has-remove t (index_of_slot s (list_at v k)) (list_at v k)
-              (subst P removed_at (subst R e on)))
-          | inr ne ↦ subst P (removed_other j ne) on
-        ]
-
-    removed_apart : AreApart (without_slot v k s)
-    removed_apart = record {
-      below = λ j t on. h.apart.below j t (removed_has j t on);
-      one_list = λ i j t on_i on_j. h.apart.one_list i j t (removed_has i t on_i)
-          (removed_has j t on_j);
-      once = λ j.
-          let P : List ℕ → Type 0 = IsOnce in
-          let Q : ℕ → Type 0 = λ i. IsOnce (list_at (without_slot v k s) i) in
-          elim (cases_eq j k) [
-            | inl e ↦ subst Q (sym e) (subst P (sym removed_at)
-                (once-remove (index_of_slot s (list_at v k)) (list_at v k) (h.apart.once k)))
-            | inr ne ↦ subst P (sym (removed_other j ne)) (h.apart.once j)
-          ];
-    }
-
     abbrev p : ℕ
     p = get_or before s 0
 
@@ -310,23 +225,23 @@ module _ {before after : List ℕ} {v : SlotListsValue} (h : AreLinked before af
         λ i. IsPath (set before q p) (set after p q) (v.slots + i) (list_at (without_slot v k s) i)
         (v.slots + i) in
         elim (cases_eq j k) [
-          | inl e ↦ subst R (sym e) (subst Q (sym removed_at)
+          | inl e ↦ subst R (sym e) (subst Q (sym (removed_at v k s kl))
               (removed_path before after p q s refl refl forth_is back_is
               (omega (arith, h.after_long, p_small)) (omega (arith, h.before_long, q_small)) head
               (list_at v k) head (h.paths k kl) (not_head k k) (not_head k k) (h.apart.once k) inside))
-          | inr ne ↦ subst P (sym (removed_other j ne))
+          | inr ne ↦ subst P (sym (removed_other v k s kl j ne))
               (path_kept before after q p p q (v.slots + j) (list_at v j) (v.slots + j)
               (p_other j jl ne) (q_other j jl ne) (h.paths j jl))
         ]
 
     pub removed_linked : AreLinked (set before q p) (set after p q) (without_slot v k s)
     removed_linked =
-        let long = length-set v.lists k left in record {
+        let long = length-set v.lists k (remove (list_at v k) (index_of_slot s (list_at v k))) in record {
           few = omega (arith, h.few, long);
           before_long = omega (arith, h.before_long, long, length-set before q p);
           after_long = omega (arith, h.after_long, long, length-set after p q);
           paths = λ j jl. removed_paths j (omega (arith, jl, long));
-          apart = removed_apart;
+          apart = removed_apart v k s kl h.apart;
         }
 
 -- the same where the links were read into variables

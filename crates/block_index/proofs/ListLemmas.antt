@@ -1,6 +1,6 @@
 -- Which slots are in a list, and in a list after a change.
 use Rattle.std.proofs.Common.{◌≡◌, ℕ, zero, suc, ◌+◌, ◌-◌, ◌<◌, ◌≤◌, ◌⊎◌, inl, inr, true, false}
-use Rattle.std.proofs.Common.{eqb, List, [], ◌∷◌, length, get_or, set, refl, sym, ◌∙◌, ap, subst}
+use Rattle.std.proofs.Common.{eqb, ◌||◌, List, [], ◌∷◌, length, get_or, set, refl, sym, ◌∙◌, ap, subst}
 use Rattle.std.proofs.Common.{arith, eq-eqb}
 use Rattle.std.specs.Prelude.{map, slice_get, Some, None, replicate}
 use Rattle.std.specs.List.{remove, IsDistinct, AllByRecursion, list_any}
@@ -106,17 +106,17 @@ gone s (x ∷ xs) once =
           (not-both s x (remove xs (index_of_slot s xs)) ne (gone s xs once.1))
     ]
 
-pub still : (s t i : ℕ) (xs : List ℕ) → has_slot t xs ≡ true → (t ≡ s → ⊥) →
-    has_slot t (remove xs (index_of_slot s xs)) ≡ true
-still s t i [] h ne = absurd (false≢true h)
-still s t i (x ∷ xs) h ne =
-    let P : ℕ → Type 0 = λ j. has_slot t (remove (x ∷ xs) j) ≡ true in
+-- and the others are as before
+pub same-has : (s t : ℕ) (xs : List ℕ) → (t ≡ s → ⊥) →
+    has_slot t (remove xs (index_of_slot s xs)) ≡ has_slot t xs
+same-has s t [] ne = refl
+same-has s t (x ∷ xs) ne =
+    let P : ℕ → Type 0 = λ i. has_slot t (remove (x ∷ xs) i) ≡ has_slot t (x ∷ xs) in
     elim (cases_eq x s) [
-      | inl e ↦ subst P (sym (index-here s x xs e)) (has-other t x xs h (λ f. ne (sym f ∙ e)))
-      | inr other ↦ subst P (sym (index-behind s x xs other)) (elim (has-cases t x xs h) [
-        | inl f ↦ has-here t x (remove xs (index_of_slot s xs)) f
-        | inr f ↦ has-behind t x (remove xs (index_of_slot s xs)) (still s t i xs f ne)
-      ])
+      | inl e ↦ subst P (sym (index-here s x xs e))
+          (sym (ap (λ b. b || has_slot t xs) (ne_eqb x t (λ f. ne (sym f ∙ e)))))
+      | inr other ↦ subst P (sym (index-behind s x xs other))
+          (ap (λ b. eqb x t || b) (same-has s t xs ne))
     ]
 
 -- lists of lists

@@ -63,6 +63,7 @@ impl BlockIndex {
         ensures { MatchOption result (NoSlotHas self.now block)
             (λ slot. HasBlock self.now slot block) }
     {
+        self.chains.are_apart();
         let chain = chain_among(self.blocks.len() / 2 + 1, block);
         let mut next = self.chains.first(chain);
         for step in 0..LONGEST {
@@ -102,6 +103,7 @@ impl BlockIndex {
         requires other { NoSlotHas self.old block }
         ensures { self.new ≡ record { blocks = slice_set self.old.blocks slot (Some block) } }
     {
+        self.chains.are_apart();
         let chain = chain_among(self.blocks.len() / 2 + 1, block);
         self.blocks[slot] = block;
         self.chains.push_front(chain, slot);
@@ -113,6 +115,7 @@ impl BlockIndex {
         requires { (b : ℕ) × HasBlock self.old slot b }
         ensures { self.new ≡ record { blocks = slice_set self.old.blocks slot None } }
     {
+        self.chains.are_apart();
         let chain = chain_among(self.blocks.len() / 2 + 1, self.blocks[slot]);
         self.chains.remove(chain, slot);
     }

@@ -127,5 +127,9 @@ fn slot_at(node: u32, slots: usize) -> Option<usize>
 fn numbers(alloc: Global, count: u32) -> Result<Vec<u32>, AllocError>
     ensures { IfOk result (λ v. v.items ≡ range_with_len 0 count) }
 {
-    (0..count).collect(alloc)
+    let mut all = Vec::with_capacity(alloc, count as usize)?;
+    for number in 0..count {
+        all.push(number)?;
+    }
+    Ok(all)
 }
