@@ -10,45 +10,48 @@ use Rattle.block_index.proofs.block_index.BlockIndex.remove.Goals as goal
 use Rattle.block_index.proofs.block_index.BlockIndex.remove.Goals.{After-len, After-chain_among-chain}
 
 module _ (c : After-len) where
+  slot_in : c.args.slot < length c.self.inside.blocks.items
+  slot_in =
+      within-has c.self.inside.chains.lists c.self.inside.blocks.items c.args.slot
+      (Some c.requires.0)
+      (ap (λ w. slice_get w.blocks c.args.slot) c.self.view_is ∙ c.requires.1)
+
+module _ (c : After-chain_among-chain) where
   abbrev blocks : List ℕ
   blocks = c.self.inside.blocks.items
 
   abbrev lists : List (List ℕ)
   lists = c.self.inside.chains.lists
 
-  had : slice_get (blocks_listed lists 0 blocks) c.args.slot ≡ Some (Some c.requires.0)
-  had = ap (λ w. slice_get w.blocks c.args.slot) c.self.view_is ∙ c.requires.1
-
-  slot_in : c.args.slot < length blocks
-  slot_in = within-has lists blocks c.args.slot (Some c.requires.0) had
-
-module _ (c : After-chain_among-chain) where
   abbrev chain : ℕ
   chain = c.chain_among-chain.result
 
-  chains_are : c.len.result / 2 + 1 ≡ length (lists c.After-len)
+  chains_are : c.len.result / 2 + 1 ≡ length lists
   chains_are =
       omega (arith, c.len.ensures, c.self.invariant.chains_are, c.self.inside.blocks.ok.0)
 
-  list_in : chain < length (lists c.After-len)
+  list_in : chain < length lists
   list_in = omega (arith, c.chain_among-chain.ensures.within, chains_are)
 
-  read : c.index.result.now ≡ get_or (blocks c.After-len) c.args.slot 0
-  read = get_or_read (blocks c.After-len) c.args.slot c.index.result.now (slot_in c.After-len)
-      c.index.ensures 0
+  had : slice_get (blocks_listed lists 0 blocks) c.args.slot ≡ Some (Some c.requires.0)
+  had = ap (λ w. slice_get w.blocks c.args.slot) c.self.view_is ∙ c.requires.1
 
-  chain_is : chain_of (length (lists c.After-len)) c.requires.0 ≡ chain
+  read : c.index.result.now ≡ get_or blocks c.args.slot 0
+  read =
+      get_or_read blocks c.args.slot c.index.result.now
+      (within-has lists blocks c.args.slot (Some c.requires.0) had) c.index.ensures 0
+
+  chain_is : chain_of (length lists) c.requires.0 ≡ chain
   chain_is =
-      let at = listed-has (lists c.After-len) (blocks c.After-len) c.args.slot c.requires.0
-      (had c.After-len) in
-      ap (chain_of (length (lists c.After-len))) (sym at.1 ∙ sym read)
+      ap (chain_of (length lists))
+      (sym (listed-has lists blocks c.args.slot c.requires.0 had).1 ∙ sym read)
       ∙ sym (c.chain_among-chain.ensures.is ∙
       ap (λ n. chain_of n c.index.result.now) chains_are)
 
   inside : has_slot c.args.slot (list_at c.self.inside.chains chain) ≡ true
   inside =
       let P : ℕ → Type 0 = λ k. has_slot c.args.slot (list_at c.self.inside.chains k) ≡ true in
-      subst P chain_is (on_chain c.self.invariant c.args.slot c.requires.0 (had c.After-len))
+      subst P chain_is (on_chain c.self.invariant c.args.slot c.requires.0 had)
 
 pub index-requires : goal.index-requires
 index-requires c =
@@ -69,7 +72,7 @@ remove-requires-clause-listed c =
 pub invariant_of-self : goal.invariant_of-self
 invariant_of-self c =
     let at = (goal.at.invariant_of-self c).After-chain_among-chain in
-    let P : SlotListsValue → Type 0 = λ v. IsIndexed (blocks at.After-len) v in
+    let P : SlotListsValue → Type 0 = λ v. IsIndexed (blocks at) v in
     subst P (sym c.remove.ensures)
     (removed_indexed c.self.invariant (chain at) c.args.slot (list_in at))
 
@@ -77,7 +80,7 @@ pub returns : goal.returns
 returns c =
     let at = (goal.at.returns c).After-chain_among-chain in
     let made : List (Option ℕ) → IndexValue = λ bs. record { blocks = bs } in
-    ap (λ v. made (blocks_listed v.lists 0 (blocks at.After-len))) c.remove.ensures
-    ∙ ap made (removed_blocks c.self.inside.chains (blocks at.After-len) (chain at) c.args.slot
+    ap (λ v. made (blocks_listed v.lists 0 (blocks at))) c.remove.ensures
+    ∙ ap made (removed_blocks c.self.inside.chains (blocks at) (chain at) c.args.slot
         (list_in at) c.are_apart.ensures (inside at))
     ∙ ap (λ w. made (set w.blocks c.args.slot None)) c.self.view_is
