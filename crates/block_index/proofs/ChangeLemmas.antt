@@ -1,9 +1,9 @@
 -- Which slots are in which list, after a change to one.
-use Rattle.std.proofs.Common.{◌≡◌, ℕ, zero, suc, ◌+◌, ◌<◌, ◌≤◌, ◌⊎◌, inl, inr, Bool, true, false}
-use Rattle.std.proofs.Common.{◌||◌, eqb, List, [], ◌∷◌, length, get_or, set, refl, sym, ◌∙◌, ap, subst}
-use Rattle.std.proofs.Common.{arith, length-set, get_or-set_same, get_or-set_other}
+use Rattle.std.proofs.Common.{◌≡◌, ℕ, zero, suc, ◌<◌, ◌⊎◌, inl, inr, true, false}
+use Rattle.std.proofs.Common.{◌||◌, List, [], ◌∷◌, length, get_or, set, refl, sym, ◌∙◌, ap, subst}
+use Rattle.std.proofs.Common.{arith, get_or-set_same, get_or-set_other}
 use Rattle.std.specs.List.{remove}
-use Rattle.std.proofs.lemmas.Bool.{cases_eq, ne_eqb, false_from_ne_true, false≢true}
+use Rattle.std.proofs.lemmas.Bool.{cases_eq, ne_eqb, false_from_ne_true}
 use Rattle.block_index.specs.SlotLists.{SlotListsValue, has_slot, is_listed, index_of_slot, list_at}
 use Rattle.block_index.specs.SlotLists.{with_first, without_slot, IsOnce, AreApart}
 use Rattle.block_index.proofs.ListLemmas.{has-head, has-cases, has-remove, not-and-has, not-listed}
@@ -111,12 +111,12 @@ module _ (v : SlotListsValue) (k s : ℕ) (kl : k < length v.lists) where
         is_listed (without_slot v k s).lists s ≡ false
     removed_listed inside =
         false_from_ne_true (is_listed (without_slot v k s).lists s) (λ on.
-            let at = listed-in s (without_slot v k s).lists on in
-            let P : List ℕ → Type 0 = λ xs. has_slot s xs ≡ true in
-            let R : ℕ → Type 0 = λ i. has_slot s (list_at (without_slot v k s) i) ≡ true in
-            let e : at.0 ≡ k = apart.one_list at.0 k s (removed_has at.0 s at.2) inside in
-            not-and-has s left (gone s (list_at v k) (apart.once k))
-            (subst P removed_at (subst R e at.2)))
+        let at = listed-in s (without_slot v k s).lists on in
+        let P : List ℕ → Type 0 = λ xs. has_slot s xs ≡ true in
+        let R : ℕ → Type 0 = λ i. has_slot s (list_at (without_slot v k s) i) ≡ true in
+        let e : at.0 ≡ k = apart.one_list at.0 k s (removed_has at.0 s at.2) inside in
+        not-and-has s left (gone s (list_at v k) (apart.once k))
+        (subst P removed_at (subst R e at.2)))
 
 -- the other slots are listed as before
 pub pushed_same : (lists : List (List ℕ)) (k s t : ℕ) → (t ≡ s → ⊥) →

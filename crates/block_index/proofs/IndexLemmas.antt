@@ -1,11 +1,11 @@
 -- The blocks of the slots, and the slots on the chains.
-use Rattle.std.proofs.Common.{◌≡◌, ℕ, zero, suc, ◌+◌, ◌*◌, ◌/◌, ◌%◌, ◌<◌, ◌≤◌, ◌^◌, ◌⊎◌, inl, inr}
+use Rattle.std.proofs.Common.{◌≡◌, ℕ, zero, suc, ◌+◌, ◌/◌, ◌<◌, ◌≤◌, ◌^◌, inl, inr}
 use Rattle.std.proofs.Common.{true, false, cond, List, [], ◌∷◌, length, get_or, set, refl, sym, ◌∙◌}
 use Rattle.std.proofs.Common.{ap, subst, arith, length-set, get_or-set_same, get_or-set_other}
 use Rattle.std.specs.Prelude.{Option, Some, None, slice_get, replicate}
-use Rattle.std.proofs.lemmas.Bool.{cases_eq, cases_lt, cases_Bool, false≢true, false_from_ne_true}
+use Rattle.std.proofs.lemmas.Bool.{cases_lt, cases_Bool, false≢true, false_from_ne_true}
 use Rattle.std.proofs.lemmas.List.{set-get_or, length-replicate}
-use Rattle.block_index.specs.SlotLists.{SlotListsValue, has_slot, is_listed, index_of_slot, list_at}
+use Rattle.block_index.specs.SlotLists.{SlotListsValue, has_slot, is_listed, list_at}
 use Rattle.block_index.specs.SlotLists.{with_first, without_slot, AreApart}
 use Rattle.block_index.specs.BlockIndex.{IndexValue, HasBlock, NoSlotHas, AreDifferent, chain_of}
 use Rattle.block_index.specs.BlockIndex.{blocks_listed, IsIndexed}
@@ -70,9 +70,9 @@ module _ (lists : List (List ℕ)) (blocks : List ℕ) where
       let is = get-listed lists 0 blocks s s (omega arith) (within-has s None has) in
       let x : ℕ = get_or blocks s 0 in
       false_from_ne_true (is_listed lists s) (λ e.
-          let f : Some (cond (is_listed lists s) (Some x) None) ≡ Some (Some x) =
-          ap (λ t. Some (cond t (Some x) None)) e in
-          absurd (cc))
+      let f : Some (cond (is_listed lists s) (Some x) None) ≡ Some (Some x) =
+      ap (λ t. Some (cond t (Some x) None)) e in
+      absurd (cc))
 
   pub has-listed : (s : ℕ) → s < length blocks → is_listed lists s ≡ true →
       slice_get blocks_of s ≡ Some (Some (get_or blocks s 0))
@@ -90,7 +90,7 @@ same-listed lists lists' a (x ∷ xs) same =
     let ys : List (Option ℕ) = blocks_listed lists' (suc a) xs in
     ap (λ t. cond t (Some x) None ∷ ys) (same a (omega arith))
     ∙ ap (λ zs. cond (is_listed lists a) (Some x) None ∷ zs)
-        (same-listed lists lists' (suc a) xs (λ t le. same t (omega arith)))
+    (same-listed lists lists' (suc a) xs (λ t le. same t (omega arith)))
 
 set-listed : (lists lists' : List (List ℕ)) (a : ℕ) (xs : List ℕ) (i j b : ℕ) → a + i ≡ j →
     ((t : ℕ) → (t ≡ j → ⊥) → is_listed lists' t ≡ is_listed lists t)
@@ -103,13 +103,13 @@ set-listed lists lists' a (x ∷ xs) zero j b e same =
     let ys : List (Option ℕ) = blocks_listed lists' (suc a) xs in
     ap (λ n. cond (is_listed lists' n) (Some b) None ∷ ys) f
     ∙ ap (λ zs. cond (is_listed lists' j) (Some b) None ∷ zs)
-        (same-listed lists lists' (suc a) xs
-        (λ t le. same t (λ g. absurd (omega (arith, g, f, le)))))
+    (same-listed lists lists' (suc a) xs
+    (λ t le. same t (λ g. absurd (omega (arith, g, f, le)))))
 set-listed lists lists' a (x ∷ xs) (suc i) j b e same =
     let ys : List (Option ℕ) = blocks_listed lists' (suc a) (set xs i b) in
     ap (λ t. cond t (Some x) None ∷ ys) (same a (λ g. absurd (omega (arith, g, e))))
     ∙ ap (λ zs. cond (is_listed lists a) (Some x) None ∷ zs)
-        (set-listed lists lists' (suc a) xs i j b (omega (arith, e)) same)
+    (set-listed lists lists' (suc a) xs i j b (omega (arith, e)) same)
 
 module _ (v : SlotListsValue) (blocks : List ℕ) (k s : ℕ) (kl : k < length v.lists) where
   pub added_blocks : (b : ℕ) → blocks_listed (with_first v k s).lists 0 (set blocks s b)
@@ -118,7 +118,7 @@ module _ (v : SlotListsValue) (blocks : List ℕ) (k s : ℕ) (kl : k < length v
       set-listed v.lists (with_first v k s).lists 0 blocks s s b (omega arith)
       (λ t ne. pushed_same v.lists k s t ne)
       ∙ ap (λ t. set (blocks_listed v.lists 0 blocks) s (cond t (Some b) None))
-          (pushed_listed v k s kl)
+      (pushed_listed v k s kl)
 
   pub removed_blocks : AreApart v → has_slot s (list_at v k) ≡ true →
       blocks_listed (without_slot v k s).lists 0 blocks
@@ -127,9 +127,9 @@ module _ (v : SlotListsValue) (blocks : List ℕ) (k s : ℕ) (kl : k < length v
       let x : ℕ = get_or blocks s 0 in
       ap (blocks_listed (without_slot v k s).lists 0) (sym (set-get_or blocks s 0))
       ∙ set-listed v.lists (without_slot v k s).lists 0 blocks s s x (omega arith)
-          (λ t ne. removed_same v.lists k s t ne)
+      (λ t ne. removed_same v.lists k s t ne)
       ∙ ap (λ t. set (blocks_listed v.lists 0 blocks) s (cond t (Some x) None))
-          (removed_listed v k s kl apart inside)
+      (removed_listed v k s kl apart inside)
 
 -- places before the end of a list
 pub get-none : {X : Type 0} (xs : List X) (n i : ℕ) (x : X) → slice_get xs n ≡ None →
@@ -237,10 +237,10 @@ module _ {blocks : List ℕ} {v : SlotListsValue} (h : IsIndexed blocks v) where
       let left : List ℕ = list_at (without_slot v k s) k in
       let long : length (without_slot v k s).lists ≡ length v.lists = length-set v.lists k _ in
       let was : (t : ℕ) → is_listed (without_slot v k s).lists t ≡ true →
-          is_listed v.lists t ≡ true =
+      is_listed v.lists t ≡ true =
       λ t on.
-          let at = listed-in t (without_slot v k s).lists on in
-          listed t v.lists at.0 (removed_has v k s kl at.0 t at.2) in record {
+      let at = listed-in t (without_slot v k s).lists on in
+      listed t v.lists at.0 (removed_has v k s kl at.0 t at.2) in record {
         few = h.few;
         slots_are = h.slots_are;
         chains_are = long ∙ h.chains_are;
@@ -261,7 +261,7 @@ none_blocks zero lists a none = refl
 none_blocks (suc n) lists a none =
     let ys : List (Option ℕ) = blocks_listed lists (suc a) (replicate n 0) in
     ap (λ t. cond t (Some 0) None ∷ ys) (none a) ∙ ap (λ zs. None ∷ zs)
-        (none_blocks n lists (suc a) none)
+    (none_blocks n lists (suc a) none)
 
 pub none_indexed : (n : ℕ) → n ≤ 2 ^ 22 →
     IsIndexed (replicate n 0) (record { slots = n; lists = replicate (n / 2 + 1) [] })

@@ -1,16 +1,16 @@
 -- Lists that are linked, after a change to one of them.
-use Rattle.std.proofs.Common.{◌≡◌, ℕ, zero, suc, refl, ◌+◌, ◌-◌, ◌<◌, ◌≤◌, ◌^◌, ◌⊎◌, inl, inr, true, false}
+use Rattle.std.proofs.Common.{◌≡◌, ℕ, zero, suc, refl, ◌+◌, ◌-◌, ◌<◌, ◌≤◌, ◌^◌, inl, inr, true, false}
 use Rattle.std.proofs.Common.{List, [], ◌∷◌, length, get_or, set, drop, sym, ◌∙◌, ap, subst, arith}
-use Rattle.std.proofs.Common.{length-set, get_or-set_same, get_or-set_other}
+use Rattle.std.proofs.Common.{length-set}
 use Rattle.std.specs.Prelude.{replicate, slice_get}
 use Rattle.std.specs.List.{remove}
 use Rattle.std.proofs.lemmas.Bool.{cases_eq, false_from_ne_true, false≢true}
 use Rattle.std.proofs.lemmas.List.{get_or-drop, length-drop, length-replicate}
 use Rattle.block_index.specs.SlotLists.{SlotListsValue, has_slot, is_listed, index_of_slot, list_at}
-use Rattle.block_index.specs.SlotLists.{with_first, without_slot, IsOnce, AreApart, IsPath}
+use Rattle.block_index.specs.SlotLists.{with_first, without_slot, IsOnce, IsPath}
 use Rattle.block_index.specs.SlotLists.{slots_from, lists_of, slot_of, AreLinked}
-use Rattle.block_index.proofs.ListLemmas.{has-head, has-behind, has-cases, has-remove, not-both}
-use Rattle.block_index.proofs.ListLemmas.{not-and-has, not-listed, once-remove, lists-of_each}
+use Rattle.block_index.proofs.ListLemmas.{has-head, has-behind, has-cases, not-both}
+use Rattle.block_index.proofs.ListLemmas.{not-and-has, not-listed, lists-of_each}
 use Rattle.block_index.proofs.ListLemmas.{length-le_slots}
 use Rattle.block_index.proofs.ChangeLemmas.{pushed_at, pushed_other, pushed_apart, removed_at}
 use Rattle.block_index.proofs.ChangeLemmas.{removed_other, removed_apart}

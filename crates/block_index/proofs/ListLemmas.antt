@@ -1,10 +1,10 @@
 -- Which slots are in a list, and in a list after a change.
-use Rattle.std.proofs.Common.{◌≡◌, ℕ, zero, suc, ◌+◌, ◌-◌, ◌<◌, ◌≤◌, ◌⊎◌, inl, inr, true, false}
-use Rattle.std.proofs.Common.{eqb, ◌||◌, List, [], ◌∷◌, length, get_or, set, refl, sym, ◌∙◌, ap, subst}
+use Rattle.std.proofs.Common.{◌≡◌, ℕ, zero, suc, ◌<◌, ◌≤◌, ◌⊎◌, inl, inr, true, false}
+use Rattle.std.proofs.Common.{eqb, ◌||◌, List, [], ◌∷◌, length, get_or, refl, sym, ◌∙◌, ap, subst}
 use Rattle.std.proofs.Common.{arith, eq-eqb}
-use Rattle.std.specs.Prelude.{map, slice_get, Some, None, replicate}
+use Rattle.std.specs.Prelude.{map, slice_get, Some}
 use Rattle.std.specs.List.{remove, IsDistinct, AllByRecursion, list_any}
-use Rattle.std.proofs.lemmas.Bool.{ne_eqb, eqb-true, false≢true, cases_eq, cases_Bool, or_cases}
+use Rattle.std.proofs.lemmas.Bool.{ne_eqb, eqb-true, false≢true, cases_eq, or_cases}
 use Rattle.std.proofs.lemmas.Bool.{or_right, or_parts, or_from, or_left, false_from_ne_true}
 use Rattle.std.proofs.lemmas.Map.Steps.{length-le_from_distinct_below}
 use Rattle.block_index.specs.SlotLists.{has_slot, is_listed, index_of_slot, IsOnce}

@@ -1,4 +1,4 @@
-use Rattle.std.proofs.Common.{◌≡◌, ◌+◌, ◌∙◌, ◌++◌, ◌∷◌, ℕ, List, [], zero, suc, refl, sym, ap, arith}
+use Rattle.std.proofs.Common.{◌≡◌, ◌+◌, ◌∙◌, ◌++◌, ◌∷◌, ℕ, [], zero, suc, sym, ap, arith}
 use Rattle.std.specs.List.{range_with_len}
 use Rattle.block_index.proofs.slot_lists.numbers.Goals as goal
 

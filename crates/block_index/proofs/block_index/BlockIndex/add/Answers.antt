@@ -2,7 +2,7 @@ use Rattle.std.proofs.Common.{◌≡◌, ◌+◌, ◌/◌, ◌<◌, ◌∙◌, �
 use Rattle.std.proofs.Common.{subst, arith, false}
 use Rattle.std.specs.Prelude.{slice_get}
 use Rattle.block_index.specs.SlotLists.{SlotListsValue, is_listed, with_first}
-use Rattle.block_index.specs.BlockIndex.{IndexValue, HasBlock, NoSlotHas, chain_of, blocks_listed}
+use Rattle.block_index.specs.BlockIndex.{IndexValue, HasBlock, chain_of, blocks_listed}
 use Rattle.block_index.specs.BlockIndex.{IsIndexed}
 use Rattle.block_index.proofs.IndexLemmas.{within-has, free-has, added_indexed, added_blocks}
 use Rattle.block_index.proofs.block_index.BlockIndex.add.Goals as goal
@@ -42,7 +42,7 @@ module _ (c : After-chain_among-chain) where
   indexed =
       added_indexed c.self.invariant chain c.args.slot c.args.block list_in chain_is free slot_in
       (λ t has. let P : IndexValue → Type 0 = λ w. HasBlock w t c.args.block in
-          c.requires.other t (subst P c.self.view_is has))
+      c.requires.other t (subst P c.self.view_is has))
       c.are_apart.ensures
 
 pub index_mut-requires : goal.index_mut-requires
@@ -79,5 +79,5 @@ returns c =
     ap (λ v. made (blocks_listed v.lists 0 (set (blocks at) c.args.slot c.args.block)))
     c.push_front.ensures
     ∙ ap made (added_blocks c.self.inside.chains (blocks at) (chain at) c.args.slot (list_in at)
-        c.args.block)
+    c.args.block)
     ∙ ap (λ w. made (set w.blocks c.args.slot (Some c.args.block))) c.self.view_is

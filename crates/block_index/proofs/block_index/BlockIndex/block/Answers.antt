@@ -1,7 +1,7 @@
-use Rattle.std.proofs.Common.{◌≡◌, ◌<◌, ◌∙◌, ℕ, List, Option, Some, length, get_or, sym, ap, subst, arith}
+use Rattle.std.proofs.Common.{◌≡◌, ◌∙◌, ℕ, Some, get_or, sym, ap, subst, arith}
 use Rattle.std.specs.Prelude.{slice_get}
 use Rattle.std.proofs.lemmas.List.{get_or_read}
-use Rattle.block_index.specs.BlockIndex.{IndexValue, HasBlock}
+use Rattle.block_index.specs.BlockIndex.{HasBlock}
 use Rattle.block_index.proofs.IndexLemmas.{within-has, listed-has}
 use Rattle.block_index.proofs.block_index.BlockIndex.block.Goals as goal
 

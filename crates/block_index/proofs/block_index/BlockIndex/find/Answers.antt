@@ -6,7 +6,7 @@ use Rattle.std.proofs.lemmas.List.{get_or_read}
 use Rattle.block_index.specs.SlotLists.{has_slot, index_of_slot, list_at}
 use Rattle.block_index.specs.BlockIndex.{IndexValue, HasBlock, chain_of}
 use Rattle.block_index.proofs.ListLemmas.{has-get, index-at}
-use Rattle.block_index.proofs.IndexLemmas.{off_chain, has_chain, listed-has}
+use Rattle.block_index.proofs.IndexLemmas.{off_chain, has_chain}
 use Rattle.block_index.proofs.block_index.BlockIndex.find.Goals as goal
 use Rattle.block_index.proofs.block_index.BlockIndex.find.Goals.{In-Some, After-index}
 

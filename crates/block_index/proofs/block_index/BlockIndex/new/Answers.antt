@@ -1,4 +1,4 @@
-use Rattle.std.proofs.Common.{◌≡◌, ◌+◌, ◌/◌, ◌∙◌, ℕ, List, [], sym, ap, subst}
+use Rattle.std.proofs.Common.{◌+◌, ◌/◌, ◌∙◌, ℕ, List, [], sym, ap, subst}
 use Rattle.std.specs.Prelude.{replicate}
 use Rattle.block_index.specs.SlotLists.{SlotListsValue}
 use Rattle.block_index.specs.BlockIndex.{blocks_listed, IsIndexed}

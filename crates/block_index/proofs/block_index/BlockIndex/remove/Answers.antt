@@ -2,7 +2,7 @@ use Rattle.std.proofs.Common.{◌≡◌, ◌+◌, ◌/◌, ◌<◌, ◌∙◌, �
 use Rattle.std.proofs.Common.{sym, ap, subst, arith, true}
 use Rattle.std.specs.Prelude.{slice_get}
 use Rattle.std.proofs.lemmas.List.{get_or_read}
-use Rattle.block_index.specs.SlotLists.{SlotListsValue, has_slot, list_at, without_slot}
+use Rattle.block_index.specs.SlotLists.{SlotListsValue, has_slot, list_at}
 use Rattle.block_index.specs.BlockIndex.{IndexValue, chain_of, blocks_listed, IsIndexed}
 use Rattle.block_index.proofs.IndexLemmas.{within-has, listed-has, on_chain, removed_indexed}
 use Rattle.block_index.proofs.IndexLemmas.{removed_blocks}
@@ -82,5 +82,5 @@ returns c =
     let made : List (Option ℕ) → IndexValue = λ bs. record { blocks = bs } in
     ap (λ v. made (blocks_listed v.lists 0 (blocks at))) c.remove.ensures
     ∙ ap made (removed_blocks c.self.inside.chains (blocks at) (chain at) c.args.slot
-        (list_in at) c.are_apart.ensures (inside at))
+    (list_in at) c.are_apart.ensures (inside at))
     ∙ ap (λ w. made (set w.blocks c.args.slot None)) c.self.view_is

@@ -1,9 +1,8 @@
-use Rattle.std.proofs.Common.{◌≡◌, ◌+◌, ◌-◌, ◌<◌, ◌∙◌, ℕ, List, length, get_or, set, sym, ap, arith}
-use Rattle.std.proofs.Common.{false, true}
+use Rattle.std.proofs.Common.{◌≡◌, ◌+◌, ◌<◌, ◌∙◌, length, get_or, ap, arith}
 use Rattle.std.specs.Prelude.{slice_get}
 use Rattle.std.proofs.lemmas.List.{get_or_read}
-use Rattle.block_index.specs.SlotLists.{SlotListsValue, has_slot, is_listed, index_of_slot, list_at}
-use Rattle.block_index.specs.SlotLists.{with_first, without_slot, lists_of, slot_of, AreLinked}
+use Rattle.block_index.specs.SlotLists.{SlotListsValue, list_at}
+use Rattle.block_index.specs.SlotLists.{lists_of, slot_of}
 use Rattle.block_index.proofs.LinkLemmas.{list_first}
 use Rattle.block_index.proofs.slot_lists.SlotLists.first.Goals as goal
 

@@ -1,11 +1,10 @@
-use Rattle.std.proofs.Common.{◌≡◌, ◌+◌, ◌-◌, ◌<◌, ◌∙◌, ℕ, List, length, get_or, set, sym, ap, arith}
-use Rattle.std.proofs.Common.{false, true}
+use Rattle.std.proofs.Common.{◌≡◌, ◌+◌, ◌<◌, ◌∙◌, length, get_or, ap, arith}
+use Rattle.std.proofs.Common.{true}
 use Rattle.std.specs.Prelude.{slice_get}
 use Rattle.std.proofs.lemmas.List.{get_or_read}
-use Rattle.block_index.specs.SlotLists.{SlotListsValue, has_slot, is_listed, index_of_slot, list_at}
-use Rattle.block_index.specs.SlotLists.{with_first, without_slot, lists_of, slot_of, AreLinked}
-use Rattle.block_index.proofs.ListLemmas.{has-behind}
-use Rattle.block_index.proofs.LinkLemmas.{list_next, node_small}
+use Rattle.block_index.specs.SlotLists.{SlotListsValue, has_slot, index_of_slot, list_at}
+use Rattle.block_index.specs.SlotLists.{lists_of, slot_of}
+use Rattle.block_index.proofs.LinkLemmas.{list_next}
 use Rattle.block_index.proofs.slot_lists.SlotLists.next.Goals as goal
 
 pub returns : goal.returns

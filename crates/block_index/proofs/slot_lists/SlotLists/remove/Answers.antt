@@ -1,4 +1,4 @@
-use Rattle.std.proofs.Common.{◌≡◌, ◌+◌, ◌<◌, ◌∙◌, ℕ, length, get_or, set, sym, ap, arith, true}
+use Rattle.std.proofs.Common.{◌≡◌, ◌<◌, ◌∙◌, length, get_or, set, ap, arith, true}
 use Rattle.std.proofs.lemmas.List.{get_or_read}
 use Rattle.block_index.specs.SlotLists.{SlotListsValue, has_slot, list_at, without_slot, lists_of}
 use Rattle.block_index.specs.SlotLists.{AreLinked}
