@@ -54,7 +54,7 @@ impl BlockIndex {
     /// The slot that has a block, if there is one. No slot outside of those from `from` on and
     /// before `end` may have it, and each of these must have a block: they are searched in order
     /// if the chain is long.
-    #[inline(always)]
+    #[inline]
     pub fn find(&self, block: u64, from: usize, end: usize) -> Option<usize>
         requires order { from ≤ end }
         requires end { end ≤ length self.now.blocks }
