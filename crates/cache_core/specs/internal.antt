@@ -14,3 +14,5 @@ pub mod CacheSteps
 pub mod SystemSteps
 pub mod SystemFields
 pub mod SystemStands
+pub mod SlotOrder
+pub mod Indexed

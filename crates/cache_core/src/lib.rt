@@ -3,6 +3,7 @@
 #![tactic(auto)]
 
 pub mod arrival;
+mod block_index;
 pub mod cache;
 mod cache_sets;
 mod chosen_policy;
@@ -16,6 +17,9 @@ mod far_sets;
 mod fingerprinted;
 mod fingerprints;
 pub mod geometry;
+mod indexed_cache;
+mod indexed_flush;
+mod indexed_set;
 pub mod laws;
 mod lru_sets;
 mod one_set;
@@ -26,6 +30,8 @@ pub mod replacement;
 mod ring;
 pub mod simulate;
 pub mod simulation;
+mod slot_lists;
+mod slot_order;
 pub mod stats;
 pub mod system;
 mod system_cache;
