@@ -42,6 +42,14 @@ set_twice (x ∷ xs) (suc s) v w = ap (λ ys. x ∷ ys) (set_twice xs s v w)
 abbrev pub with_block : IndexValue → ℕ → Option ℕ → IndexValue
 with_block index s v = record { blocks = set index.blocks s v }
 
+-- a slot that lost its block leaves no other slot with a block that none had
+pub left_none : (index : IndexValue) (s b : ℕ) → s < length index.blocks → NoSlotHas index b →
+    NoSlotHas (with_block index s None) b
+left_none index s b lt none t h = same_or ⊥ t s
+    (λ q. some_none (slice_get (set index.blocks s None) s) b (get_same index.blocks s None lt)
+    (subst (λ (u : ℕ). HasBlock (with_block index s None) u b) q h))
+    (λ ne. none t (sym (get_other index.blocks s t None ne) ∙ h))
+
 -- a slot is in the order of one set at most
 pub apart : (g : GeometryValue) (index : IndexValue) (sets : List (List ℕ)) (j k s : ℕ) →
     IsHeld g index sets → has_slot s (order_of sets j) ≡ true →

@@ -46,7 +46,7 @@ one_segment e j k s a b c f = elim (cases_lt j k) [
     ]
 ]
 
-in_no_list : (s : ℕ) (sets : List (List ℕ)) →
+pub in_no_list : (s : ℕ) (sets : List (List ℕ)) →
     ((j : ℕ) → has_slot s (order_of sets j) ≡ false) → is_listed sets s ≡ false
 in_no_list s [] none = refl
 in_no_list s (xs ∷ sets) none =
@@ -148,10 +148,10 @@ module _ (d : Design) (index : IndexValue) (dirty : List Bool) (order : OrderVal
         pub leaving : has_slot s xs ≡ true
         leaving = slot_in xs (victim_index (rules order.policy).victim number (length xs)) s victim
 
-        abbrev gone : Holds d.geometry index k s
+        pub gone : Holds d.geometry index k s
         gone = i.held.holds k s leaving
 
-        leaving_in_blocks : s < length index.blocks
+        pub leaving_in_blocks : s < length index.blocks
         leaving_in_blocks = slice_get_within index.blocks s (Some gone.block) gone.has
 
         pub leaving_in_marks : s < length dirty

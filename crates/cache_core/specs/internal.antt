@@ -16,3 +16,4 @@ pub mod SystemFields
 pub mod SystemStands
 pub mod SlotOrder
 pub mod Indexed
+pub mod ChosenCaches

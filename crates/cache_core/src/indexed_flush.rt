@@ -1,6 +1,7 @@
 //! All sets of a cache whose blocks are found by an index are emptied, and their dirty slots
 //! counted.
-ghost use Rattle.std.specs.Prelude.{◌≡◌, ◌≤◌, ◌<◌, ◌^◌, [], length, replicate};
+ghost use Rattle.std.specs.Prelude.{◌≡◌, ◌≤◌, ◌<◌, ◌^◌, [], length, replicate, false};
+ghost use Rattle.std.specs.Prelude.{if◌then◌else◌, slice_index_or};
 ghost use Rattle.cache_core.specs.Order.{dirty_in, dirty_slots};
 ghost use Rattle.cache_core.specs.internal.Indexed.{IsIndexed, IsHeld, sets_at, set_at, counts_of};
 ghost use Rattle.cache_core.specs.internal.SlotOrder.{order_of, with_order};
@@ -103,9 +104,17 @@ fn empty_set(
     let mut count = 0;
     while let Some(slot) = order.pop(set) {
         index.remove(slot);
-        if dirty[slot] {
-            count += 1;
-        }
+        count += one_if_dirty(dirty, slot);
     }
     count
+}
+
+/// 1 if a slot is marked dirty, otherwise 0.
+#[inline(always)]
+fn one_if_dirty(dirty: &[bool], slot: usize) -> u64
+    requires { slot < length dirty.now }
+    ensures value { result ≡ (if slice_index_or dirty.now slot false then 1 else 0) }
+    ensures few { result ≤ 1 }
+{
+    if dirty[slot] { 1 } else { 0 }
 }

@@ -6,6 +6,7 @@ pub mod arrival;
 mod block_index;
 pub mod cache;
 mod cache_sets;
+mod chosen_cache;
 mod chosen_policy;
 mod deep_sets;
 pub mod design;

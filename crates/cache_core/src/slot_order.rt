@@ -6,7 +6,7 @@ ghost use Rattle.std.specs.Prelude.{MatchOption};
 ghost use Rattle.cache_core.specs.SlotLists.{has_slot, is_listed};
 ghost use Rattle.cache_core.specs.Rules.{rules, InFront};
 ghost use Rattle.cache_core.specs.internal.SlotOrder.{order_of, with_order, with_moved};
-ghost use Rattle.cache_core.specs.internal.SlotOrder.{with_next, victim_index};
+ghost use Rattle.cache_core.specs.internal.SlotOrder.{with_next, victim_index, IsKept, orders};
 
 use crate::design::Repl;
 use crate::slot_lists::SlotLists;
@@ -53,11 +53,8 @@ impl SlotOrder {
           sets = replicate sets [];
         }) }
     {
-        let filled = vec![in alloc; 0; sets]?;
-        let lists = match policy {
-            Repl::Lru | Repl::Fifo => SlotLists::new(alloc, sets, sets * ways)?,
-            Repl::Random => SlotLists::new(alloc, 0, 0)?,
-        };
+        let filled = no_counts(alloc, sets)?;
+        let lists = no_lists(alloc, policy, sets, ways)?;
         Ok(SlotOrder {
             policy,
             ways,
@@ -163,6 +160,7 @@ impl SlotOrder {
         self.filled[set] -= 1;
         let slot = match self.policy {
             Repl::Lru | Repl::Fifo => {
+                self.lists.are_apart();
                 let last = self.lists.last(set).unwrap();
                 self.lists.remove(set, last);
                 last
@@ -183,6 +181,28 @@ fn bring(lists: &mut SlotLists, set: usize, slot: usize)
           (with_moved InFront slot (order_of lists.old.lists set));
     } }
 {
+    lists.are_apart();
     lists.remove(set, slot);
     lists.push_front(set, slot);
+}
+
+/// No slot of any set is filled.
+fn no_counts(alloc: Global, sets: usize) -> Result<Vec<u32>, AllocError>
+    ensures { IfOk result (λ filled. filled.items ≡ replicate sets 0) }
+{
+    vec![in alloc; 0; sets]
+}
+
+/// The lists of sets of which no slot is filled: none, if the policy moves no slot.
+fn no_lists(alloc: Global, policy: Repl, sets: usize, ways: usize) -> Result<SlotLists, AllocError>
+    requires some { 1 ≤ ways }
+    requires few { ways * sets ≤ 2 ^ 22 }
+    ensures kept { IfOk result (λ lists. IsKept policy ways (replicate sets 0) lists) }
+    ensures empty { IfOk result (λ lists.
+        orders policy ways (replicate sets 0) lists ≡ replicate sets []) }
+{
+    match policy {
+        Repl::Lru | Repl::Fifo => SlotLists::new(alloc, sets, sets * ways),
+        Repl::Random => SlotLists::new(alloc, 0, 0),
+    }
 }
