@@ -1,4 +1,6 @@
 pub mod internal
+pub mod SlotLists
+pub mod BlockIndex
 pub mod Powers
 pub mod Geometry
 pub mod Windows

@@ -14,3 +14,6 @@ pub mod CacheSteps
 pub mod SystemSteps
 pub mod SystemFields
 pub mod SystemStands
+pub mod SlotOrder
+pub mod Indexed
+pub mod ChosenCaches

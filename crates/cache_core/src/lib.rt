@@ -3,8 +3,10 @@
 #![tactic(auto)]
 
 pub mod arrival;
+mod block_index;
 pub mod cache;
 mod cache_sets;
+mod chosen_cache;
 mod chosen_policy;
 mod deep_sets;
 pub mod design;
@@ -16,6 +18,9 @@ mod far_sets;
 mod fingerprinted;
 mod fingerprints;
 pub mod geometry;
+mod indexed_cache;
+mod indexed_flush;
+mod indexed_set;
 pub mod laws;
 mod lru_sets;
 mod one_set;
@@ -26,6 +31,8 @@ pub mod replacement;
 mod ring;
 pub mod simulate;
 pub mod simulation;
+mod slot_lists;
+mod slot_order;
 pub mod stats;
 pub mod system;
 mod system_cache;
