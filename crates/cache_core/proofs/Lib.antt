@@ -34,17 +34,6 @@ pub mod GeometryLaw
 pub mod Counters
 pub mod SystemPushes
 pub mod SearchLaw
-pub mod RingLaw
-pub mod RingMarks
-pub mod RingSlots
-pub mod RingTurns
-pub mod FarSetLaw
-pub mod FarSetsLaw
-pub mod TwoParts
-pub mod TwoPartsLaw
-pub mod WholeSets
-pub mod WholeLaw
-pub mod WholeFlush
 pub mod FirstLevelLaw
 pub mod LowerLaw
 pub mod SystemLaw

@@ -1,8 +1,5 @@
 pub mod Order
 pub mod Slab
-pub mod Fingerprints
-pub mod Rings
-pub mod Whole
 pub mod Touched
 pub mod Stands
 pub mod DeepSets
