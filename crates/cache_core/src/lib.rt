@@ -3,7 +3,6 @@
 #![tactic(auto)]
 
 pub mod arrival;
-mod block_index;
 pub mod cache;
 mod cache_sets;
 mod chosen_cache;
@@ -31,7 +30,6 @@ pub mod replacement;
 mod ring;
 pub mod simulate;
 pub mod simulation;
-mod slot_lists;
 mod slot_order;
 pub mod stats;
 pub mod system;
