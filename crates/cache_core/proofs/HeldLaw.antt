@@ -5,8 +5,8 @@ use Rattle.std.proofs.Common.{◌∷◌, length, set, get_or, refl, sym, ◌∙�
 use Rattle.std.specs.Prelude.{slice_get, ◌↔◌}
 use Rattle.std.proofs.lemmas.Bool.{false≢true}
 use Rattle.std.proofs.lemmas.List.{get_or-set_other, get_or-set_same}
-use Rattle.cache_core.specs.SlotLists.{has_slot, IsOnce}
-use Rattle.cache_core.specs.BlockIndex.{IndexValue, HasBlock, NoSlotHas}
+use Rattle.block_index.specs.SlotLists.{has_slot, IsOnce}
+use Rattle.block_index.specs.BlockIndex.{IndexValue, HasBlock, NoSlotHas}
 use Rattle.cache_core.specs.Geometry.{GeometryValue, set_of_block}
 use Rattle.cache_core.specs.internal.SlotOrder.{order_of}
 use Rattle.cache_core.specs.internal.Indexed.{Holds, IsHeld, ArePacked}

@@ -7,8 +7,8 @@ use Rattle.std.proofs.Common.{inl, inr}
 use Rattle.std.proofs.lemmas.Bool.{false≢true, cases_lt}
 use Rattle.std.proofs.lemmas.Option.{slice_get_within, slice_get-get_or}
 use Rattle.std.proofs.Math.Nat.{mul-le-mul_right}
-use Rattle.cache_core.specs.SlotLists.{has_slot, index_of_slot, is_listed}
-use Rattle.cache_core.specs.BlockIndex.{IndexValue, HasBlock, NoSlotHas}
+use Rattle.block_index.specs.SlotLists.{has_slot, index_of_slot, is_listed}
+use Rattle.block_index.specs.BlockIndex.{IndexValue, HasBlock, NoSlotHas}
 use Rattle.cache_core.specs.declared.outcome.Slot.{Slot}
 use Rattle.cache_core.specs.declared.design.Design.{Design}
 use Rattle.cache_core.specs.Geometry.{set_of_block}
@@ -39,11 +39,11 @@ one_segment e j k s a b c f = elim (cases_lt j k) [
       let rows : suc j ≤ k = omega (arith, lt) in
       absurd (omega (arith, mul-le-mul_right e rows, b, c))
   | inr ge ↦ elim (cases_lt k j) [
-      | inl lt ↦
-          let rows : suc k ≤ j = omega (arith, lt) in
-          absurd (omega (arith, mul-le-mul_right e rows, f, a))
-      | inr le ↦ omega (arith, ge, le)
-    ]
+    | inl lt ↦
+        let rows : suc k ≤ j = omega (arith, lt) in
+        absurd (omega (arith, mul-le-mul_right e rows, f, a))
+    | inr le ↦ omega (arith, ge, le)
+  ]
 ]
 
 pub in_no_list : (s : ℕ) (sets : List (List ℕ)) →

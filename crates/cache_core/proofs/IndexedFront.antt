@@ -4,8 +4,8 @@ use Rattle.std.proofs.Common.{refl, sym, ◌∙◌, ap, subst, arith, Option, So
 use Rattle.std.specs.Prelude.{slice_get, is_some, if◌then◌else◌, ◌==◌}
 use Rattle.std.proofs.lemmas.List.{set-get_or, length-map}
 use Rattle.std.proofs.lemmas.Option.{slice_get_within}
-use Rattle.cache_core.specs.SlotLists.{has_slot, index_of_slot}
-use Rattle.cache_core.specs.BlockIndex.{IndexValue, HasBlock}
+use Rattle.block_index.specs.SlotLists.{has_slot, index_of_slot}
+use Rattle.block_index.specs.BlockIndex.{IndexValue, HasBlock}
 use Rattle.trace_core.specs.declared.events.Ref.{Ref}
 use Rattle.cache_core.specs.declared.outcome.Slot.{Slot}
 use Rattle.cache_core.specs.declared.outcome.Outcome.{Outcome}

@@ -7,8 +7,8 @@ use Rattle.std.specs.Prelude.{slice_get, remove, unwrap_or, ◌↔◌}
 use Rattle.std.proofs.lemmas.Bool.{false≢true}
 use Rattle.std.proofs.lemmas.List.{get_or-set_other, get_or-set_same}
 use Rattle.std.proofs.lemmas.Option.{get_or_from_slice_get, slice_get-get_or, slice_get_within}
-use Rattle.cache_core.specs.SlotLists.{has_slot, index_of_slot, IsOnce}
-use Rattle.cache_core.specs.BlockIndex.{IndexValue, HasBlock, NoSlotHas}
+use Rattle.block_index.specs.SlotLists.{has_slot, index_of_slot, IsOnce}
+use Rattle.block_index.specs.BlockIndex.{IndexValue, HasBlock, NoSlotHas}
 use Rattle.cache_core.specs.declared.outcome.Slot.{Slot}
 use Rattle.cache_core.specs.declared.design.Design.{Design}
 use Rattle.cache_core.specs.Geometry.{GeometryValue, set_of_block}

@@ -2,8 +2,8 @@
 use Rattle.std.proofs.Common.{◌≡◌, ℕ, ◌+◌, ◌<◌, ◌≤◌, Bool, false, cond, List, [], ◌∷◌, ◌++◌, length, set, get_or}
 use Rattle.std.proofs.Common.{refl, sym, ◌∙◌, ap, subst, arith, Option, None, length-set, length-append}
 use Rattle.std.proofs.lemmas.List.{get_or-set_same, set-get_or}
-use Rattle.cache_core.specs.SlotLists.{has_slot}
-use Rattle.cache_core.specs.BlockIndex.{IndexValue}
+use Rattle.block_index.specs.SlotLists.{has_slot}
+use Rattle.block_index.specs.BlockIndex.{IndexValue}
 use Rattle.cache_core.specs.declared.outcome.Slot.{Slot}
 use Rattle.cache_core.specs.Geometry.{GeometryValue}
 use Rattle.cache_core.specs.Order.{dirty_in}

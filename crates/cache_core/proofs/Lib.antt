@@ -55,3 +55,15 @@ pub mod SlotSums
 pub mod AnyLaw
 pub mod TouchedSets
 pub mod SlabFlush
+pub mod SlotRows
+pub mod IndexedLaw
+pub mod HeldLaw
+pub mod WaysLaw
+pub mod PolicySlots
+pub mod IndexedDeeds
+pub mod IndexedEmptying
+pub mod SlotOrderLaw
+pub mod SlotOrderDeeds
+pub mod IndexedPopping
+pub mod IndexedVisit
+pub mod IndexedFront

@@ -8,7 +8,7 @@ use Rattle.std.specs.Bool.{then_some}
 use Rattle.std.specs.List.{range_with_len}
 use Rattle.std.proofs.lemmas.List.{get_or_read, get_or-set_same}
 use Rattle.std.proofs.lemmas.Option.{slice_get_within}
-use Rattle.cache_core.specs.SlotLists.{SlotListsValue, has_slot, index_of_slot, is_listed, AreApart, IsOnce, with_first, without_slot}
+use Rattle.block_index.specs.SlotLists.{SlotListsValue, has_slot, index_of_slot, is_listed, AreApart, IsOnce, with_first, without_slot}
 use Rattle.cache_core.specs.declared.design.Repl.{Repl}
 use Rattle.cache_core.specs.declared.design.Repl.TheVariants.{Lru, Fifo, Random}
 use Rattle.cache_core.specs.Rules.{rules, InFront}

@@ -6,7 +6,7 @@ use Rattle.std.proofs.lemmas.List.Elements.{All-set, All-get_or, All-nil, All-co
 use Rattle.std.proofs.lemmas.List.{length-map}
 use Rattle.std.proofs.Math.Nat.{mul_comm}
 use Rattle.std.specs.List.{range_with_len}
-use Rattle.cache_core.specs.SlotLists.{SlotListsValue}
+use Rattle.block_index.specs.SlotLists.{SlotListsValue}
 use Rattle.cache_core.specs.declared.design.Repl.{Repl}
 use Rattle.cache_core.specs.declared.design.Repl.TheVariants.{Lru, Fifo, Random}
 use Rattle.cache_core.specs.internal.SlotOrder.{IsKept, orders, order_of, in_ways}

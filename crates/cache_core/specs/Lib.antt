@@ -1,6 +1,4 @@
 pub mod internal
-pub mod SlotLists
-pub mod BlockIndex
 pub mod Powers
 pub mod Geometry
 pub mod Windows

@@ -8,7 +8,6 @@ ghost use Rattle.cache_core.specs.internal.Slab.{empty_sets, AccessesInFront};
 ghost use Rattle.cache_core.specs.internal.Order.{DirtiesByWrites};
 ghost use Rattle.cache_core.specs.internal.SystemCaches.{policy_of, random_numbers_of};
 
-use crate::block_index::BlockIndex;
 use crate::chosen_policy::ChosenPolicy;
 use crate::design::{AllocMode, Design, WriteMode};
 use crate::geometry::Geometry;
@@ -17,6 +16,7 @@ use crate::indexed_set::{visit, visit_front};
 use crate::outcome::Outcome;
 use crate::slot_order::SlotOrder;
 use crate::touched::TouchedSets;
+use block_index::BlockIndex;
 use std::alloc::{AllocError, Global};
 use std::marker::Model;
 use trace_core::Ref;

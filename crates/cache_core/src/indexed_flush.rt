@@ -7,11 +7,11 @@ ghost use Rattle.cache_core.specs.internal.Indexed.{IsIndexed, IsHeld, sets_at, 
 ghost use Rattle.cache_core.specs.internal.SlotOrder.{order_of, with_order};
 ghost use Rattle.cache_core.specs.internal.Touched.{Covers, ListsFilled};
 
-use crate::block_index::BlockIndex;
 use crate::design::Design;
 use crate::geometry::Geometry;
 use crate::slot_order::SlotOrder;
 use crate::touched::TouchedSets;
+use block_index::BlockIndex;
 
 /// Empties all sets, and returns how many slots were dirty. If the touched sets are listed, it
 /// visits only those.

@@ -1,8 +1,8 @@
 //! One access to a cache whose blocks are found by an index.
 ghost use Rattle.std.specs.Prelude.{◌≡◌, ◌+◌, ◌<◌, ◌*◌, ◌^◌, ℕ, Some, None, IfSome, Option};
 ghost use Rattle.std.specs.Prelude.{MatchOption, is_some, length, true, slice_set};
-ghost use Rattle.cache_core.specs.SlotLists.{has_slot};
-ghost use Rattle.cache_core.specs.BlockIndex.{HasBlock, NoSlotHas};
+ghost use Rattle.block_index.specs.SlotLists.{has_slot};
+ghost use Rattle.block_index.specs.BlockIndex.{HasBlock, NoSlotHas};
 ghost use Rattle.cache_core.specs.declared.design.Repl.{Repl};
 ghost use Rattle.cache_core.specs.Geometry.{block_of, set_of, set_of_block};
 ghost use Rattle.cache_core.specs.Order.{Accesses, TakesIn, random_numbers_after};
@@ -14,13 +14,13 @@ ghost use Rattle.cache_core.specs.internal.Indexed.{counts_of, with_mark};
 ghost use Rattle.cache_core.specs.internal.SlotOrder.{order_of, with_order, with_moved};
 ghost use Rattle.cache_core.specs.internal.Touched.{Covers};
 
-use crate::block_index::BlockIndex;
 use crate::chosen_policy::ChosenPolicy;
 use crate::design::Design;
 use crate::effects::{allocates_line, dirties_line, hit_outcome, passing_outcome, placing_outcome};
 use crate::outcome::{Outcome, Slot};
 use crate::slot_order::SlotOrder;
 use crate::touched::TouchedSets;
+use block_index::BlockIndex;
 use trace_core::Ref;
 
 /// Makes one access.

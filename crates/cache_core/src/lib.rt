@@ -3,7 +3,6 @@
 #![tactic(auto)]
 
 pub mod arrival;
-mod block_index;
 pub mod cache;
 mod chosen_cache;
 mod chosen_policy;
@@ -24,7 +23,6 @@ pub mod powers;
 pub mod replacement;
 pub mod simulate;
 pub mod simulation;
-mod slot_lists;
 mod slot_order;
 pub mod stats;
 pub mod system;

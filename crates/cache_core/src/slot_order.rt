@@ -3,13 +3,13 @@
 ghost use Rattle.std.specs.Prelude.{◌≡◌, ◌≤◌, ◌<◌, ◌+◌, ◌*◌, ◌++◌, ◌∷◌, ◌^◌, [], Some, true, false};
 ghost use Rattle.std.specs.Prelude.{List, ℕ, length, replicate, slice_get, slice_set, IfOk};
 ghost use Rattle.std.specs.Prelude.{MatchOption};
-ghost use Rattle.cache_core.specs.SlotLists.{has_slot, is_listed};
+ghost use Rattle.block_index.specs.SlotLists.{has_slot, is_listed};
 ghost use Rattle.cache_core.specs.Rules.{rules, InFront};
 ghost use Rattle.cache_core.specs.internal.SlotOrder.{order_of, with_order, with_moved};
 ghost use Rattle.cache_core.specs.internal.SlotOrder.{with_next, victim_index, IsKept, orders};
 
 use crate::design::Repl;
-use crate::slot_lists::SlotLists;
+use block_index::SlotLists;
 use std::alloc::{AllocError, Global};
 use std::marker::Model;
 

@@ -2,8 +2,8 @@
 -- of those that are filled.
 use Rattle.std.specs.Prelude.{ℕ, ◌≡◌, ◌≤◌, ◌<◌, ◌+◌, ◌*◌, ◌^◌, ◌↔◌, Bool, true, false, List}
 use Rattle.std.specs.Prelude.{length, map, Option, None, slice_index_or, slice_set, unwrap_or}
-use Rattle.cache_core.specs.SlotLists.{has_slot, IsOnce}
-use Rattle.cache_core.specs.BlockIndex.{IndexValue, HasBlock, AreDifferent}
+use Rattle.block_index.specs.SlotLists.{has_slot, IsOnce}
+use Rattle.block_index.specs.BlockIndex.{IndexValue, HasBlock, AreDifferent}
 use Rattle.cache_core.specs.declared.outcome.Slot.{Slot}
 use Rattle.cache_core.specs.declared.design.Design.{Design}
 use Rattle.cache_core.specs.declared.design.Repl.{Repl}

@@ -2,7 +2,7 @@
 use Rattle.std.specs.Prelude.{ℕ, ◌≡◌, ◌≤◌, ◌+◌, ◌-◌, ◌*◌, ◌%◌, ◌^◌, List, [], ◌∷◌, ◌++◌, All}
 use Rattle.std.specs.Prelude.{length, map, slice_index_or, slice_set, remove}
 use Rattle.std.specs.List.{range_with_len}
-use Rattle.cache_core.specs.SlotLists.{SlotListsValue, index_of_slot}
+use Rattle.block_index.specs.SlotLists.{SlotListsValue, index_of_slot}
 use Rattle.cache_core.specs.declared.design.Repl.{Repl}
 use Rattle.cache_core.specs.declared.design.Repl.TheVariants.{Lru, Fifo, Random}
 use Rattle.cache_core.specs.Rules.{Place, InFront, InPlace, Victim, Last, Drawn}

@@ -46,10 +46,14 @@ returns-clause-counts c =
     ∙ ap (λ n. set (counts_of c.args.order.now.sets) c.args.set n) one)
 
 pub returns-clause-taken : goal.returns-clause-taken
-returns-clause-taken c = λ number. rw (c.add.ensures, c.fill_next-slot.ensures.order, order_same c.args.order.now.sets c.args.set (with_next (rules c.args.order.now.policy).placed c.fill_next-slot.result
-    (order_of c.args.order.now.sets c.args.set))
-    (in_sets c.args.design c.args.index.now c.args.dirty.now c.args.order.now
-    c.args.set c.requires.indexed c.requires.within))
+returns-clause-taken c = λ number. rw (
+  c.add.ensures,
+  c.fill_next-slot.ensures.order,
+  order_same c.args.order.now.sets c.args.set (with_next (rules c.args.order.now.policy).placed c.fill_next-slot.result
+      (order_of c.args.order.now.sets c.args.set))
+      (in_sets c.args.design c.args.index.now c.args.dirty.now c.args.order.now
+      c.args.set c.requires.indexed c.requires.within),
+)
     (more_taken c.args.design c.args.index.now c.args.dirty.now c.args.order.now
     c.args.set c.requires.indexed c.requires.within c.args.new.block c.requires.none
     (sym c.requires.set) c.requires.address c.args.new.dirty
@@ -58,10 +62,14 @@ returns-clause-taken c = λ number. rw (c.add.ensures, c.fill_next-slot.ensures.
     (order_of c.args.order.now.sets c.args.set)) c.requires.indexed.ways) number)
 
 pub returns-clause-sets : goal.returns-clause-sets
-returns-clause-sets c = rw (c.add.ensures, c.fill_next-slot.ensures.order, order_same c.args.order.now.sets c.args.set (with_next (rules c.args.order.now.policy).placed c.fill_next-slot.result
-    (order_of c.args.order.now.sets c.args.set))
-    (in_sets c.args.design c.args.index.now c.args.dirty.now c.args.order.now
-    c.args.set c.requires.indexed c.requires.within))
+returns-clause-sets c = rw (
+  c.add.ensures,
+  c.fill_next-slot.ensures.order,
+  order_same c.args.order.now.sets c.args.set (with_next (rules c.args.order.now.policy).placed c.fill_next-slot.result
+      (order_of c.args.order.now.sets c.args.set))
+      (in_sets c.args.design c.args.index.now c.args.dirty.now c.args.order.now
+      c.args.set c.requires.indexed c.requires.within),
+)
     (more_sets c.args.design c.args.index.now c.args.dirty.now c.args.order.now
     c.args.set c.requires.indexed c.requires.within c.args.new.block c.requires.none
     (sym c.requires.set) c.requires.address c.args.new.dirty

@@ -5,7 +5,7 @@ use Rattle.cache_core.specs.internal.Indexed.{counts_of, slot_at}
 use Rattle.cache_core.specs.Rules.{rules}
 use Rattle.cache_core.proofs.HeldLaw.{order_same, set_twice, get_same}
 use Rattle.std.proofs.Common.{get_or}
-use Rattle.cache_core.specs.BlockIndex.{HasBlock}
+use Rattle.block_index.specs.BlockIndex.{HasBlock}
 use Rattle.cache_core.proofs.IndexedLaw.{slot_block}
 use Rattle.cache_core.proofs.IndexedDeeds.{in_sets, leaving, leaving_in_blocks, leaving_in_marks, gone}
 use Rattle.cache_core.proofs.IndexedDeeds.{over_indexed, over_counts, over_taken, over_sets}
@@ -72,20 +72,33 @@ held c = sym (slot_block c.args.index.now c.args.dirty.now c.victim-slot.result 
     c.block.ensures)
 
 pub returns-clause-taken : goal.returns-clause-taken
-returns-clause-taken c = rw (c.add.ensures, c.remove.ensures, set_twice c.args.index.now.blocks c.victim-slot.result None (Some c.args.new.block), c.renew.ensures, order_same c.args.order.now.sets c.args.set (with_moved (rules c.args.order.now.policy).placed c.victim-slot.result
-    (order_of c.args.order.now.sets c.args.set))
-    (in_sets c.args.design c.args.index.now c.args.dirty.now c.args.order.now
-    c.args.set c.requires.indexed c.requires.within), held c)
+returns-clause-taken c = rw (
+  c.add.ensures,
+  c.remove.ensures,
+  set_twice c.args.index.now.blocks c.victim-slot.result None (Some c.args.new.block),
+  c.renew.ensures,
+  order_same c.args.order.now.sets c.args.set (with_moved (rules c.args.order.now.policy).placed c.victim-slot.result
+      (order_of c.args.order.now.sets c.args.set))
+      (in_sets c.args.design c.args.index.now c.args.dirty.now c.args.order.now
+      c.args.set c.requires.indexed c.requires.within),
+  held c,
+)
     (over_taken c.args.design c.args.index.now c.args.dirty.now c.args.order.now
     c.args.set c.requires.indexed c.requires.within c.args.new.block c.requires.none
     (sym c.requires.set) c.requires.address c.args.new.dirty
     c.victim-slot.result c.args.number c.requires.full c.victim-slot.ensures)
 
 pub returns-clause-sets : goal.returns-clause-sets
-returns-clause-sets c = rw (c.add.ensures, c.remove.ensures, set_twice c.args.index.now.blocks c.victim-slot.result None (Some c.args.new.block), c.renew.ensures, order_same c.args.order.now.sets c.args.set (with_moved (rules c.args.order.now.policy).placed c.victim-slot.result
-    (order_of c.args.order.now.sets c.args.set))
-    (in_sets c.args.design c.args.index.now c.args.dirty.now c.args.order.now
-    c.args.set c.requires.indexed c.requires.within))
+returns-clause-sets c = rw (
+  c.add.ensures,
+  c.remove.ensures,
+  set_twice c.args.index.now.blocks c.victim-slot.result None (Some c.args.new.block),
+  c.renew.ensures,
+  order_same c.args.order.now.sets c.args.set (with_moved (rules c.args.order.now.policy).placed c.victim-slot.result
+      (order_of c.args.order.now.sets c.args.set))
+      (in_sets c.args.design c.args.index.now c.args.dirty.now c.args.order.now
+      c.args.set c.requires.indexed c.requires.within),
+)
     (over_sets c.args.design c.args.index.now c.args.dirty.now c.args.order.now
     c.args.set c.requires.indexed c.requires.within c.args.new.block c.requires.none
     (sym c.requires.set) c.requires.address c.args.new.dirty

@@ -23,10 +23,13 @@ invariant_of-self-in-Random c =
     way_kept i.ways i.filled.items i.lists c.args.set i.policy c.self.invariant
     within c.in-Random.is c.index_mut.result.now c.index_mut.ensures.value
     (c.index_mut.result.now + 1)
-    (omega (arith, count_here i.ways i.filled.items i.lists c.args.set i.policy c.self.invariant
-    within c.index_mut.result.now c.index_mut.ensures.value,
-    subst (λ (v : OrderValue). length (order_of v.sets c.args.set) < v.ways) (sym c.self.view_is)
-    c.requires.room))
+    (omega (
+      arith,
+      count_here i.ways i.filled.items i.lists c.args.set i.policy c.self.invariant
+          within c.index_mut.result.now c.index_mut.ensures.value,
+      subst (λ (v : OrderValue). length (order_of v.sets c.args.set) < v.ways) (sym c.self.view_is)
+          c.requires.room,
+    ))
 
 pub returns-in-Random-clause-order : goal.returns-in-Random-clause-order
 returns-in-Random-clause-order c =

@@ -4,7 +4,7 @@ use Rattle.cache_core.specs.internal.SlotOrder.{OrderValue, order_of}
 use Rattle.std.specs.List.{range_with_len}
 use Rattle.std.specs.Prelude.{remove}
 use Rattle.std.proofs.Common.{◌≢◌}
-use Rattle.cache_core.specs.SlotLists.{index_of_slot}
+use Rattle.block_index.specs.SlotLists.{index_of_slot}
 use Rattle.cache_core.proofs.SlotRows.{slot_in}
 use Rattle.cache_core.proofs.SlotOrderDeeds.{in_some_list, popped_kept, popped_list, popped_sets}
 use Rattle.cache_core.proofs.SlotOrderDeeds.{way_kept, way_list, way_popped, few_ways, count_here}
@@ -63,23 +63,23 @@ returns-in-Lru c =
     rw (← c.self.view_is, c.remove.ensures) (
       remove (order_of i.lists.lists c.args.set)
           (index_of_slot c.unwrap-last.result (order_of i.lists.lists c.args.set)),
-        popped_list i.ways i.filled.items i.lists c.args.set i.policy c.self.invariant within
-            c.in-Lru.is c.index_mut.result.now c.unwrap-last.result c.index_mut.ensures.value
-            (λ q. c.if-count-eq0.false (sym (count_here i.ways i.filled.items i.lists c.args.set i.policy c.self.invariant
-    (subst (λ (v : OrderValue). c.args.set < length v.sets) (sym c.self.view_is)
-    c.requires)
-    c.index.result.now c.index.ensures) ∙ count_here i.ways i.filled.items i.lists c.args.set i.policy c.self.invariant
-    (subst (λ (v : OrderValue). c.args.set < length v.sets) (sym c.self.view_is)
-    c.requires) c.index_mut.result.now c.index_mut.ensures.value ∙ q)) last once,
-        ap (λ sets. record { policy = i.policy; ways = i.ways; sets = sets })
-            (popped_sets i.ways i.filled.items i.lists c.args.set i.policy c.self.invariant within
-            c.in-Lru.is c.index_mut.result.now c.unwrap-last.result c.index_mut.ensures.value
-            (λ q. c.if-count-eq0.false (sym (count_here i.ways i.filled.items i.lists c.args.set i.policy c.self.invariant
-    (subst (λ (v : OrderValue). c.args.set < length v.sets) (sym c.self.view_is)
-    c.requires)
-    c.index.result.now c.index.ensures) ∙ count_here i.ways i.filled.items i.lists c.args.set i.policy c.self.invariant
-    (subst (λ (v : OrderValue). c.args.set < length v.sets) (sym c.self.view_is)
-    c.requires) c.index_mut.result.now c.index_mut.ensures.value ∙ q)) last once),
+      popped_list i.ways i.filled.items i.lists c.args.set i.policy c.self.invariant within
+          c.in-Lru.is c.index_mut.result.now c.unwrap-last.result c.index_mut.ensures.value
+          (λ q. c.if-count-eq0.false (sym (count_here i.ways i.filled.items i.lists c.args.set i.policy c.self.invariant
+          (subst (λ (v : OrderValue). c.args.set < length v.sets) (sym c.self.view_is)
+          c.requires)
+          c.index.result.now c.index.ensures) ∙ count_here i.ways i.filled.items i.lists c.args.set i.policy c.self.invariant
+          (subst (λ (v : OrderValue). c.args.set < length v.sets) (sym c.self.view_is)
+          c.requires) c.index_mut.result.now c.index_mut.ensures.value ∙ q)) last once,
+      ap (λ sets. record { policy = i.policy; ways = i.ways; sets = sets })
+          (popped_sets i.ways i.filled.items i.lists c.args.set i.policy c.self.invariant within
+          c.in-Lru.is c.index_mut.result.now c.unwrap-last.result c.index_mut.ensures.value
+          (λ q. c.if-count-eq0.false (sym (count_here i.ways i.filled.items i.lists c.args.set i.policy c.self.invariant
+          (subst (λ (v : OrderValue). c.args.set < length v.sets) (sym c.self.view_is)
+          c.requires)
+          c.index.result.now c.index.ensures) ∙ count_here i.ways i.filled.items i.lists c.args.set i.policy c.self.invariant
+          (subst (λ (v : OrderValue). c.args.set < length v.sets) (sym c.self.view_is)
+          c.requires) c.index_mut.result.now c.index_mut.ensures.value ∙ q)) last once),
     )
 
 pub returns-in-Random : goal.returns-in-Random
@@ -93,9 +93,9 @@ returns-in-Random c =
     within c.index.result.now c.index.ensures in
     rw (← c.self.view_is, same) (
       range_with_len (c.args.set * i.ways) (c.index.result.now - 1),
-        way_list i.ways i.filled.items i.lists c.args.set i.policy c.self.invariant
-            within c.in-Random.is c.index.result.now c.index.ensures c.if-count-eq0.false,
-        ap (λ sets. record { policy = i.policy; ways = i.ways; sets = sets })
-            (way_popped i.ways i.filled.items i.lists c.args.set i.policy c.self.invariant
-            within c.in-Random.is c.index.result.now c.index.ensures),
+      way_list i.ways i.filled.items i.lists c.args.set i.policy c.self.invariant
+          within c.in-Random.is c.index.result.now c.index.ensures c.if-count-eq0.false,
+      ap (λ sets. record { policy = i.policy; ways = i.ways; sets = sets })
+          (way_popped i.ways i.filled.items i.lists c.args.set i.policy c.self.invariant
+          within c.in-Random.is c.index.result.now c.index.ensures),
     )

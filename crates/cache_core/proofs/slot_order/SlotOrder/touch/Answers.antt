@@ -1,6 +1,6 @@
 -- As many slots are filled.
 use Rattle.std.proofs.Common.{◌≡◌, ◌<◌, true, length, sym, subst, inl}
-use Rattle.cache_core.specs.SlotLists.{has_slot}
+use Rattle.block_index.specs.SlotLists.{has_slot}
 use Rattle.cache_core.specs.internal.SlotOrder.{OrderValue, order_of}
 use Rattle.cache_core.proofs.SlotOrderDeeds.{brought_kept}
 use Rattle.cache_core.proofs.slot_order.SlotOrder.touch.Goals as goal
