@@ -9,7 +9,6 @@ pub mod Lawful
 pub mod RandomNumberLemmas
 pub mod Addresses
 pub mod Slabs
-pub mod SlabSlots
 pub mod Lines
 pub mod SetLaw
 pub mod Visits

@@ -27,7 +27,6 @@ mod slot_order;
 pub mod stats;
 pub mod system;
 mod system_cache;
-mod to_front;
 pub mod touched;
 mod walk;
 
