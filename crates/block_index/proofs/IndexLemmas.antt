@@ -3,8 +3,9 @@ use Rattle.std.proofs.Common.{◌≡◌, ℕ, zero, suc, ◌+◌, ◌/◌, ◌<�
 use Rattle.std.proofs.Common.{true, false, cond, List, [], ◌∷◌, length, get_or, set, refl, sym, ◌∙◌}
 use Rattle.std.proofs.Common.{ap, subst, arith, length-set, get_or-set_same, get_or-set_other}
 use Rattle.std.specs.Prelude.{Option, Some, None, slice_get, replicate}
-use Rattle.std.proofs.lemmas.Bool.{cases_lt, cases_Bool, false≢true, false_from_ne_true}
+use Rattle.std.proofs.lemmas.Bool.{cases_Bool, false≢true, false_from_ne_true}
 use Rattle.std.proofs.lemmas.List.{set-get_or, length-replicate}
+use Rattle.std.proofs.lemmas.Option.{slice_get_within}
 use Rattle.block_index.specs.SlotLists.{SlotListsValue, has_slot, is_listed, list_at}
 use Rattle.block_index.specs.SlotLists.{with_first, without_slot, AreApart}
 use Rattle.block_index.specs.BlockIndex.{IndexValue, HasBlock, NoSlotHas, AreDifferent, chain_of}
@@ -32,22 +33,13 @@ unfolding blocks_listed
 length-listed lists a [] = refl
 length-listed lists a (x ∷ xs) = ap (λ n. suc n) (length-listed lists (suc a) xs)
 
-get-past : {X : Type 0} (xs : List X) (i : ℕ) (x : X) → length xs ≤ i → slice_get xs i ≡ Some x → ⊥
-get-past [] i x le e = cc
-get-past (y ∷ xs) zero x le e = absurd (omega arith)
-get-past (y ∷ xs) (suc i) x le e = get-past xs i x (omega arith) e
-
 module _ (lists : List (List ℕ)) (blocks : List ℕ) where
   abbrev blocks_of : List (Option ℕ)
   blocks_of = blocks_listed lists 0 blocks
 
   pub within-has : (s : ℕ) (o : Option ℕ) → slice_get blocks_of s ≡ Some o → s < length blocks
   within-has s o has =
-      elim (cases_lt s (length blocks)) [
-        | inl lt ↦ lt
-        | inr le ↦ absurd (get-past blocks_of s o (omega (arith, le, length-listed lists 0 blocks))
-            has)
-      ]
+      omega (arith, slice_get_within blocks_of s o has, length-listed lists 0 blocks)
 
   pub listed-has : (s b : ℕ) → slice_get blocks_of s ≡ Some (Some b) →
       (is_listed lists s ≡ true) × (get_or blocks s 0 ≡ b)
