@@ -8,7 +8,7 @@ use Rattle.std.proofs.lemmas.List.{set-get_or, length-replicate}
 use Rattle.std.proofs.lemmas.Option.{slice_get_within}
 use Rattle.block_index.specs.SlotLists.{SlotListsValue, has_slot, is_listed, list_at}
 use Rattle.block_index.specs.SlotLists.{with_first, without_slot, AreApart}
-use Rattle.block_index.specs.BlockIndex.{IndexValue, HasBlock, NoSlotHas, AreDifferent, chain_of}
+use Rattle.block_index.specs.BlockIndex.{IndexValue, HasBlock, NoSlotHas, AreDifferent, chain_of_block}
 use Rattle.block_index.specs.BlockIndex.{blocks_listed, IsIndexed}
 use Rattle.block_index.proofs.ListLemmas.{listed, listed-in, get-has}
 use Rattle.block_index.proofs.ChangeLemmas.{pushed_has, pushed_listed, pushed_same, not_in}
@@ -137,7 +137,7 @@ module _ {blocks : List ℕ} {v : SlotListsValue} (h : IsIndexed blocks v) where
   value = record { blocks = blocks_listed v.lists 0 blocks }
 
   abbrev chain : ℕ → ℕ
-  chain b = chain_of (length v.lists) b
+  chain b = chain_of_block (length v.lists) b
 
   pub are_different : AreDifferent value
   are_different s t b at_s at_t =
@@ -218,7 +218,7 @@ module _ {blocks : List ℕ} {v : SlotListsValue} (h : IsIndexed blocks v) where
           few = omega (arith, h.few, many);
           slots_are = h.slots_are ∙ sym many;
           chains_are = long ∙ h.chains_are ∙ ap (λ n. n / 2 + 1) (sym many);
-          filed = λ j t inside. ap (λ n. chain_of n (get_or (set blocks s b) t 0)) long
+          filed = λ j t inside. ap (λ n. chain_of_block n (get_or (set blocks s b) t 0)) long
               ∙ added_filed j t inside;
           different = added_different;
         }
@@ -236,7 +236,7 @@ module _ {blocks : List ℕ} {v : SlotListsValue} (h : IsIndexed blocks v) where
         few = h.few;
         slots_are = h.slots_are;
         chains_are = long ∙ h.chains_are;
-        filed = λ j t inside. ap (λ n. chain_of n (get_or blocks t 0)) long
+        filed = λ j t inside. ap (λ n. chain_of_block n (get_or blocks t 0)) long
             ∙ h.filed j t (removed_has v k s kl j t inside);
         different = λ t u in_t in_u. h.different t u (was t in_t) (was u in_u);
       }
