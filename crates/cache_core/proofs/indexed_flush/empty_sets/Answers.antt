@@ -1,5 +1,5 @@
 -- No slot is filled, and no set is listed.
-use Rattle.std.proofs.Common.{◌≡◌, ◌∙◌, ap}
+use Rattle.std.proofs.Common.{◌≡◌, ◌∙◌, ap, length}
 use Rattle.cache_core.specs.internal.SlotOrder.{OrderValue}
 use Rattle.cache_core.specs.internal.Indexed.{counts_of}
 use Rattle.cache_core.proofs.TouchedSets.{covers_none}
@@ -23,10 +23,14 @@ returns-clause-indexed c = elim c.match-listed.branch [
 
 pub returns-clause-touched : goal.returns-clause-touched
 returns-clause-touched c = elim c.match-listed.branch [
-  | in-Some w ↦ covers_none c.clear.new.self _ _ _ c.clear.ensures (rw w.order-is
+  | in-Some w ↦ covers_none c.clear.new.self _
+      (length c.args.order.now.sets) (counts_of c.match-listed.order.sets) c.clear.ensures
+      (rw w.order-is
       (flushed_counts c.args.order.now w.empty_listed-count.new.order
       w.empty_listed-count.ensures.empty))
-  | in-None w ↦ covers_none c.clear.new.self _ _ _ c.clear.ensures (rw w.order-is
+  | in-None w ↦ covers_none c.clear.new.self _
+      (length c.args.order.now.sets) (counts_of c.match-listed.order.sets) c.clear.ensures
+      (rw w.order-is
       (flushed_counts c.args.order.now w.empty_all-count.new.order
       w.empty_all-count.ensures.empty))
 ]
