@@ -308,3 +308,18 @@ module _ (d : Design) (index : IndexValue) (dirty : List Bool) (order : OrderVal
             (takes_in order.policy number d.geometry.e (slot_at index dirty)
             (slot_at more (set dirty s mark)) s xs
             (λ t differ. other_slot index dirty s (Some b) mark t differ) (unlisted k) room)
+
+-- a block is between the first slot of its set and the last, and each of these has one
+pub block_between : (d : Design) (index : IndexValue) (dirty : List Bool) (order : OrderValue)
+    (k : ℕ) → IsIndexed d index dirty order → (b s : ℕ) → k ≡ set_of_block d.geometry b →
+    HasBlock index s b → (k * d.geometry.e ≤ s) ×
+    (s < k * d.geometry.e + length (order_of order.sets k))
+block_between d index dirty order k i b s is h = (i.packed k s).0
+    (subst (λ (n : ℕ). has_slot s (order_of order.sets n) ≡ true) (sym is) (i.held.listed s b h))
+
+pub block_there : (d : Design) (index : IndexValue) (dirty : List Bool) (order : OrderValue)
+    (k : ℕ) → IsIndexed d index dirty order → (s : ℕ) → k * d.geometry.e ≤ s →
+    s < k * d.geometry.e + length (order_of order.sets k) → (b : ℕ) × HasBlock index s b
+block_there d index dirty order k i s le lt =
+    let h = i.held.holds k s ((i.packed k s).1 (le, lt)) in
+    (h.block, h.has)

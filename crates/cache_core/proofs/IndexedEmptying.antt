@@ -1,8 +1,11 @@
 -- The sets of a cache whose blocks are found by an index are emptied, slot by slot.
-use Rattle.std.proofs.Common.{◌≡◌, ◌≢◌, ℕ, zero, suc, ◌+◌, ◌<◌, ◌≤◌, Bool, true, false, cond, List, []}
+use Rattle.std.proofs.Common.{◌≡◌, ◌≢◌, ℕ, zero, suc, ◌+◌, ◌*◌, ◌<◌, ◌≤◌, Bool, true, false, cond, List, []}
 use Rattle.std.proofs.Common.{◌∷◌, ◌++◌, length, set, get_or, drop, replicate, refl, sym, ◌∙◌, ap, subst, arith, Some, None}
 use Rattle.std.proofs.Common.{length-set, map}
-use Rattle.std.proofs.lemmas.Bool.{false≢true}
+use Rattle.std.proofs.Common.{inl, inr}
+use Rattle.std.proofs.lemmas.Bool.{false≢true, cases_lt}
+use Rattle.std.proofs.lemmas.List.{drop_all}
+use Rattle.std.proofs.lemmas.List.Elements.{All-head}
 use Rattle.std.proofs.lemmas.List.Sums.{sum_by-set, sum_by-cons}
 use Rattle.std.proofs.lemmas.List.{length-map}
 use Rattle.std.proofs.lemmas.Option.{slice_get_within}
@@ -15,7 +18,7 @@ use Rattle.cache_core.specs.Order.{dirty_in, dirty_slots}
 use Rattle.cache_core.specs.internal.SlotOrder.{OrderValue, order_of, with_order}
 use Rattle.cache_core.specs.internal.Indexed.{slot_at, set_at, sets_at, counts_of, IsHeld, Holds}
 use Rattle.cache_core.specs.internal.Touched.{ListsFilled}
-use Rattle.cache_core.proofs.SlotRows.{in_here, in_other, in_cons, not_in_tail}
+use Rattle.cache_core.proofs.SlotRows.{same_or, in_here, in_other, in_cons, not_in_tail}
 use Rattle.cache_core.proofs.HeldLaw.{with_block, held_taken, by_set, order_same, order_other}
 use Rattle.cache_core.proofs.PolicySlots.{next_self, next_other}
 use Rattle.cache_core.proofs.IndexedLaw.{sets_written, sets_read}
@@ -177,3 +180,100 @@ all_counted g dirty first start index order count e none =
 pub listed_none : (sets : List (List ℕ)) → ListsFilled [] (counts_of sets) →
     (k : ℕ) → length (order_of sets k) ≡ 0
 listed_none sets l k = counted sets (counts_of sets) k refl ∙ l.others k refl
+
+-- another set stays empty
+pub still_empty : (order left : OrderValue) (k : ℕ) → k < length order.sets →
+    left ≡ with_order order k [] → ((j : ℕ) → j < k → length (order_of order.sets j) ≡ 0) →
+    (j : ℕ) → j < k + 1 → length (order_of left.sets j) ≡ 0
+still_empty order left k lt empty none j h =
+    subst (λ (ys : List (List ℕ)). length (order_of ys j) ≡ 0)
+    (sym (ap (λ (o : OrderValue). o.sets) empty))
+    (same_or (length (order_of (set order.sets k []) j) ≡ 0) j k
+    (λ q. ap (λ (n : ℕ). length (order_of (set order.sets k []) n)) q
+    ∙ ap (λ (xs : List ℕ). length xs) (order_same order.sets k [] lt))
+    (λ ne. ap (λ (xs : List ℕ). length xs) (order_other order.sets k [] lt j ne)
+    ∙ none j (omega (arith, h, ne))))
+
+-- at first nothing is emptied
+pub emptying_none : (g : GeometryValue) (dirty : List Bool) (index : IndexValue)
+    (order : OrderValue) → IsHeld g index order.sets →
+    ((k : ℕ) → length (order_of order.sets k) ≤ g.e) → Emptying g dirty index order index order 0
+emptying_none g dirty index order held few = record {
+  held = held;
+  slots = refl;
+  rest = refl;
+  sets = refl;
+  few = few;
+  counted = omega arith;
+}
+
+more_dirty : (xs : List Slot) (sets : List (List Slot)) →
+    dirty_slots (xs ∷ sets) ≡ dirty_in xs + dirty_slots sets
+more_dirty xs sets = sum_by-cons dirty_in xs sets
+
+-- how many slots can be dirty
+pub few_dirty : (index : IndexValue) (dirty : List Bool) (m : ℕ) (sets : List (List ℕ)) →
+    ((k : ℕ) → length (order_of sets k) ≤ m) → dirty_slots (sets_at index dirty sets)
+    ≤ m * length sets
+few_dirty index dirty m [] few = omega arith
+few_dirty index dirty m (xs ∷ sets) few = omega (
+  arith,
+  few 0,
+  dirty_few index dirty xs,
+  more_dirty (set_at index dirty xs) (sets_at index dirty sets),
+  few_dirty index dirty m sets (λ k. few (suc k)),
+)
+
+-- at the end all are
+pub all_emptied : (g : GeometryValue) (dirty : List Bool) (first : IndexValue)
+    (start : OrderValue) (index : IndexValue) (order : OrderValue) (count : ℕ) →
+    Emptying g dirty first start index order count →
+    ((k : ℕ) → length (order_of order.sets k) ≡ 0) →
+    order ≡ record start { sets = replicate (length start.sets) [] }
+all_emptied g dirty first start index order count e none =
+    e.rest ∙ ap (λ ys. record start { sets = ys })
+    (all_empty order.sets none ∙ ap (λ n. replicate n []) e.sets)
+
+-- no set from a number on is there
+past_all : (sets : List (List ℕ)) (k : ℕ) → length sets ≤ k → length (order_of sets k) ≡ 0
+past_all [] zero le = refl
+past_all [] (suc k) le = refl
+past_all (xs ∷ sets) zero le = absurd (omega (arith, le))
+past_all (xs ∷ sets) (suc k) le = past_all sets k (omega (arith, le))
+
+pub none_from : (sets : List (List ℕ)) (n : ℕ) → length sets ≤ n →
+    ((k : ℕ) → k < n → length (order_of sets k) ≡ 0) → (k : ℕ) → length (order_of sets k) ≡ 0
+none_from sets n le none k = elim (cases_lt k n) [
+  | inl lt ↦ none k lt
+  | inr ge ↦ past_all sets k (omega (arith, le, ge))
+]
+
+-- the listed sets that are still to come
+pub listed_start : (sets counts : List ℕ) → ListsFilled sets counts →
+    ListsFilled (drop 0 sets) counts
+listed_start sets counts l = l
+
+pub listed_within : (listed : List ℕ) (sets : List (List ℕ)) (i : ℕ) → i < length listed →
+    ListsFilled (drop i listed) (counts_of sets) → get_or listed i 0 < length sets
+listed_within listed sets i lt l = omega (
+  arith,
+  length-map sets (λ (order : List ℕ). length order),
+  All-head (λ j. j < length (counts_of sets)) (get_or listed i 0) (drop (i + 1) listed)
+      (next_listed listed (counts_of sets) i lt l).within,
+)
+
+pub still_listed : (listed : List ℕ) (order left : OrderValue) (i : ℕ) → i < length listed →
+    ListsFilled (drop i listed) (counts_of order.sets) →
+    left ≡ with_order order (get_or listed i 0) [] →
+    ListsFilled (drop (i + 1) listed) (counts_of left.sets)
+still_listed listed order left i lt l empty =
+    subst (λ (counts : List ℕ). ListsFilled (drop (i + 1) listed) counts)
+    (sym (ap (λ (o : OrderValue). counts_of o.sets) empty
+    ∙ counts_set order.sets (get_or listed i 0) []))
+    (emptied (get_or listed i 0) (drop (i + 1) listed) (counts_of order.sets)
+    (next_listed listed (counts_of order.sets) i lt l))
+
+pub listed_all : (listed : List ℕ) (sets : List (List ℕ)) (i : ℕ) → length listed ≤ i →
+    ListsFilled (drop i listed) (counts_of sets) → ListsFilled [] (counts_of sets)
+listed_all listed sets i le l =
+    subst (λ (xs : List ℕ). ListsFilled xs (counts_of sets)) (drop_all i listed le) l

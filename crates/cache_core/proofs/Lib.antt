@@ -66,3 +66,5 @@ pub mod SlotOrderDeeds
 pub mod IndexedPopping
 pub mod IndexedVisit
 pub mod IndexedFront
+pub mod IndexedAccess
+pub mod IndexedEmpty
