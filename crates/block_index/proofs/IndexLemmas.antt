@@ -9,7 +9,7 @@ use Rattle.std.proofs.lemmas.Option.{slice_get_within}
 use Rattle.block_index.specs.SlotLists.{SlotListsValue, has_slot, is_listed, list_at}
 use Rattle.block_index.specs.SlotLists.{with_first, without_slot, AreApart}
 use Rattle.block_index.specs.BlockIndex.{IndexValue, HasBlock, NoSlotHas, AreDifferent, chain_of_block}
-use Rattle.block_index.specs.BlockIndex.{blocks_listed, AreFiled}
+use Rattle.block_index.specs.BlockIndex.{blocks_listed, AreOnChains}
 use Rattle.block_index.proofs.ListLemmas.{listed, listed-in, get-has}
 use Rattle.block_index.proofs.ChangeLemmas.{pushed_has, pushed_listed, pushed_same, not_in}
 use Rattle.block_index.proofs.ChangeLemmas.{removed_has, removed_listed, removed_same}
@@ -132,7 +132,7 @@ get-none (y ∷ xs) (suc n) zero x at_n at_i = omega arith
 get-none (y ∷ xs) (suc n) (suc i) x at_n at_i =
     let lt = get-none xs n i x at_n at_i in omega arith
 
-module _ {blocks : List ℕ} {v : SlotListsValue} (h : AreFiled blocks v) where
+module _ {blocks : List ℕ} {v : SlotListsValue} (h : AreOnChains blocks v) where
   abbrev value : IndexValue
   value = record { blocks = blocks_listed v.lists 0 blocks }
 
@@ -211,7 +211,7 @@ module _ {blocks : List ℕ} {v : SlotListsValue} (h : AreFiled blocks v) where
           ]
         ]
 
-    pub added_indexed : AreFiled (set blocks s b) (with_first v k s)
+    pub added_indexed : AreOnChains (set blocks s b) (with_first v k s)
     added_indexed =
         let long = length-set v.lists k (s ∷ list_at v k) in
         let many = length-set blocks s b in record {
@@ -224,7 +224,7 @@ module _ {blocks : List ℕ} {v : SlotListsValue} (h : AreFiled blocks v) where
         }
 
   -- without the block of slot s
-  pub removed_indexed : (k s : ℕ) → k < length v.lists → AreFiled blocks (without_slot v k s)
+  pub removed_indexed : (k s : ℕ) → k < length v.lists → AreOnChains blocks (without_slot v k s)
   removed_indexed k s kl =
       let left : List ℕ = list_at (without_slot v k s) k in
       let long : length (without_slot v k s).lists ≡ length v.lists = length-set v.lists k _ in
@@ -256,7 +256,7 @@ none_blocks (suc n) lists a none =
     (none_blocks n lists (suc a) none)
 
 pub none_indexed : (n : ℕ) → n ≤ 2 ^ 22 →
-    AreFiled (replicate n 0) (record { slots = n; lists = replicate (n / 2 + 1) [] })
+    AreOnChains (replicate n 0) (record { slots = n; lists = replicate (n / 2 + 1) [] })
 none_indexed n few =
     let long = length-replicate {A = ℕ} n 0 in
     let m : ℕ = n / 2 + 1 in record {

@@ -30,7 +30,7 @@ blocks_listed lists s (b ∷ blocks) =
     (if is_listed lists s then Some b else None) ∷ blocks_listed lists (suc s) blocks
 
 -- each slot that has a block is on its chain, and no two have the same
-pub record AreFiled (blocks : List ℕ) (chains : SlotListsValue) : Type 0 where
+pub record AreOnChains (blocks : List ℕ) (chains : SlotListsValue) : Type 0 where
   pub few : length blocks ≤ 2 ^ 22
   pub slots_are : chains.slots ≡ length blocks
   pub chains_are : length chains.lists ≡ length blocks / 2 + 1

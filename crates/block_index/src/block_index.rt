@@ -21,13 +21,13 @@ pub struct BlockIndex {
 }
 
 impl Model for BlockIndex {
-    ghost use Rattle.block_index.specs.BlockIndex.{IndexValue, blocks_listed, AreFiled};
+    ghost use Rattle.block_index.specs.BlockIndex.{IndexValue, blocks_listed, AreOnChains};
 
     ghost Value = { IndexValue };
 
     ghost view = { λ x. record { blocks = blocks_listed x.chains.lists 0 x.blocks.items } };
 
-    ghost invariant = { λ x. AreFiled x.blocks.items x.chains };
+    ghost invariant = { λ x. AreOnChains x.blocks.items x.chains };
 }
 
 impl BlockIndex {

@@ -3,7 +3,7 @@ use Rattle.std.proofs.Common.{subst, arith, false}
 use Rattle.std.specs.Prelude.{slice_get}
 use Rattle.block_index.specs.SlotLists.{SlotListsValue, is_listed, with_first}
 use Rattle.block_index.specs.BlockIndex.{IndexValue, HasBlock, chain_of_block, blocks_listed}
-use Rattle.block_index.specs.BlockIndex.{AreFiled}
+use Rattle.block_index.specs.BlockIndex.{AreOnChains}
 use Rattle.block_index.proofs.IndexLemmas.{within-has, free-has, added_indexed, added_blocks}
 use Rattle.block_index.proofs.block_index.BlockIndex.add.Goals as goal
 use Rattle.block_index.proofs.block_index.BlockIndex.add.Goals.{After-chain_among-chain}
@@ -37,7 +37,7 @@ module _ (c : After-chain_among-chain) where
   free : is_listed lists c.args.slot ≡ false
   free = free-has lists blocks c.args.slot had
 
-  indexed : AreFiled (set blocks c.args.slot c.args.block)
+  indexed : AreOnChains (set blocks c.args.slot c.args.block)
       (with_first c.self.inside.chains chain c.args.slot)
   indexed =
       added_indexed c.self.invariant chain c.args.slot c.args.block list_in chain_is free slot_in
@@ -69,7 +69,7 @@ pub invariant_of-self : goal.invariant_of-self
 invariant_of-self c =
     let at = (goal.at.invariant_of-self c).After-chain_among-chain in
     let P : SlotListsValue → Type 0 =
-    λ v. AreFiled (set (blocks at) c.args.slot c.args.block) v in
+    λ v. AreOnChains (set (blocks at) c.args.slot c.args.block) v in
     subst P (sym c.push_front.ensures) (indexed at)
 
 pub returns : goal.returns

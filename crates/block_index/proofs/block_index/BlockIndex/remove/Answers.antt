@@ -3,7 +3,7 @@ use Rattle.std.proofs.Common.{sym, ap, subst, arith, true}
 use Rattle.std.specs.Prelude.{slice_get}
 use Rattle.std.proofs.lemmas.List.{get_or_read}
 use Rattle.block_index.specs.SlotLists.{SlotListsValue, has_slot, list_at}
-use Rattle.block_index.specs.BlockIndex.{IndexValue, chain_of_block, blocks_listed, AreFiled}
+use Rattle.block_index.specs.BlockIndex.{IndexValue, chain_of_block, blocks_listed, AreOnChains}
 use Rattle.block_index.proofs.IndexLemmas.{within-has, listed-has, on_chain, removed_indexed}
 use Rattle.block_index.proofs.IndexLemmas.{removed_blocks}
 use Rattle.block_index.proofs.block_index.BlockIndex.remove.Goals as goal
@@ -72,7 +72,7 @@ remove-requires-clause-listed c =
 pub invariant_of-self : goal.invariant_of-self
 invariant_of-self c =
     let at = (goal.at.invariant_of-self c).After-chain_among-chain in
-    let P : SlotListsValue → Type 0 = λ v. AreFiled (blocks at) v in
+    let P : SlotListsValue → Type 0 = λ v. AreOnChains (blocks at) v in
     subst P (sym c.remove.ensures)
     (removed_indexed c.self.invariant (chain at) c.args.slot (list_in at))
 
