@@ -10,7 +10,11 @@ pub invariant_of-result : goal.invariant_of-result
 invariant_of-result c =
     let made = made_ways c.in_ok-order.order c.name.result c.e.result c.args.geometry.e
     c.sets-sets.result c.in_ok-order.ensures c.e.ensures.value in (
-      new_indexed _ c.in_ok-index.index c.in_ok-dirty.dirty.items c.in_ok-order.order c.name.result
+      new_indexed (record {
+        geometry = c.args.geometry;
+        write = c.args.write;
+        allocate = c.args.allocate;
+      }) c.in_ok-index.index c.in_ok-dirty.dirty.items c.in_ok-order.order c.name.result
           c.sets-sets.result c.lines-lines.result c.lines-lines.ensures.limits c.sets-sets.ensures
           c.lines-lines.ensures.value c.in_ok-index.ensures (omega (arith, c.in_ok-dirty.ensures.len))
           made,
