@@ -5,7 +5,7 @@ use Rattle.std.proofs.Common.{arith, get_or-set_same, get_or-set_other}
 use Rattle.std.specs.List.{remove}
 use Rattle.std.proofs.lemmas.Bool.{cases_eq, ne_eqb, false_from_ne_true}
 use Rattle.block_index.specs.SlotLists.{SlotListsValue, has_slot, is_listed, index_of_slot, list_at}
-use Rattle.block_index.specs.SlotLists.{with_first, without_slot, IsOnce, AreApart}
+use Rattle.block_index.specs.SlotLists.{with_first, without_slot, AreOnce, AreApart}
 use Rattle.block_index.proofs.ListLemmas.{has-head, has-cases, has-remove, not-and-has, not-listed}
 use Rattle.block_index.proofs.ListLemmas.{once-remove, listed, listed-in, gone, same-has}
 
@@ -59,8 +59,8 @@ module _ (v : SlotListsValue) (k s : ℕ) (kl : k < length v.lists) where
         ]
       ];
       once = λ j.
-          let P : List ℕ → Type 0 = IsOnce in
-          let Q : ℕ → Type 0 = λ i. IsOnce (list_at (with_first v k s) i) in
+          let P : List ℕ → Type 0 = AreOnce in
+          let Q : ℕ → Type 0 = λ i. AreOnce (list_at (with_first v k s) i) in
           elim (cases_eq j k) [
             | inl e ↦ subst Q (sym e) (subst P (sym pushed_at)
                 (not-listed s v.lists k free, apart.once k))
@@ -98,8 +98,8 @@ module _ (v : SlotListsValue) (k s : ℕ) (kl : k < length v.lists) where
       one_list = λ i j t on_i on_j. apart.one_list i j t (removed_has i t on_i)
           (removed_has j t on_j);
       once = λ j.
-          let P : List ℕ → Type 0 = IsOnce in
-          let Q : ℕ → Type 0 = λ i. IsOnce (list_at (without_slot v k s) i) in
+          let P : List ℕ → Type 0 = AreOnce in
+          let Q : ℕ → Type 0 = λ i. AreOnce (list_at (without_slot v k s) i) in
           elim (cases_eq j k) [
             | inl e ↦ subst Q (sym e) (subst P (sym removed_at)
                 (once-remove (index_of_slot s (list_at v k)) (list_at v k) (apart.once k)))

@@ -3,11 +3,12 @@ use Rattle.std.proofs.Common.{◌≡◌, ℕ, zero, suc, ◌+◌, ◌/◌, ◌<�
 use Rattle.std.proofs.Common.{true, false, cond, List, [], ◌∷◌, length, get_or, set, refl, sym, ◌∙◌}
 use Rattle.std.proofs.Common.{ap, subst, arith, length-set, get_or-set_same, get_or-set_other}
 use Rattle.std.specs.Prelude.{Option, Some, None, slice_get, replicate}
-use Rattle.std.proofs.lemmas.Bool.{cases_lt, cases_Bool, false≢true, false_from_ne_true}
+use Rattle.std.proofs.lemmas.Bool.{cases_Bool, false≢true, false_from_ne_true}
 use Rattle.std.proofs.lemmas.List.{set-get_or, length-replicate}
+use Rattle.std.proofs.lemmas.Option.{slice_get_within}
 use Rattle.block_index.specs.SlotLists.{SlotListsValue, has_slot, is_listed, list_at}
 use Rattle.block_index.specs.SlotLists.{with_first, without_slot, AreApart}
-use Rattle.block_index.specs.BlockIndex.{IndexValue, HasBlock, NoSlotHas, AreDifferent, chain_of}
+use Rattle.block_index.specs.BlockIndex.{IndexValue, HasBlock, NoSlotHas, AreDifferent, chain_of_block}
 use Rattle.block_index.specs.BlockIndex.{blocks_listed, IsIndexed}
 use Rattle.block_index.proofs.ListLemmas.{listed, listed-in, get-has}
 use Rattle.block_index.proofs.ChangeLemmas.{pushed_has, pushed_listed, pushed_same, not_in}
@@ -32,22 +33,13 @@ unfolding blocks_listed
 length-listed lists a [] = refl
 length-listed lists a (x ∷ xs) = ap (λ n. suc n) (length-listed lists (suc a) xs)
 
-get-past : {X : Type 0} (xs : List X) (i : ℕ) (x : X) → length xs ≤ i → slice_get xs i ≡ Some x → ⊥
-get-past [] i x le e = cc
-get-past (y ∷ xs) zero x le e = absurd (omega arith)
-get-past (y ∷ xs) (suc i) x le e = get-past xs i x (omega arith) e
-
 module _ (lists : List (List ℕ)) (blocks : List ℕ) where
   abbrev blocks_of : List (Option ℕ)
   blocks_of = blocks_listed lists 0 blocks
 
   pub within-has : (s : ℕ) (o : Option ℕ) → slice_get blocks_of s ≡ Some o → s < length blocks
   within-has s o has =
-      elim (cases_lt s (length blocks)) [
-        | inl lt ↦ lt
-        | inr le ↦ absurd (get-past blocks_of s o (omega (arith, le, length-listed lists 0 blocks))
-            has)
-      ]
+      omega (arith, slice_get_within blocks_of s o has, length-listed lists 0 blocks)
 
   pub listed-has : (s b : ℕ) → slice_get blocks_of s ≡ Some (Some b) →
       (is_listed lists s ≡ true) × (get_or blocks s 0 ≡ b)
@@ -145,7 +137,7 @@ module _ {blocks : List ℕ} {v : SlotListsValue} (h : IsIndexed blocks v) where
   value = record { blocks = blocks_listed v.lists 0 blocks }
 
   abbrev chain : ℕ → ℕ
-  chain b = chain_of (length v.lists) b
+  chain b = chain_of_block (length v.lists) b
 
   pub are_different : AreDifferent value
   are_different s t b at_s at_t =
@@ -226,7 +218,7 @@ module _ {blocks : List ℕ} {v : SlotListsValue} (h : IsIndexed blocks v) where
           few = omega (arith, h.few, many);
           slots_are = h.slots_are ∙ sym many;
           chains_are = long ∙ h.chains_are ∙ ap (λ n. n / 2 + 1) (sym many);
-          filed = λ j t inside. ap (λ n. chain_of n (get_or (set blocks s b) t 0)) long
+          filed = λ j t inside. ap (λ n. chain_of_block n (get_or (set blocks s b) t 0)) long
               ∙ added_filed j t inside;
           different = added_different;
         }
@@ -244,7 +236,7 @@ module _ {blocks : List ℕ} {v : SlotListsValue} (h : IsIndexed blocks v) where
         few = h.few;
         slots_are = h.slots_are;
         chains_are = long ∙ h.chains_are;
-        filed = λ j t inside. ap (λ n. chain_of n (get_or blocks t 0)) long
+        filed = λ j t inside. ap (λ n. chain_of_block n (get_or blocks t 0)) long
             ∙ h.filed j t (removed_has v k s kl j t inside);
         different = λ t u in_t in_u. h.different t u (was t in_t) (was u in_u);
       }

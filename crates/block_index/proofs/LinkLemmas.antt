@@ -7,15 +7,15 @@ use Rattle.std.specs.List.{remove}
 use Rattle.std.proofs.lemmas.Bool.{cases_eq, false_from_ne_true, false≢true}
 use Rattle.std.proofs.lemmas.List.{get_or-drop, length-drop, length-replicate}
 use Rattle.block_index.specs.SlotLists.{SlotListsValue, has_slot, is_listed, index_of_slot, list_at}
-use Rattle.block_index.specs.SlotLists.{with_first, without_slot, IsOnce, IsPath}
-use Rattle.block_index.specs.SlotLists.{slots_from, lists_of, slot_of, AreLinked}
+use Rattle.block_index.specs.SlotLists.{with_first, without_slot, AreOnce, IsPath}
+use Rattle.block_index.specs.SlotLists.{linked_slots, linked_lists, slot_at_node, AreLinked}
 use Rattle.block_index.proofs.ListLemmas.{has-head, has-behind, has-cases, not-both}
 use Rattle.block_index.proofs.ListLemmas.{not-and-has, not-listed, lists-of_each}
 use Rattle.block_index.proofs.ListLemmas.{length-le_slots}
 use Rattle.block_index.proofs.ChangeLemmas.{pushed_at, pushed_other, pushed_apart, removed_at}
 use Rattle.block_index.proofs.ChangeLemmas.{removed_other, removed_apart}
 use Rattle.block_index.proofs.PathLemmas.{back, forth, back_and_forth, after_on, before_on}
-use Rattle.block_index.proofs.PathLemmas.{path_kept, slots_from-path, pushed_path, removed_path}
+use Rattle.block_index.proofs.PathLemmas.{path_kept, linked_slots-path, pushed_path, removed_path}
 use Rattle.block_index.proofs.PathLemmas.{before_pushed, after_pushed, path_first, path_last, path_next}
 
 empty_at : (n k : ℕ) → get_or {A = List ℕ} (replicate n []) k [] ≡ []
@@ -30,13 +30,13 @@ none_has n k s inside =
 
 module _ {before after : List ℕ} {v : SlotListsValue} (h : AreLinked before after v) where
   -- the lists are those that are read off the links
-  pub read_off : lists_of after v.slots ≡ v
+  pub read_off : linked_lists after v.slots ≡ v
   read_off =
       let made : List (List ℕ) → SlotListsValue = λ ls. record { slots = v.slots; lists = ls } in
-      ap made (lists-of_each (slots_from after v.slots v.slots) (drop v.slots after) v.lists
+      ap made (lists-of_each (linked_slots after v.slots v.slots) (drop v.slots after) v.lists
       (omega (arith, length-drop v.slots after, h.after_long))
-      (λ k lt. ap (slots_from after v.slots v.slots) (get_or-drop v.slots after k 0)
-      ∙ slots_from-path before after v.slots v.slots (v.slots + k) (list_at v k) (v.slots + k)
+      (λ k lt. ap (linked_slots after v.slots v.slots) (get_or-drop v.slots after k 0)
+      ∙ linked_slots-path before after v.slots v.slots (v.slots + k) (list_at v k) (v.slots + k)
       (h.paths k lt) (h.apart.below k) (omega arith)
       (length-le_slots (list_at v k) v.slots (h.apart.once k) (h.apart.below k))))
 
@@ -68,20 +68,20 @@ module _ {before after : List ℕ} {v : SlotListsValue} (h : AreLinked before af
 
   -- what the calls that read return
   pub list_first : (k : ℕ) → k < length v.lists →
-      slot_of v.slots (get_or after (v.slots + k) 0) ≡ slice_get (list_at v k) 0
+      slot_at_node v.slots (get_or after (v.slots + k) 0) ≡ slice_get (list_at v k) 0
   list_first k kl =
       path_first before after v.slots (v.slots + k) (list_at v k) (v.slots + k) (h.paths k kl)
       (h.apart.below k) (omega arith)
 
   pub list_last : (k : ℕ) → k < length v.lists →
-      slot_of v.slots (get_or before (v.slots + k) 0) ≡ slice_get (list_at v k)
+      slot_at_node v.slots (get_or before (v.slots + k) 0) ≡ slice_get (list_at v k)
       (length (list_at v k) - 1)
   list_last k kl =
       path_last before after v.slots (v.slots + k) (list_at v k) (v.slots + k) (h.paths k kl)
       (h.apart.below k) (omega arith)
 
   pub list_next : (k s : ℕ) → k < length v.lists → has_slot s (list_at v k) ≡ true →
-      slot_of v.slots (get_or after s 0) ≡ slice_get (list_at v k)
+      slot_at_node v.slots (get_or after s 0) ≡ slice_get (list_at v k)
       (index_of_slot s (list_at v k) + 1)
   list_next k s kl inside =
       path_next before after v.slots (v.slots + k) (list_at v k) (v.slots + k) s (h.paths k kl)
@@ -246,7 +246,7 @@ module _ {before after : List ℕ} {v : SlotListsValue} (h : AreLinked before af
 
 -- the same where the links were read into variables
 pub linked_again : {before after : List ℕ} {v : SlotListsValue} → AreLinked before after v →
-    AreLinked before after (lists_of after v.slots)
+    AreLinked before after (linked_lists after v.slots)
 linked_again {before} {after} h =
     let P : SlotListsValue → Type 0 = λ w. AreLinked before after w in
     subst P (sym (read_off h)) h
@@ -287,6 +287,6 @@ none_linked slots lists nodes few long own =
       apart = record {
         below = λ k s inside. absurd (none_has lists k s inside);
         one_list = λ j k s inside _. absurd (none_has lists j s inside);
-        once = λ k. let P : List ℕ → Type 0 = IsOnce in subst P (sym (empty_at lists k)) tt;
+        once = λ k. let P : List ℕ → Type 0 = AreOnce in subst P (sym (empty_at lists k)) tt;
       };
     }

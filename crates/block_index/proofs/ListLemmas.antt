@@ -7,7 +7,7 @@ use Rattle.std.specs.List.{remove, IsDistinct, AllByRecursion, list_any}
 use Rattle.std.proofs.lemmas.Bool.{ne_eqb, eqb-true, false≢true, cases_eq, or_cases}
 use Rattle.std.proofs.lemmas.Bool.{or_right, or_parts, or_from, or_left, false_from_ne_true}
 use Rattle.std.proofs.lemmas.Map.Steps.{length-le_from_distinct_below}
-use Rattle.block_index.specs.SlotLists.{has_slot, is_listed, index_of_slot, IsOnce}
+use Rattle.block_index.specs.SlotLists.{has_slot, is_listed, index_of_slot, AreOnce}
 
 pub has-head : (s : ℕ) (xs : List ℕ) → has_slot s (s ∷ xs) ≡ true
 has-head s xs = or_left (eqb s s) (has_slot s xs) (eq-eqb s s refl)
@@ -56,7 +56,7 @@ has-get s [] i at = absurd (cc)
 has-get s (x ∷ xs) zero at = let e : x ≡ s = cc in has-here s x xs e
 has-get s (x ∷ xs) (suc i) at = has-behind s x xs (has-get s xs i at)
 
-pub index-at : (s : ℕ) (xs : List ℕ) (i : ℕ) → IsOnce xs → slice_get xs i ≡ Some s →
+pub index-at : (s : ℕ) (xs : List ℕ) (i : ℕ) → AreOnce xs → slice_get xs i ≡ Some s →
     index_of_slot s xs ≡ i
 index-at s [] i once at = absurd (cc)
 index-at s (x ∷ xs) zero once at = let e : x ≡ s = cc in index-here s x xs e
@@ -89,13 +89,13 @@ pub not-remove : (s i : ℕ) (xs : List ℕ) → has_slot s xs ≡ false → has
 not-remove s i xs absent =
     false_from_ne_true (has_slot s (remove xs i)) (λ inside. not-and-has s xs absent (has-remove s i xs inside))
 
-pub once-remove : (i : ℕ) (xs : List ℕ) → IsOnce xs → IsOnce (remove xs i)
+pub once-remove : (i : ℕ) (xs : List ℕ) → AreOnce xs → AreOnce (remove xs i)
 once-remove zero [] once = tt
 once-remove (suc i) [] once = tt
 once-remove zero (x ∷ xs) once = once.1
 once-remove (suc i) (x ∷ xs) once = (not-remove x i xs once.0, once-remove i xs once.1)
 
-pub gone : (s : ℕ) (xs : List ℕ) → IsOnce xs → has_slot s (remove xs (index_of_slot s xs)) ≡ false
+pub gone : (s : ℕ) (xs : List ℕ) → AreOnce xs → has_slot s (remove xs (index_of_slot s xs)) ≡ false
 gone s [] once = refl
 gone s (x ∷ xs) once =
     let P : ℕ → Type 0 = λ i. has_slot s (remove (x ∷ xs) i) ≡ false in
@@ -162,7 +162,7 @@ all-other x (y ∷ xs) absent = (
   all-other x xs (not-tail x y xs absent),
 )
 
-distinct : (xs : List ℕ) → IsOnce xs → IsDistinct eqb xs
+distinct : (xs : List ℕ) → AreOnce xs → IsDistinct eqb xs
 unfolding IsDistinct
 distinct [] once = tt
 distinct (x ∷ xs) once = (all-other x xs once.0, distinct xs once.1)
@@ -175,7 +175,7 @@ has-any q (x ∷ xs) h =
       | inr e ↦ has-behind q x xs (has-any q xs e)
     ]
 
-pub length-le_slots : (xs : List ℕ) (slots : ℕ) → IsOnce xs →
+pub length-le_slots : (xs : List ℕ) (slots : ℕ) → AreOnce xs →
     ((s : ℕ) → has_slot s xs ≡ true → s < slots) → length xs ≤ slots
 length-le_slots xs slots once below =
     length-le_from_distinct_below xs slots (distinct xs once) (λ q h. below q (has-any q xs h))

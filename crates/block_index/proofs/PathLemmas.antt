@@ -5,8 +5,8 @@ use Rattle.std.proofs.Common.{arith, length-set, get_or-set_same, get_or-set_oth
 use Rattle.std.specs.Prelude.{slice_get, Some, None}
 use Rattle.std.specs.List.{remove}
 use Rattle.std.proofs.lemmas.Bool.{cases_eq, lt-ltb, le-ltb, cond-true, cond-false}
-use Rattle.block_index.specs.SlotLists.{has_slot, index_of_slot, IsOnce, IsLink, IsPath}
-use Rattle.block_index.specs.SlotLists.{slots_from, slot_of}
+use Rattle.block_index.specs.SlotLists.{has_slot, index_of_slot, AreOnce, IsLink, IsPath}
+use Rattle.block_index.specs.SlotLists.{linked_slots, slot_at_node}
 use Rattle.block_index.proofs.ListLemmas.{has-head, has-here, has-behind, has-cases, has-other}
 use Rattle.block_index.proofs.ListLemmas.{not-head, not-tail, not-both, not-and-has, index-here}
 use Rattle.block_index.proofs.ListLemmas.{index-behind}
@@ -94,28 +94,28 @@ module _ (before after : List ℕ) where
       ]
 
   -- the list of a path is read off the links
-  pub slots_from-path : (slots n a : ℕ) (xs : List ℕ) (b : ℕ) → IsPath before after a xs b →
+  pub linked_slots-path : (slots n a : ℕ) (xs : List ℕ) (b : ℕ) → IsPath before after a xs b →
       ((s : ℕ) → has_slot s xs ≡ true → s < slots) → slots ≤ b → length xs ≤ n
-      → slots_from after slots n (get_or after a 0) ≡ xs
-  unfolding slots_from
-  slots_from-path slots zero a [] b l below le long = refl
-  slots_from-path slots (suc n) a [] b l below le long =
+      → linked_slots after slots n (get_or after a 0) ≡ xs
+  unfolding linked_slots
+  linked_slots-path slots zero a [] b l below le long = refl
+  linked_slots-path slots (suc n) a [] b l below le long =
       let m : ℕ = get_or after a 0 in
-      cond-false (ltb m slots) (m ∷ slots_from after slots n (get_or after m 0)) []
+      cond-false (ltb m slots) (m ∷ linked_slots after slots n (get_or after m 0)) []
       (le-ltb m slots (omega (arith, l.after_is, le)))
-  slots_from-path slots zero a (x ∷ xs) b path below le long = absurd (omega (arith, long))
-  slots_from-path slots (suc n) a (x ∷ xs) b (l, path) below le long =
+  linked_slots-path slots zero a (x ∷ xs) b path below le long = absurd (omega (arith, long))
+  linked_slots-path slots (suc n) a (x ∷ xs) b (l, path) below le long =
       let m : ℕ = get_or after a 0 in
-      cond-true (ltb m slots) (m ∷ slots_from after slots n (get_or after m 0)) []
+      cond-true (ltb m slots) (m ∷ linked_slots after slots n (get_or after m 0)) []
       (lt-ltb m slots (omega (arith, l.after_is, below x (has-head x xs))))
-      ∙ ap (λ i. i ∷ slots_from after slots n (get_or after i 0)) l.after_is
-      ∙ ap (λ t. x ∷ t) (slots_from-path slots n x xs b path
+      ∙ ap (λ i. i ∷ linked_slots after slots n (get_or after i 0)) l.after_is
+      ∙ ap (λ t. x ∷ t) (linked_slots-path slots n x xs b path
       (λ s h. below s (has-behind s x xs h)) le (omega (arith, long)))
 
   module _ (slots : ℕ) where
     pub path_first : (a : ℕ) (xs : List ℕ) (b : ℕ) → IsPath before after a xs b →
         ((s : ℕ) → has_slot s xs ≡ true → s < slots) → slots ≤ b
-        → slot_of slots (get_or after a 0) ≡ slice_get xs 0
+        → slot_at_node slots (get_or after a 0) ≡ slice_get xs 0
     path_first a [] b l below le =
         let m : ℕ = get_or after a 0 in
         cond-false (ltb m slots) (Some m) None (le-ltb m slots (omega (arith, l.after_is, le)))
@@ -132,7 +132,7 @@ module _ (before after : List ℕ) where
 
     pub path_last : (a : ℕ) (xs : List ℕ) (b : ℕ) → IsPath before after a xs b →
         ((s : ℕ) → has_slot s xs ≡ true → s < slots) → slots ≤ a
-        → slot_of slots (get_or before b 0) ≡ slice_get xs (length xs - 1)
+        → slot_at_node slots (get_or before b 0) ≡ slice_get xs (length xs - 1)
     path_last a [] b l below le =
         let m : ℕ = get_or before b 0 in
         cond-false (ltb m slots) (Some m) None (le-ltb m slots (omega (arith, l.before_is, le)))
@@ -145,7 +145,7 @@ module _ (before after : List ℕ) where
 
     pub path_next : (a : ℕ) (xs : List ℕ) (b s : ℕ) → IsPath before after a xs b →
         ((t : ℕ) → has_slot t xs ≡ true → t < slots) → slots ≤ b → has_slot s xs ≡ true
-        → slot_of slots (get_or after s 0) ≡ slice_get xs (index_of_slot s xs + 1)
+        → slot_at_node slots (get_or after s 0) ≡ slice_get xs (index_of_slot s xs + 1)
     path_next a [] b s l below le h = absurd (cc)
     path_next a (x ∷ xs) b s (l, path) below le h =
         let below' : (t : ℕ) → has_slot t xs ≡ true → t < slots =
@@ -153,7 +153,7 @@ module _ (before after : List ℕ) where
         elim (cases_eq x s) [
           | inl e ↦
               let i : index_of_slot s (x ∷ xs) + 1 ≡ 1 = omega (arith, index-here s x xs e) in
-              ap (λ n. slot_of slots (get_or after n 0)) (sym e) ∙
+              ap (λ n. slot_at_node slots (get_or after n 0)) (sym e) ∙
               path_first x xs b path below' le ∙ sym (ap (slice_get (x ∷ xs)) i)
           | inr ne ↦
               let i : index_of_slot s (x ∷ xs) + 1 ≡ suc (index_of_slot s xs + 1) =
@@ -189,7 +189,7 @@ module _ (before after : List ℕ) (h s : ℕ) where
     }
 
     pub pushed_path : (xs : List ℕ) → IsPath before after h xs h → has_slot s xs ≡ false →
-        has_slot h xs ≡ false → IsOnce xs → IsPath before_pushed after_pushed h (s ∷ xs) h
+        has_slot h xs ≡ false → AreOnce xs → IsPath before_pushed after_pushed h (s ∷ xs) h
     pushed_path [] l ns nh once =
         let P : ℕ → Type 0 = λ n. IsLink before_pushed after_pushed s n in (
           link_front (λ e. other (sym (e ∙ l.after_is))),
@@ -224,7 +224,7 @@ module _ (before after : List ℕ) (p q s : ℕ) (p_is : get_or before s 0 ≡ p
       }
 
   spliced : (xs : List ℕ) (b : ℕ) → IsPath before after s xs b → has_slot p xs ≡ false →
-      has_slot b xs ≡ false → IsOnce xs → IsPath (set before q p) (set after p q) p xs b
+      has_slot b xs ≡ false → AreOnce xs → IsPath (set before q p) (set after p q) p xs b
   spliced [] b l np nb once = link_across b (sym q_is ∙ l.after_is)
   spliced (x ∷ xs) b (l, path) np nb once =
       let e : q ≡ x = sym q_is ∙ l.after_is in
@@ -236,7 +236,7 @@ module _ (before after : List ℕ) (p q s : ℕ) (p_is : get_or before s 0 ≡ p
       )
 
   pub removed_path : (a : ℕ) (xs : List ℕ) (b : ℕ) → IsPath before after a xs b →
-      has_slot a xs ≡ false → has_slot b xs ≡ false → IsOnce xs → has_slot s xs ≡ true
+      has_slot a xs ≡ false → has_slot b xs ≡ false → AreOnce xs → has_slot s xs ≡ true
       → IsPath (set before q p) (set after p q) a (remove xs (index_of_slot s xs)) b
   removed_path a [] b l na nb once has = absurd (cc)
   removed_path a (x ∷ xs) b (l, path) na nb once has =

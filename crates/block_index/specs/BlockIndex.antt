@@ -20,8 +20,8 @@ abbrev pub AreDifferent : IndexValue → Type 0
 AreDifferent v = (s t b : ℕ) → HasBlock v s b → HasBlock v t b → s ≡ t
 
 -- the chain of block b among n
-abbrev pub chain_of : ℕ → ℕ → ℕ
-chain_of n b = b * 0x9E37_79B9_7F4A_7C15 % 2 ^ 64 / 2 ^ 32 * n / 2 ^ 32
+abbrev pub chain_of_block : ℕ → ℕ → ℕ
+chain_of_block n b = b * 0x9E37_79B9_7F4A_7C15 % 2 ^ 64 / 2 ^ 32 * n / 2 ^ 32
 
 -- of each slot from s on the block, if it is in a list
 unfoldable pub blocks_listed : List (List ℕ) → ℕ → List ℕ → List (Option ℕ)
@@ -35,6 +35,6 @@ pub record IsIndexed (blocks : List ℕ) (chains : SlotListsValue) : Type 0 wher
   pub slots_are : chains.slots ≡ length blocks
   pub chains_are : length chains.lists ≡ length blocks / 2 + 1
   pub filed : (k s : ℕ) → has_slot s (list_at chains k) ≡ true →
-      chain_of (length chains.lists) (slice_index blocks s) ≡ k
+      chain_of_block (length chains.lists) (slice_index blocks s) ≡ k
   pub different : (s t : ℕ) → is_listed chains.lists s ≡ true → is_listed chains.lists t ≡ true →
       slice_index blocks s ≡ slice_index blocks t → s ≡ t

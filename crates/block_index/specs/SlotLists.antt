@@ -37,20 +37,20 @@ without_slot v k s = record v {
 }
 
 -- no slot is twice in a list
-abbrev pub IsOnce : List ℕ → Type 0
-IsOnce [] = Unit {0}
-IsOnce (s ∷ xs) = (has_slot s xs ≡ false) × IsOnce xs
+abbrev pub AreOnce : List ℕ → Type 0
+AreOnce [] = Unit {0}
+AreOnce (s ∷ xs) = (has_slot s xs ≡ false) × AreOnce xs
 
 -- each slot of a list is below `slots`, and no slot is listed twice
 pub record AreApart (v : SlotListsValue) : Type 0 where
   pub below : (k s : ℕ) → has_slot s (list_at v k) ≡ true → s < v.slots
   pub one_list : (j k s : ℕ) → has_slot s (list_at v j) ≡ true → has_slot s (list_at v k) ≡ true →
       j ≡ k
-  pub once : (k : ℕ) → IsOnce (list_at v k)
+  pub once : (k : ℕ) → AreOnce (list_at v k)
 
 -- a node, if it is a slot
-abbrev pub slot_of : ℕ → ℕ → Option ℕ
-slot_of slots node = if nat_lt node slots then Some node else None
+abbrev pub slot_at_node : ℕ → ℕ → Option ℕ
+slot_at_node slots node = if nat_lt node slots then Some node else None
 
 -- node b is the one after node a
 pub record IsLink (before after : List ℕ) (a b : ℕ) : Type 0 where
@@ -63,16 +63,16 @@ IsPath before after a [] b = IsLink before after a b
 IsPath before after a (s ∷ xs) b = IsLink before after a s × IsPath before after s xs b
 
 -- node a and those after it, at most n, until one that is no slot
-unfoldable pub slots_from : List ℕ → ℕ → ℕ → ℕ → List ℕ
-slots_from after slots zero a = []
-slots_from after slots (suc n) a =
-    if nat_lt a slots then a ∷ slots_from after slots n (slice_index after a) else []
+unfoldable pub linked_slots : List ℕ → ℕ → ℕ → ℕ → List ℕ
+linked_slots after slots zero a = []
+linked_slots after slots (suc n) a =
+    if nat_lt a slots then a ∷ linked_slots after slots n (slice_index after a) else []
 
 -- the lists whose heads are the nodes behind the slots
-abbrev pub lists_of : List ℕ → ℕ → SlotListsValue
-lists_of after slots = record {
+abbrev pub linked_lists : List ℕ → ℕ → SlotListsValue
+linked_lists after slots = record {
   slots = slots;
-  lists = map (slots_from after slots slots) (drop slots after);
+  lists = map (linked_slots after slots slots) (drop slots after);
 }
 
 -- each list is a path from its head to its head

@@ -2,7 +2,7 @@
 ghost use Rattle.std.specs.Prelude.{◌≡◌, ◌*◌, ◌<◌, ◌≤◌, ◌^◌, ℕ, Some, None, length, replicate};
 ghost use Rattle.std.specs.Prelude.{slice_get, slice_set, IfOk, MatchOption};
 ghost use Rattle.block_index.specs.BlockIndex.{IndexValue, HasBlock, NoSlotHas, AreDifferent};
-ghost use Rattle.block_index.specs.BlockIndex.{chain_of};
+ghost use Rattle.block_index.specs.BlockIndex.{chain_of_block};
 
 use crate::slot_lists::SlotLists;
 use std::alloc::{AllocError, Global};
@@ -134,7 +134,7 @@ impl BlockIndex {
 fn chain_among(chains: usize, block: u64) -> usize
     requires some { 1 ≤ chains }
     requires few { chains ≤ 2 ^ 24 }
-    ensures is { result ≡ chain_of chains block }
+    ensures is { result ≡ chain_of_block chains block }
     ensures within { result < chains }
 {
     let mixed = block.wrapping_mul(0x9E37_79B9_7F4A_7C15) / 0x1_0000_0000;

@@ -3,7 +3,7 @@ ghost use Rattle.std.specs.Prelude.{◌≡◌, ◌+◌, ◌-◌, ◌<◌, ◌≤
 ghost use Rattle.std.specs.Prelude.{slice_get, IfOk};
 ghost use Rattle.std.specs.List.{range_with_len};
 ghost use Rattle.block_index.specs.SlotLists.{SlotListsValue, has_slot, is_listed, index_of_slot};
-ghost use Rattle.block_index.specs.SlotLists.{list_at, with_first, without_slot, AreApart, slot_of};
+ghost use Rattle.block_index.specs.SlotLists.{list_at, with_first, without_slot, AreApart, slot_at_node};
 
 use std::alloc::{AllocError, Global};
 use std::marker::Model;
@@ -19,14 +19,14 @@ pub struct SlotLists {
 }
 
 impl Model for SlotLists {
-    ghost use Rattle.block_index.specs.SlotLists.{SlotListsValue, lists_of, AreLinked};
+    ghost use Rattle.block_index.specs.SlotLists.{SlotListsValue, linked_lists, AreLinked};
 
     ghost Value = { SlotListsValue };
 
-    ghost view = { λ s. lists_of s.after.items s.slots };
+    ghost view = { λ s. linked_lists s.after.items s.slots };
 
     ghost invariant = { λ s. AreLinked s.before.items s.after.items
-        (lists_of s.after.items s.slots) };
+        (linked_lists s.after.items s.slots) };
 }
 
 impl SlotLists {
@@ -114,7 +114,7 @@ impl SlotLists {
 /// A node, if it is a slot.
 #[inline(always)]
 fn slot_at(node: u32, slots: usize) -> Option<usize>
-    ensures { result ≡ slot_of slots node }
+    ensures { result ≡ slot_at_node slots node }
 {
     if (node as usize) < slots {
         Some(node as usize)

@@ -2,7 +2,7 @@ use Rattle.std.proofs.Common.{◌≡◌, ◌+◌, ◌/◌, ◌<◌, ◌∙◌, �
 use Rattle.std.proofs.Common.{subst, arith, false}
 use Rattle.std.specs.Prelude.{slice_get}
 use Rattle.block_index.specs.SlotLists.{SlotListsValue, is_listed, with_first}
-use Rattle.block_index.specs.BlockIndex.{IndexValue, HasBlock, chain_of, blocks_listed}
+use Rattle.block_index.specs.BlockIndex.{IndexValue, HasBlock, chain_of_block, blocks_listed}
 use Rattle.block_index.specs.BlockIndex.{IsIndexed}
 use Rattle.block_index.proofs.IndexLemmas.{within-has, free-has, added_indexed, added_blocks}
 use Rattle.block_index.proofs.block_index.BlockIndex.add.Goals as goal
@@ -25,8 +25,8 @@ module _ (c : After-chain_among-chain) where
   list_in : chain < length lists
   list_in = omega (arith, c.chain_among-chain.ensures.within, chains_are)
 
-  chain_is : chain_of (length lists) c.args.block ≡ chain
-  chain_is = sym (c.chain_among-chain.ensures.is ∙ ap (λ n. chain_of n c.args.block) chains_are)
+  chain_is : chain_of_block (length lists) c.args.block ≡ chain
+  chain_is = sym (c.chain_among-chain.ensures.is ∙ ap (λ n. chain_of_block n c.args.block) chains_are)
 
   had : slice_get (blocks_listed lists 0 blocks) c.args.slot ≡ Some None
   had = ap (λ w. slice_get w.blocks c.args.slot) c.self.view_is ∙ c.requires.free

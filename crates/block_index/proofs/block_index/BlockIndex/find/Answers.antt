@@ -4,7 +4,7 @@ use Rattle.std.specs.Prelude.{slice_get}
 use Rattle.std.proofs.lemmas.Bool.{cases_eq}
 use Rattle.std.proofs.lemmas.List.{get_or_read}
 use Rattle.block_index.specs.SlotLists.{has_slot, index_of_slot, list_at}
-use Rattle.block_index.specs.BlockIndex.{IndexValue, HasBlock, chain_of}
+use Rattle.block_index.specs.BlockIndex.{IndexValue, HasBlock, chain_of_block}
 use Rattle.block_index.proofs.ListLemmas.{has-get, index-at}
 use Rattle.block_index.proofs.IndexLemmas.{off_chain, has_chain}
 use Rattle.block_index.proofs.block_index.BlockIndex.find.Goals as goal
@@ -42,7 +42,7 @@ returns-in_default c = λ s has.
     omega (arith, c.len.ensures, c.self.invariant.chains_are, c.self.inside.blocks.ok.0) in
     let P : IndexValue → Type 0 = λ w. HasBlock w s c.args.block in
     off_chain c.self.invariant c.args.block c.chain_among-chain.result c.loop-step.step s
-    (sym (c.chain_among-chain.ensures.is ∙ ap (λ n. chain_of n c.args.block) chains_are))
+    (sym (c.chain_among-chain.ensures.is ∙ ap (λ n. chain_of_block n c.args.block) chains_are))
     (sym c.loop-step.invariant.0 ∙ c.in_default.is)
     (λ i lt here. c.loop-step.invariant.1 i lt s here has) (subst P (sym c.self.view_is) has)
 

@@ -3,7 +3,7 @@ use Rattle.std.proofs.Common.{sym, ap, subst, arith, true}
 use Rattle.std.specs.Prelude.{slice_get}
 use Rattle.std.proofs.lemmas.List.{get_or_read}
 use Rattle.block_index.specs.SlotLists.{SlotListsValue, has_slot, list_at}
-use Rattle.block_index.specs.BlockIndex.{IndexValue, chain_of, blocks_listed, IsIndexed}
+use Rattle.block_index.specs.BlockIndex.{IndexValue, chain_of_block, blocks_listed, IsIndexed}
 use Rattle.block_index.proofs.IndexLemmas.{within-has, listed-has, on_chain, removed_indexed}
 use Rattle.block_index.proofs.IndexLemmas.{removed_blocks}
 use Rattle.block_index.proofs.block_index.BlockIndex.remove.Goals as goal
@@ -41,12 +41,12 @@ module _ (c : After-chain_among-chain) where
       get_or_read blocks c.args.slot c.index.result.now
       (within-has lists blocks c.args.slot (Some c.requires.0) had) c.index.ensures 0
 
-  chain_is : chain_of (length lists) c.requires.0 ≡ chain
+  chain_is : chain_of_block (length lists) c.requires.0 ≡ chain
   chain_is =
-      ap (chain_of (length lists))
+      ap (chain_of_block (length lists))
       (sym (listed-has lists blocks c.args.slot c.requires.0 had).1 ∙ sym read)
       ∙ sym (c.chain_among-chain.ensures.is ∙
-      ap (λ n. chain_of n c.index.result.now) chains_are)
+      ap (λ n. chain_of_block n c.index.result.now) chains_are)
 
   inside : has_slot c.args.slot (list_at c.self.inside.chains chain) ≡ true
   inside =

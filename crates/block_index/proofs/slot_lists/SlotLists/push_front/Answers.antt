@@ -1,6 +1,6 @@
 use Rattle.std.proofs.Common.{◌≡◌, ◌+◌, ◌<◌, ◌∙◌, ℕ, length, get_or, set, ap, arith}
 use Rattle.std.proofs.lemmas.List.{get_or_read}
-use Rattle.block_index.specs.SlotLists.{SlotListsValue, is_listed, list_at, with_first, lists_of}
+use Rattle.block_index.specs.SlotLists.{SlotListsValue, is_listed, list_at, with_first, linked_lists}
 use Rattle.block_index.specs.SlotLists.{AreLinked}
 use Rattle.block_index.proofs.ListLemmas.{has-head}
 use Rattle.block_index.proofs.LinkLemmas.{after_small, linked_again, pushed, read_off}
@@ -9,7 +9,7 @@ use Rattle.block_index.proofs.slot_lists.SlotLists.push_front.Goals.{After-index
 
 module _ (c : After-index-first) where
   abbrev view : SlotListsValue
-  view = lists_of c.self.inside.after.items c.self.inside.slots
+  view = linked_lists c.self.inside.after.items c.self.inside.slots
 
   abbrev head : ℕ
   head = c.self.inside.slots + c.args.list

@@ -1,6 +1,6 @@
 use Rattle.std.proofs.Common.{◌≡◌, ◌<◌, ◌∙◌, length, get_or, set, ap, arith, true}
 use Rattle.std.proofs.lemmas.List.{get_or_read}
-use Rattle.block_index.specs.SlotLists.{SlotListsValue, has_slot, list_at, without_slot, lists_of}
+use Rattle.block_index.specs.SlotLists.{SlotListsValue, has_slot, list_at, without_slot, linked_lists}
 use Rattle.block_index.specs.SlotLists.{AreLinked}
 use Rattle.block_index.proofs.LinkLemmas.{linked_again, removed, read_off, p_small, q_small}
 use Rattle.block_index.proofs.slot_lists.SlotLists.remove.Goals as goal
@@ -8,7 +8,7 @@ use Rattle.block_index.proofs.slot_lists.SlotLists.remove.Goals.{After-index-aft
 
 module _ (c : After-index-after) where
   abbrev view : SlotListsValue
-  view = lists_of c.self.inside.after.items c.self.inside.slots
+  view = linked_lists c.self.inside.after.items c.self.inside.slots
 
   list_in : c.args.list < length view.lists
   list_in = omega (arith, c.requires.list, ap (λ w. length w.lists) c.self.view_is)
