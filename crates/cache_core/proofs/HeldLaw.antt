@@ -5,7 +5,7 @@ use Rattle.std.proofs.Common.{◌∷◌, length, set, get_or, refl, sym, ◌∙�
 use Rattle.std.specs.Prelude.{slice_get, ◌↔◌}
 use Rattle.std.proofs.lemmas.Bool.{false≢true}
 use Rattle.std.proofs.lemmas.List.{get_or-set_other, get_or-set_same}
-use Rattle.block_index.specs.SlotLists.{has_slot, IsOnce}
+use Rattle.block_index.specs.SlotLists.{has_slot, AreOnce}
 use Rattle.block_index.specs.BlockIndex.{IndexValue, HasBlock, NoSlotHas}
 use Rattle.cache_core.specs.Geometry.{GeometryValue, set_of_block}
 use Rattle.cache_core.specs.internal.SlotOrder.{order_of}
@@ -93,7 +93,7 @@ module _ (g : GeometryValue) (index : IndexValue) (sets : List (List ℕ)) (k s 
     (held : IsHeld g index sets) (lt : k < length sets) (in_blocks : s < length index.blocks)
     (none : NoSlotHas index b) (own : set_of_block g b ≡ k) (address : b * 2 ^ g.b < 2 ^ 64)
     (apart_from : (j : ℕ) → j ≢ k → has_slot s (order_of sets j) ≡ false)
-    (once : IsOnce xs) (inside : has_slot s xs ≡ true)
+    (once : AreOnce xs) (inside : has_slot s xs ≡ true)
     (same : (t : ℕ) → t ≢ s → has_slot t xs ≡ has_slot t (order_of sets k)) where
   abbrev new : IndexValue
   new = with_block index s (Some b)
@@ -158,7 +158,7 @@ module _ (g : GeometryValue) (index : IndexValue) (sets : List (List ℕ)) (k s 
 
   pub held_put : IsHeld g new (set sets k xs)
   held_put = record {
-    once = by_set sets k xs lt (λ n ys. IsOnce ys) once (λ n ne. held.once n);
+    once = by_set sets k xs lt (λ n ys. AreOnce ys) once (λ n ne. held.once n);
     holds = put_holds;
     listed = put_listed;
     different = put_different;
@@ -166,11 +166,11 @@ module _ (g : GeometryValue) (index : IndexValue) (sets : List (List ℕ)) (k s 
 
 -- the order of a set changes, and its slots stay
 module _ (g : GeometryValue) (index : IndexValue) (sets : List (List ℕ)) (k : ℕ) (xs : List ℕ)
-    (held : IsHeld g index sets) (lt : k < length sets) (once : IsOnce xs)
+    (held : IsHeld g index sets) (lt : k < length sets) (once : AreOnce xs)
     (same : (t : ℕ) → has_slot t xs ≡ has_slot t (order_of sets k)) where
   pub held_moved : IsHeld g index (set sets k xs)
   held_moved = record {
-    once = by_set sets k xs lt (λ n ys. IsOnce ys) once (λ n ne. held.once n);
+    once = by_set sets k xs lt (λ n ys. AreOnce ys) once (λ n ne. held.once n);
     holds = λ j t. by_set sets k xs lt (λ n ys. has_slot t ys ≡ true → Holds g index n t)
         (λ i. held.holds k t (sym (same t) ∙ i)) (λ n ne i. held.holds n t i) j;
     listed = λ t c h. by_set sets k xs lt
@@ -182,7 +182,7 @@ module _ (g : GeometryValue) (index : IndexValue) (sets : List (List ℕ)) (k : 
 -- a slot loses its block, and leaves the order of its set
 module _ (g : GeometryValue) (index : IndexValue) (sets : List (List ℕ)) (k s : ℕ) (xs : List ℕ)
     (held : IsHeld g index sets) (lt : k < length sets) (in_blocks : s < length index.blocks)
-    (inside : has_slot s (order_of sets k) ≡ true) (once : IsOnce xs)
+    (inside : has_slot s (order_of sets k) ≡ true) (once : AreOnce xs)
     (gone : has_slot s xs ≡ false)
     (same : (t : ℕ) → t ≢ s → has_slot t xs ≡ has_slot t (order_of sets k)) where
   abbrev left : IndexValue
@@ -204,7 +204,7 @@ module _ (g : GeometryValue) (index : IndexValue) (sets : List (List ℕ)) (k s 
 
   pub held_taken : IsHeld g left (set sets k xs)
   held_taken = record {
-    once = by_set sets k xs lt (λ n ys. IsOnce ys) once (λ n ne. held.once n);
+    once = by_set sets k xs lt (λ n ys. AreOnce ys) once (λ n ne. held.once n);
     holds = λ j t. by_set sets k xs lt (λ n ys. has_slot t ys ≡ true → Holds g left n t)
         (λ i. same_or (Holds g left k t) t s
         (λ q. absurd (false≢true (sym gone ∙ subst (λ (u : ℕ). has_slot u xs ≡ true) q i)))

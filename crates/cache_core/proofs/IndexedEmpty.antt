@@ -4,7 +4,7 @@ use Rattle.std.proofs.Common.{get_or, replicate, refl, sym, ◌∙◌, ap, subst
 use Rattle.std.specs.Prelude.{slice_get, ◌↔◌}
 use Rattle.std.proofs.lemmas.Bool.{false≢true}
 use Rattle.std.proofs.lemmas.List.{length-map}
-use Rattle.block_index.specs.SlotLists.{has_slot, IsOnce}
+use Rattle.block_index.specs.SlotLists.{has_slot, AreOnce}
 use Rattle.block_index.specs.BlockIndex.{IndexValue, HasBlock}
 use Rattle.cache_core.specs.declared.outcome.Slot.{Slot}
 use Rattle.cache_core.specs.declared.design.Design.{Design}
@@ -47,7 +47,7 @@ none_held g index n lines none =
     let never : (s b : ℕ) → HasBlock index s b → ⊥ =
     (λ s b h. no_block lines s b (sym (ap (λ xs. slice_get xs s) none) ∙ h)) in
     record {
-      once = λ k. subst (λ (xs : List ℕ). IsOnce xs) (sym (none_at n k)) tt;
+      once = λ k. subst (λ (xs : List ℕ). AreOnce xs) (sym (none_at n k)) tt;
       holds = λ k s h. absurd (false≢true (sym (ap (has_slot s) (none_at n k)) ∙ h));
       listed = λ s b h. absurd (never s b h);
       different = λ s t b h i. absurd (never s b h);

@@ -9,7 +9,7 @@ use Rattle.std.proofs.lemmas.List.Elements.{All-head}
 use Rattle.std.proofs.lemmas.List.Sums.{sum_by-set, sum_by-cons}
 use Rattle.std.proofs.lemmas.List.{length-map}
 use Rattle.std.proofs.lemmas.Option.{slice_get_within}
-use Rattle.block_index.specs.SlotLists.{has_slot, IsOnce}
+use Rattle.block_index.specs.SlotLists.{has_slot, AreOnce}
 use Rattle.block_index.specs.BlockIndex.{IndexValue}
 use Rattle.cache_core.specs.declared.outcome.Slot.{Slot}
 use Rattle.cache_core.specs.Geometry.{GeometryValue}
@@ -65,8 +65,8 @@ dirty_few i dirty (x ∷ xs) = omega (
 )
 
 -- a list without its last slot
-pub once_pop : (xs : List ℕ) (s : ℕ) → IsOnce (xs ++ s ∷ []) →
-    (has_slot s xs ≡ false) × IsOnce xs
+pub once_pop : (xs : List ℕ) (s : ℕ) → AreOnce (xs ++ s ∷ []) →
+    (has_slot s xs ≡ false) × AreOnce xs
 once_pop [] s once = (refl, tt)
 once_pop (x ∷ xs) s once =
     let rest = once_pop xs s once.1 in
@@ -91,7 +91,7 @@ module _ (g : GeometryValue) (index : IndexValue) (sets : List (List ℕ)) (k s 
 
   pub pop_held : IsHeld g (with_block index s None) (set sets k rest)
   pop_held =
-      let once = once_pop rest s (subst (λ (xs : List ℕ). IsOnce xs) is (held.once k)) in
+      let once = once_pop rest s (subst (λ (xs : List ℕ). AreOnce xs) is (held.once k)) in
       held_taken g index sets k s rest held lt pop_within pop_inside once.1 once.0
       (λ t ne. sym (ap (has_slot t) is ∙ next_other InPlace s t rest (λ q. ne (sym q))))
 

@@ -7,7 +7,7 @@ use Rattle.std.specs.Prelude.{slice_get, remove, unwrap_or, ◌↔◌}
 use Rattle.std.proofs.lemmas.Bool.{false≢true}
 use Rattle.std.proofs.lemmas.List.{get_or-set_other, get_or-set_same}
 use Rattle.std.proofs.lemmas.Option.{get_or_from_slice_get, slice_get-get_or, slice_get_within}
-use Rattle.block_index.specs.SlotLists.{has_slot, index_of_slot, IsOnce}
+use Rattle.block_index.specs.SlotLists.{has_slot, index_of_slot, AreOnce}
 use Rattle.block_index.specs.BlockIndex.{IndexValue, HasBlock, NoSlotHas}
 use Rattle.cache_core.specs.declared.outcome.Slot.{Slot}
 use Rattle.cache_core.specs.declared.design.Design.{Design}
@@ -111,7 +111,7 @@ mark_other index dirty false s t ne = refl
 mark_other index dirty true s t ne = rw (get_or-set_other dirty s t true false ne) refl
 
 pub marked_set : (index : IndexValue) (dirty : List Bool) (mark : Bool) (s : ℕ) (xs : List ℕ) →
-    IsOnce xs → has_slot s xs ≡ true → s < length dirty →
+    AreOnce xs → has_slot s xs ≡ true → s < length dirty →
     with_dirty_at mark (set_at index dirty xs) (index_of_slot s xs)
     ≡ set_at index (with_mark mark dirty s) xs
 marked_set index dirty false s xs once i lt = refl

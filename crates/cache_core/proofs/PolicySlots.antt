@@ -5,7 +5,7 @@ use Rattle.std.proofs.Common.{length-append}
 use Rattle.std.specs.Prelude.{slice_get, remove}
 use Rattle.std.proofs.lemmas.Bool.{false≢true}
 use Rattle.std.proofs.lemmas.List.{length-map}
-use Rattle.block_index.specs.SlotLists.{has_slot, index_of_slot, IsOnce}
+use Rattle.block_index.specs.SlotLists.{has_slot, index_of_slot, AreOnce}
 use Rattle.cache_core.specs.declared.outcome.Slot.{Slot}
 use Rattle.cache_core.specs.declared.design.Repl.{Repl}
 use Rattle.cache_core.specs.Rules.{Place, InFront, InPlace, Victim, Last, Drawn, rules}
@@ -24,7 +24,7 @@ moved_in InFront s t xs i = same_or _ s t
     (λ ne. in_other t s (remove xs (index_of_slot s xs)) ne ∙ removed_other s t xs ne)
 moved_in InPlace s t xs i = refl
 
-pub moved_once : (p : Place) (s : ℕ) (xs : List ℕ) → IsOnce xs → IsOnce (with_moved p s xs)
+pub moved_once : (p : Place) (s : ℕ) (xs : List ℕ) → AreOnce xs → AreOnce (with_moved p s xs)
 moved_once InFront s xs once = (removed_self s xs once, once_remove (index_of_slot s xs) xs once)
 moved_once InPlace s xs once = once
 
@@ -42,7 +42,7 @@ push_other : (s t : ℕ) (xs : List ℕ) → s ≢ t → has_slot t (xs ++ s ∷
 push_other s t [] ne = in_other t s [] ne
 push_other s t (x ∷ xs) ne = ap (λ (b : Bool). eqb x t || b) (push_other s t xs ne)
 
-push_once : (s : ℕ) (xs : List ℕ) → has_slot s xs ≡ false → IsOnce xs → IsOnce (xs ++ s ∷ [])
+push_once : (s : ℕ) (xs : List ℕ) → has_slot s xs ≡ false → AreOnce xs → AreOnce (xs ++ s ∷ [])
 push_once s [] none once = (refl, tt)
 push_once s (x ∷ xs) none once = (
   push_other s x xs (λ q. false≢true (sym none
@@ -59,8 +59,8 @@ pub next_other : (p : Place) (s t : ℕ) (xs : List ℕ) → s ≢ t →
 next_other InFront s t xs ne = in_other t s xs ne
 next_other InPlace s t xs ne = push_other s t xs ne
 
-pub next_once : (p : Place) (s : ℕ) (xs : List ℕ) → has_slot s xs ≡ false → IsOnce xs →
-    IsOnce (with_next p s xs)
+pub next_once : (p : Place) (s : ℕ) (xs : List ℕ) → has_slot s xs ≡ false → AreOnce xs →
+    AreOnce (with_next p s xs)
 next_once InFront s xs none once = (none, once)
 next_once InPlace s xs none once = push_once s xs none once
 
@@ -111,7 +111,7 @@ takes_in policy number capacity f g s xs same none lt = (
 )
 
 exchanged : (p : Place) (f g : ℕ → Slot) (s : ℕ) (xs : List ℕ) →
-    ((t : ℕ) → t ≢ s → g t ≡ f t) → IsOnce xs → has_slot s xs ≡ true →
+    ((t : ℕ) → t ≢ s → g t ≡ f t) → AreOnce xs → has_slot s xs ≡ true →
     map g (with_moved p s xs) ≡ with_slot_at p (g s) (Some (index_of_slot s xs)) (map f xs)
 exchanged InFront f g s xs same once i =
     ap (λ ys. g s ∷ ys)
@@ -119,7 +119,7 @@ exchanged InFront f g s xs same once i =
     ∙ map_remove f xs (index_of_slot s xs))
 exchanged InPlace f g s xs same once i = map_changed f g s xs same once i
 
-victim_here : (v : Victim) (number : ℕ) (f : ℕ → Slot) (s : ℕ) (xs : List ℕ) → IsOnce xs →
+victim_here : (v : Victim) (number : ℕ) (f : ℕ → Slot) (s : ℕ) (xs : List ℕ) → AreOnce xs →
     slice_get xs (victim_index v number (length xs)) ≡ Some s →
     index_of_slot s xs ≡ victim_at v number (map f xs)
 victim_here Last number f s xs once e =
@@ -129,7 +129,7 @@ victim_here Drawn number f s xs once e =
 
 -- a slot of a full set whose block leaves for another one
 pub takes_over : (policy : Repl) (number capacity : ℕ) (f g : ℕ → Slot) (s : ℕ) (xs : List ℕ) →
-    ((t : ℕ) → t ≢ s → g t ≡ f t) → IsOnce xs → has_slot s xs ≡ true → length xs ≡ capacity →
+    ((t : ℕ) → t ≢ s → g t ≡ f t) → AreOnce xs → has_slot s xs ≡ true → length xs ≡ capacity →
     slice_get xs (victim_index (rules policy).victim number (length xs)) ≡ Some s →
     TakesIn (Some policy) number capacity (map f xs) (g s) (Some (f s))
     (map g (with_moved (rules policy).placed s xs))

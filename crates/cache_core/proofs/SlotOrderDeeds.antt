@@ -8,7 +8,7 @@ use Rattle.std.specs.Bool.{then_some}
 use Rattle.std.specs.List.{range_with_len}
 use Rattle.std.proofs.lemmas.List.{get_or_read, get_or-set_same}
 use Rattle.std.proofs.lemmas.Option.{slice_get_within}
-use Rattle.block_index.specs.SlotLists.{SlotListsValue, has_slot, index_of_slot, is_listed, AreApart, IsOnce, with_first, without_slot}
+use Rattle.block_index.specs.SlotLists.{SlotListsValue, has_slot, index_of_slot, is_listed, AreApart, AreOnce, with_first, without_slot}
 use Rattle.cache_core.specs.declared.design.Repl.{Repl}
 use Rattle.cache_core.specs.declared.design.Repl.TheVariants.{Lru, Fifo, Random}
 use Rattle.cache_core.specs.Rules.{rules, InFront}
@@ -38,7 +38,7 @@ remove_behind (x ∷ y ∷ xs) s zero e long = absurd (omega (arith, long))
 remove_behind (x ∷ xs) s (suc i) e long =
     ap (λ ys. x ∷ ys) (remove_behind xs s i e (omega (arith, long)))
 
-last_apart : (xs : List ℕ) (s : ℕ) → IsOnce xs → slice_get xs (length xs - 1) ≡ Some s →
+last_apart : (xs : List ℕ) (s : ℕ) → AreOnce xs → slice_get xs (length xs - 1) ≡ Some s →
     remove xs (index_of_slot s xs) ++ s ∷ [] ≡ xs
 last_apart xs s once e =
     let at = index_once xs (length xs - 1) s once e in
@@ -110,7 +110,7 @@ module _ (ways : ℕ) (filled : List ℕ) (lists : SlotListsValue) (k : ℕ) (p 
 
     module _ (m s : ℕ) (e : m ≡ get_or filled k m) (some : m ≢ 0)
         (last : slice_get (order_of lists.lists k) (length (order_of lists.lists k) - 1) ≡ Some s)
-        (once : IsOnce (order_of lists.lists k)) where
+        (once : AreOnce (order_of lists.lists k)) where
       abbrev rest : List ℕ
       rest = remove (order_of lists.lists k) (index_of_slot s (order_of lists.lists k))
 

@@ -7,7 +7,7 @@ use Rattle.std.specs.List.{position_or_len, list_any}
 use Rattle.std.proofs.lemmas.Bool.{eqb-true, eqb-false, ne_eqb, eq-eqb, false≢true}
 use Rattle.std.proofs.lemmas.Bool.Decides.{eqb_tells}
 use Rattle.std.proofs.lemmas.List.{length-map}
-use Rattle.block_index.specs.SlotLists.{has_slot, index_of_slot, IsOnce}
+use Rattle.block_index.specs.SlotLists.{has_slot, index_of_slot, AreOnce}
 use Rattle.cache_core.specs.declared.outcome.Slot.{Slot}
 use Rattle.cache_core.specs.Order.{position_of}
 
@@ -58,7 +58,7 @@ slot_in (x ∷ xs) zero s e = subst (λ (y : ℕ). has_slot y (x ∷ xs) ≡ tru
 slot_in (x ∷ xs) (suc i) s e = in_cons s x xs (slot_in xs i s e)
 
 -- its index is that index, if none is twice
-pub index_once : (xs : List ℕ) (i s : ℕ) → IsOnce xs → slice_get xs i ≡ Some s →
+pub index_once : (xs : List ℕ) (i s : ℕ) → AreOnce xs → slice_get xs i ≡ Some s →
     index_of_slot s xs ≡ i
 index_once [] i s once e = absurd (cc)
 index_once (x ∷ xs) zero s once e = index_front s x xs (some_is x s e)
@@ -84,13 +84,13 @@ not_in_remove x zero (y ∷ xs) e = not_in_tail x y xs e
 not_in_remove x (suc i) (y ∷ xs) e = not_in_front x y xs (remove xs i) e
     (not_in_remove x i xs (not_in_tail x y xs e))
 
-pub once_remove : (i : ℕ) (xs : List ℕ) → IsOnce xs → IsOnce (remove xs i)
+pub once_remove : (i : ℕ) (xs : List ℕ) → AreOnce xs → AreOnce (remove xs i)
 once_remove zero [] once = tt
 once_remove (suc i) [] once = tt
 once_remove zero (x ∷ xs) once = once.1
 once_remove (suc i) (x ∷ xs) once = (not_in_remove x i xs once.0, once_remove i xs once.1)
 
-pub removed_self : (s : ℕ) (xs : List ℕ) → IsOnce xs →
+pub removed_self : (s : ℕ) (xs : List ℕ) → AreOnce xs →
     has_slot s (remove xs (index_of_slot s xs)) ≡ false
 removed_self s [] once = refl
 removed_self s (x ∷ xs) once = same_or _ x s
@@ -133,7 +133,7 @@ map_kept f g s (x ∷ xs) same e =
     ∙ ap (λ ys. f x ∷ ys) (map_kept f g s xs same (not_in_tail s x xs e))
 
 pub map_changed : (f g : ℕ → Slot) (s : ℕ) (xs : List ℕ) → ((t : ℕ) → t ≢ s → g t ≡ f t) →
-    IsOnce xs → has_slot s xs ≡ true → map g xs ≡ set (map f xs) (index_of_slot s xs) (g s)
+    AreOnce xs → has_slot s xs ≡ true → map g xs ≡ set (map f xs) (index_of_slot s xs) (g s)
 map_changed f g s [] same once e = absurd (false≢true e)
 map_changed f g s (x ∷ xs) same once e = same_or _ x s
     (λ q. rw (index_front s x xs q)

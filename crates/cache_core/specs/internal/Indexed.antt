@@ -2,7 +2,7 @@
 -- of those that are filled.
 use Rattle.std.specs.Prelude.{ℕ, ◌≡◌, ◌≤◌, ◌<◌, ◌+◌, ◌*◌, ◌^◌, ◌↔◌, Bool, true, false, List}
 use Rattle.std.specs.Prelude.{length, map, Option, None, slice_index_or, slice_set, unwrap_or}
-use Rattle.block_index.specs.SlotLists.{has_slot, IsOnce}
+use Rattle.block_index.specs.SlotLists.{has_slot, AreOnce}
 use Rattle.block_index.specs.BlockIndex.{IndexValue, HasBlock, AreDifferent}
 use Rattle.cache_core.specs.declared.outcome.Slot.{Slot}
 use Rattle.cache_core.specs.declared.design.Design.{Design}
@@ -56,7 +56,7 @@ pub record Holds (g : GeometryValue) (index : IndexValue) (set slot : ℕ) : Typ
 -- Each slot in the order has a block of its set, and each slot that has a block is in the order of
 -- its set. No slot is there twice, and no two slots have the same block.
 pub record IsHeld (g : GeometryValue) (index : IndexValue) (sets : List (List ℕ)) : Type 0 where
-  pub once : (k : ℕ) → IsOnce (order_of sets k)
+  pub once : (k : ℕ) → AreOnce (order_of sets k)
   pub holds : (k slot : ℕ) → has_slot slot (order_of sets k) ≡ true → Holds g index k slot
   pub listed : (slot b : ℕ) → HasBlock index slot b →
       has_slot slot (order_of sets (set_of_block g b)) ≡ true
