@@ -56,8 +56,8 @@ impl Model for IndexedCache {
 }
 
 impl IndexedCache {
-    /// An empty cache. It takes all its memory here, 25 bytes for each line and 8 and a quarter for
-    /// each set at most, and that alone can fail.
+    /// An empty cache. It takes all its memory here, at most 29 bytes for each line and 12 and a
+    /// quarter for each set (under random 21, and 4 and a quarter), and that alone can fail.
     pub(crate) fn new(
         alloc: Global,
         geometry: Geometry,
