@@ -3,6 +3,7 @@ use Rattle.std.proofs.Common.{◌≡◌, ℕ, zero, suc, ◌+◌, ◌*◌, ◌^�
 use Rattle.std.proofs.Common.{get_or, replicate, refl, sym, ◌∙◌, ap, subst, arith, Option, Some, None}
 use Rattle.std.specs.Prelude.{slice_get, ◌↔◌}
 use Rattle.std.proofs.lemmas.Bool.{false≢true}
+use Rattle.std.proofs.lemmas.List.{length-map}
 use Rattle.block_index.specs.SlotLists.{has_slot, AreOnce}
 use Rattle.block_index.specs.BlockIndex.{IndexValue, HasBlock}
 use Rattle.cache_core.specs.declared.outcome.Slot.{Slot}
@@ -111,3 +112,29 @@ pub flushed_counts : (order left : OrderValue) →
     counts_of left.sets ≡ replicate (length order.sets) 0
 flushed_counts order left empty = ap (λ (o : OrderValue). counts_of o.sets) empty
     ∙ empty_counts (length order.sets)
+
+pub flushed_views : (index after : IndexValue) (dirty : List Bool) (order left : OrderValue) →
+    left ≡ record order { sets = replicate (length order.sets) [] } →
+    sets_at after dirty left.sets ≡ replicate (length (sets_at index dirty order.sets)) []
+flushed_views index after dirty order left empty =
+    ap (λ (o : OrderValue). sets_at after dirty o.sets) empty
+    ∙ empty_views after dirty (length order.sets)
+    ∙ ap (λ n. replicate n []) (sym (length-map order.sets (set_at index dirty)))
+
+pub new_views : (index : IndexValue) (dirty : List Bool) (order : OrderValue) (policy : Repl)
+    (ways n : ℕ) → order ≡ record { policy = policy; ways = ways; sets = replicate n [] } →
+    sets_at index dirty order.sets ≡ replicate n []
+new_views index dirty order policy ways n made =
+    ap (λ (o : OrderValue). sets_at index dirty o.sets) made ∙ empty_views index dirty n
+
+pub new_counts : (order : OrderValue) (policy : Repl) (ways n : ℕ) →
+    order ≡ record { policy = policy; ways = ways; sets = replicate n [] } →
+    counts_of order.sets ≡ replicate n 0
+new_counts order policy ways n made =
+    ap (λ (o : OrderValue). counts_of o.sets) made ∙ empty_counts n
+
+pub made_ways : (order : OrderValue) (policy : Repl) (e ways n : ℕ) →
+    order ≡ record { policy = policy; ways = e; sets = replicate n [] } → e ≡ ways →
+    order ≡ record { policy = policy; ways = ways; sets = replicate n [] }
+made_ways order policy e ways n made same =
+    made ∙ ap (λ (m : ℕ). record { policy = policy; ways = m; sets = replicate n [] }) same
