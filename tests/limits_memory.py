@@ -33,11 +33,11 @@ ALL_PAIRS = f"Sweeping all {PAIRS} pairs with one way takes {NUMBER} MB"
 BUFFERS = f"a run has two buffers of {NUMBER} KiB, and a sweep {NUMBER} KiB for references"
 CACHES = (
     f"`csim`, `din` and `log` take {NUMBER} bytes per line of a cache and {NUMBER} per set; `din` "
-    f"and `log` with {NUMBER} ways or more take, instead of that, {NUMBER} bytes per line, {NUMBER} "
-    f"per set and {NUMBER} more, and under random replacement {NUMBER} bytes per line, {NUMBER} per "
-    f"set and {NUMBER} more; `csim` with more than {NUMBER} ways takes, instead of {NUMBER} bytes, "
-    f"at most {NUMBER} bytes for each line after the first {NUMBER} of a set, and {NUMBER} more per "
-    f"set"
+    f"and `log` with {NUMBER} ways or more take, instead of that, {NUMBER} bytes per line, "
+    f"{NUMBER} per set and {NUMBER} more, and under random replacement {NUMBER} bytes per line, "
+    f"{NUMBER} per set and {NUMBER} more; `csim` with more than {NUMBER} ways takes, instead of "
+    f"{NUMBER} bytes, at most {NUMBER} bytes for each line after the first {NUMBER} of a set, and "
+    f"{NUMBER} more per set"
 )
 
 
