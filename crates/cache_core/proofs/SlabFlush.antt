@@ -50,6 +50,23 @@ dirty_emptied ways filled k count slots lt is =
           (omega (arith, length-sets_of ways filled slots)),
     )
 
+-- no more slots are dirty than there are
+pub dirty_few : (ways : ℕ) (filled : List ℕ) (slots : List Slot) → All (λ n. n ≤ ways) filled →
+    dirty_slots (sets_of ways slots filled) ≤ length filled * ways
+dirty_few ways [] slots h = omega arith
+dirty_few ways (f ∷ fs) slots h =
+    let dirty : List Slot → ℕ = count_by (λ slot. slot.dirty) in
+    let first : f ≤ ways = h 0 0 (omega arith) in
+    let rest = dirty_few ways fs (drop ways slots) (All-tail (λ n. n ≤ ways) f fs h) in
+    omega (
+      arith,
+      rest,
+      sum_by-cons dirty (take f slots) (sets_of ways (drop ways slots) fs),
+      count_by-le-length (λ (slot : Slot). slot.dirty) (take f slots),
+      length-take f slots,
+      suc-mul (length fs) ways,
+    )
+
 -- no slot is dirty where none is filled
 pub dirty_none : (ways n : ℕ) (slots : List Slot) →
     dirty_slots (sets_of ways slots (replicate n 0)) ≡ 0

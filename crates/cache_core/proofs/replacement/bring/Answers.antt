@@ -3,5 +3,5 @@ use Rattle.cache_core.proofs.Lawful.{brought}
 use Rattle.cache_core.proofs.replacement.bring.Goals as goal
 
 pub returns : goal.returns
-returns g c = brought c.args.row.now c.args.at c.args.slot _ c.requires
+returns c = brought c.args.row.now c.args.at c.args.slot _ c.requires
     c.rotate_right.ensures.after
