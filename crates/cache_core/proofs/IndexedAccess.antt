@@ -1,6 +1,7 @@
 -- One access to a cache whose blocks are found by an index: a hit, a block that is placed, or a
 -- reference that is passed on.
-use Rattle.std.proofs.Common.{◌≡◌, ◌≢◌, ℕ, ◌+◌, ◌*◌, ◌^◌, ◌<◌, Bool, true, false, List, [], length, set, get_or}
+use Rattle.std.proofs.Common.{◌≡◌, ◌≢◌, ℕ, ◌+◌, ◌*◌, ◌^◌, ◌<◌, Bool, true, false, List, [], length}
+use Rattle.std.proofs.Common.{set, get_or}
 use Rattle.std.proofs.Common.{refl, sym, ◌∙◌, ap, subst, arith, Option, Some, None}
 use Rattle.std.proofs.lemmas.List.{set-get_or, length-map}
 use Rattle.block_index.specs.SlotLists.{index_of_slot}
@@ -11,13 +12,15 @@ use Rattle.cache_core.specs.declared.outcome.Outcome.{Outcome}
 use Rattle.cache_core.specs.declared.design.Design.{Design}
 use Rattle.cache_core.specs.declared.design.Repl.{Repl}
 use Rattle.cache_core.specs.Geometry.{block_of, set_of, set_of_block}
-use Rattle.cache_core.specs.Outcomes.{outcome_of, on_hit, on_passing, on_placing, is_dirtied, is_allocated}
+use Rattle.cache_core.specs.Outcomes.{outcome_of, on_hit, on_passing, on_placing, is_dirtied}
+use Rattle.cache_core.specs.Outcomes.{is_allocated}
 use Rattle.cache_core.specs.Rules.{rules}
 use Rattle.cache_core.specs.Order.{Accesses, Visits, TakesIn, position_of, random_numbers_after}
 use Rattle.cache_core.specs.Order.{with_dirty_at, Touches}
 use Rattle.cache_core.specs.internal.Order.{DirtiesByWrites}
 use Rattle.cache_core.specs.internal.SlotOrder.{OrderValue, order_of, with_order, with_moved}
-use Rattle.cache_core.specs.internal.Indexed.{set_at, sets_at, with_mark, IsIndexed, indexed_contents}
+use Rattle.cache_core.specs.internal.Indexed.{set_at, sets_at, with_mark, IsIndexed}
+use Rattle.cache_core.specs.internal.Indexed.{indexed_contents}
 use Rattle.cache_core.proofs.IndexedLaw.{sets_read}
 use Rattle.cache_core.proofs.IndexedDeeds.{in_sets, hit_found, hit_order, hit_sets, miss_found}
 use Rattle.cache_core.proofs.IndexedVisit.{visits_hit, visits_passed, visits_placed, set_accesses}

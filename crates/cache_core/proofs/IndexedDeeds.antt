@@ -1,7 +1,9 @@
 -- One access to a cache whose blocks are found by an index: its set is another, and the invariant
 -- stays.
-use Rattle.std.proofs.Common.{◌≡◌, ◌≢◌, ℕ, zero, suc, ◌+◌, ◌*◌, ◌^◌, ◌<◌, ◌≤◌, Bool, true, false, List, []}
-use Rattle.std.proofs.Common.{◌∷◌, length, map, set, get_or, refl, sym, ◌∙◌, ap, subst, arith, Option, Some, None, length-set}
+use Rattle.std.proofs.Common.{◌≡◌, ◌≢◌, ℕ, zero, suc, ◌+◌, ◌*◌, ◌^◌, ◌<◌, ◌≤◌, Bool, true, false}
+use Rattle.std.proofs.Common.{List, []}
+use Rattle.std.proofs.Common.{◌∷◌, length, map, set, get_or, refl, sym, ◌∙◌, ap, subst, arith}
+use Rattle.std.proofs.Common.{Option, Some, None, length-set}
 use Rattle.std.specs.Prelude.{slice_get, ◌↔◌}
 use Rattle.std.proofs.Common.{inl, inr}
 use Rattle.std.proofs.lemmas.Bool.{false≢true, cases_lt}
@@ -14,12 +16,18 @@ use Rattle.cache_core.specs.declared.design.Design.{Design}
 use Rattle.cache_core.specs.Geometry.{set_of_block}
 use Rattle.cache_core.specs.Rules.{rules}
 use Rattle.cache_core.specs.Order.{position_of, with_dirty_at, Touches, TakesIn}
-use Rattle.cache_core.specs.internal.SlotOrder.{OrderValue, order_of, with_order, with_moved, with_next, victim_index}
-use Rattle.cache_core.specs.internal.Indexed.{slot_at, set_at, sets_at, counts_of, with_mark, Holds, IsHeld, ArePacked, IsIndexed}
+use Rattle.cache_core.specs.internal.SlotOrder.{OrderValue, order_of, with_order, with_moved}
+use Rattle.cache_core.specs.internal.SlotOrder.{with_next, victim_index}
+use Rattle.cache_core.specs.internal.Indexed.{slot_at, set_at, sets_at, counts_of, with_mark}
+use Rattle.cache_core.specs.internal.Indexed.{Holds, IsHeld, ArePacked, IsIndexed}
 use Rattle.cache_core.proofs.SlotRows.{same_or, slot_in, map_kept}
-use Rattle.cache_core.proofs.IndexedLaw.{found_at, found_nowhere, sets_written, other_slot, new_slot, mark_other, marked_set, slot_block}
-use Rattle.cache_core.proofs.HeldLaw.{with_block, in_no_other, by_set, held_put, held_moved, packed_set, packed_moved, by_bool, set_twice, get_other}
-use Rattle.cache_core.proofs.PolicySlots.{moved_in, moved_once, moved_length, next_self, next_other, next_once, next_length, touches, takes_in, takes_over}
+use Rattle.cache_core.proofs.IndexedLaw.{found_at, found_nowhere, sets_written, other_slot}
+use Rattle.cache_core.proofs.IndexedLaw.{new_slot, mark_other, marked_set, slot_block}
+use Rattle.cache_core.proofs.HeldLaw.{with_block, in_no_other, by_set, held_put, held_moved}
+use Rattle.cache_core.proofs.HeldLaw.{packed_set, packed_moved, by_bool, set_twice, get_other}
+use Rattle.cache_core.proofs.PolicySlots.{moved_in, moved_once, moved_length, next_self}
+use Rattle.cache_core.proofs.PolicySlots.{next_other, next_once, next_length, touches, takes_in}
+use Rattle.cache_core.proofs.PolicySlots.{takes_over}
 use Rattle.cache_core.proofs.WaysLaw.{counted, counts_set, count_kept}
 
 mark_length : (mark : Bool) (dirty : List Bool) (s : ℕ) →

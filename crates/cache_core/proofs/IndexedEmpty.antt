@@ -1,6 +1,8 @@
 -- A cache whose blocks are found by an index, of which no slot is filled.
-use Rattle.std.proofs.Common.{◌≡◌, ℕ, zero, suc, ◌+◌, ◌*◌, ◌^◌, ◌<◌, ◌≤◌, Bool, true, false, List, [], ◌∷◌, length, map}
-use Rattle.std.proofs.Common.{get_or, replicate, refl, sym, ◌∙◌, ap, subst, arith, Option, Some, None}
+use Rattle.std.proofs.Common.{◌≡◌, ℕ, zero, suc, ◌+◌, ◌*◌, ◌^◌, ◌<◌, ◌≤◌, Bool, true, false, List}
+use Rattle.std.proofs.Common.{[], ◌∷◌, length, map}
+use Rattle.std.proofs.Common.{get_or, replicate, refl, sym, ◌∙◌, ap, subst, arith, Option, Some}
+use Rattle.std.proofs.Common.{None}
 use Rattle.std.specs.Prelude.{slice_get, ◌↔◌}
 use Rattle.std.proofs.lemmas.Bool.{false≢true}
 use Rattle.std.proofs.lemmas.List.{length-map}
@@ -11,7 +13,8 @@ use Rattle.cache_core.specs.declared.design.Design.{Design}
 use Rattle.cache_core.specs.declared.design.Repl.{Repl}
 use Rattle.cache_core.specs.Geometry.{GeometryValue, IsGeometry, set_of_block}
 use Rattle.cache_core.specs.internal.SlotOrder.{OrderValue, order_of}
-use Rattle.cache_core.specs.internal.Indexed.{set_at, sets_at, counts_of, Holds, IsHeld, ArePacked, IsIndexed}
+use Rattle.cache_core.specs.internal.Indexed.{set_at, sets_at, counts_of, Holds, IsHeld, ArePacked}
+use Rattle.cache_core.specs.internal.Indexed.{IsIndexed}
 
 none_at : (n k : ℕ) → order_of (replicate n []) k ≡ []
 none_at zero k = none_of k

@@ -1,6 +1,7 @@
 -- What a policy does to the order of the slots of a set is what it does to what they hold.
 use Rattle.std.proofs.Common.{◌≡◌, ◌≢◌, ℕ, zero, suc, ◌+◌, ◌<◌, Bool, true, false, eqb, List, []}
-use Rattle.std.proofs.Common.{◌∷◌, ◌++◌, length, map, set, refl, sym, ◌∙◌, ap, subst, arith, Option, Some, None, ◌||◌}
+use Rattle.std.proofs.Common.{◌∷◌, ◌++◌, length, map, set, refl, sym, ◌∙◌, ap, subst, arith}
+use Rattle.std.proofs.Common.{Option, Some, None, ◌||◌}
 use Rattle.std.proofs.Common.{length-append}
 use Rattle.std.specs.Prelude.{slice_get, remove}
 use Rattle.std.proofs.lemmas.Bool.{false≢true}
@@ -11,7 +12,8 @@ use Rattle.cache_core.specs.declared.design.Repl.{Repl}
 use Rattle.cache_core.specs.Rules.{Place, InFront, InPlace, Victim, Last, Drawn, rules}
 use Rattle.cache_core.specs.Order.{Moves, Touches, TakesIn, with_slot_at, victim_at}
 use Rattle.cache_core.specs.internal.SlotOrder.{with_moved, with_next, victim_index}
-use Rattle.cache_core.proofs.SlotRows.{same_or, in_other, in_here, some_is, removed_self, removed_other}
+use Rattle.cache_core.proofs.SlotRows.{same_or, in_other, in_here, some_is, removed_self}
+use Rattle.cache_core.proofs.SlotRows.{removed_other}
 use Rattle.cache_core.proofs.SlotRows.{once_remove, length_remove_index, get_index, map_remove}
 use Rattle.cache_core.proofs.SlotRows.{map_kept, map_changed, index_once, not_in_tail}
 

@@ -1,6 +1,8 @@
 -- What the calls of the order of slots do, by the fields.
-use Rattle.std.proofs.Common.{◌≡◌, ◌≢◌, ℕ, zero, suc, ◌+◌, ◌-◌, ◌*◌, ◌%◌, ◌^◌, ◌<◌, ◌≤◌, List, [], ◌∷◌, ◌++◌}
-use Rattle.std.proofs.Common.{length, set, get_or, take, drop, replicate, refl, sym, ◌∙◌, ap, subst, arith, ◌⊎◌, inl, inr}
+use Rattle.std.proofs.Common.{◌≡◌, ◌≢◌, ℕ, zero, suc, ◌+◌, ◌-◌, ◌*◌, ◌%◌, ◌^◌, ◌<◌, ◌≤◌, List, []}
+use Rattle.std.proofs.Common.{◌∷◌, ◌++◌}
+use Rattle.std.proofs.Common.{length, set, get_or, take, drop, replicate, refl, sym, ◌∙◌, ap}
+use Rattle.std.proofs.Common.{subst, arith, ◌⊎◌, inl, inr}
 use Rattle.std.proofs.Common.{Bool, true, false, Option, Some, None, ltb}
 use Rattle.std.specs.Prelude.{slice_get, remove, nat_lt, IfOk}
 use Rattle.std.proofs.Common.{Result, Ok, Err}
@@ -8,18 +10,22 @@ use Rattle.std.specs.Bool.{then_some}
 use Rattle.std.specs.List.{range_with_len}
 use Rattle.std.proofs.lemmas.List.{get_or_read, get_or-set_same}
 use Rattle.std.proofs.lemmas.Option.{slice_get_within}
-use Rattle.block_index.specs.SlotLists.{SlotListsValue, has_slot, index_of_slot, is_listed, AreApart, AreOnce, with_first, without_slot}
+use Rattle.block_index.specs.SlotLists.{SlotListsValue, has_slot, index_of_slot, is_listed}
+use Rattle.block_index.specs.SlotLists.{AreApart, AreOnce, with_first, without_slot}
 use Rattle.cache_core.specs.declared.design.Repl.{Repl}
 use Rattle.cache_core.specs.declared.design.Repl.TheVariants.{Lru, Fifo, Random}
 use Rattle.cache_core.specs.Rules.{rules, InFront}
-use Rattle.cache_core.specs.internal.SlotOrder.{OrderValue, IsKept, orders, order_of, in_ways, with_order, with_next, with_moved, victim_index}
-use Rattle.cache_core.proofs.SlotRows.{some_is, removed_self, index_once, slot_in, length_remove_index}
+use Rattle.cache_core.specs.internal.SlotOrder.{OrderValue, IsKept, orders, order_of, in_ways}
+use Rattle.cache_core.specs.internal.SlotOrder.{with_order, with_next, with_moved, victim_index}
+use Rattle.cache_core.proofs.SlotRows.{some_is, removed_self, index_once, slot_in}
+use Rattle.cache_core.proofs.SlotRows.{length_remove_index}
 use Rattle.cache_core.proofs.HeldLaw.{by_set}
 use Rattle.cache_core.proofs.IndexedDeeds.{in_no_list}
 use Rattle.cache_core.proofs.PolicySlots.{moved_length}
 use Rattle.cache_core.proofs.WaysLaw.{ways_at, ways_set, range_push, range_get}
 use Rattle.cache_core.proofs.SlotOrderLaw.{new_kept, new_sets, random_kept, zero_ways}
-use Rattle.cache_core.proofs.SlotOrderLaw.{with_list, kept_moved, kept_count, kept_ways, kept_long, kept_within, kept_sets}
+use Rattle.cache_core.proofs.SlotOrderLaw.{with_list, kept_moved, kept_count, kept_ways, kept_long}
+use Rattle.cache_core.proofs.SlotOrderLaw.{kept_within, kept_sets}
 
 by_not : (b : Bool) → (b ≡ true → ⊥) → b ≡ false
 by_not true never = absurd (never refl)

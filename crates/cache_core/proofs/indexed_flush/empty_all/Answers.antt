@@ -1,5 +1,6 @@
 -- One set after another is emptied.
-use Rattle.std.proofs.Common.{◌≡◌, ◌*◌, ◌<◌, ◌≤◌, ◌^◌, ap, sym, ◌∙◌, arith, length, drop, get_or, set, replicate, []}
+use Rattle.std.proofs.Common.{◌≡◌, ◌*◌, ◌<◌, ◌≤◌, ◌^◌, ap, sym, ◌∙◌, arith, length, drop, get_or}
+use Rattle.std.proofs.Common.{set, replicate, []}
 use Rattle.cache_core.specs.internal.SlotOrder.{OrderValue, order_of}
 use Rattle.cache_core.specs.internal.Indexed.{counts_of}
 use Rattle.cache_core.proofs.IndexedEmptying.{emptying_none, one_emptied, few_dirty, all_emptied}

@@ -1,9 +1,11 @@
 -- One set after another is emptied.
-use Rattle.std.proofs.Common.{◌≡◌, ◌*◌, ◌<◌, ◌≤◌, ◌^◌, ap, sym, ◌∙◌, arith, length, drop, get_or, set, replicate, []}
+use Rattle.std.proofs.Common.{◌≡◌, ◌*◌, ◌<◌, ◌≤◌, ◌^◌, ap, sym, ◌∙◌, arith, length, drop, get_or}
+use Rattle.std.proofs.Common.{set, replicate, []}
 use Rattle.cache_core.specs.internal.SlotOrder.{OrderValue, order_of}
 use Rattle.cache_core.specs.internal.Indexed.{counts_of}
 use Rattle.cache_core.proofs.IndexedEmptying.{emptying_none, one_emptied, few_dirty, all_emptied}
-use Rattle.cache_core.proofs.IndexedEmptying.{all_counted, listed_none, listed_within, listed_all, listed_start, still_listed}
+use Rattle.cache_core.proofs.IndexedEmptying.{all_counted, listed_none, listed_within, listed_all}
+use Rattle.cache_core.proofs.IndexedEmptying.{listed_start, still_listed}
 use Rattle.cache_core.proofs.indexed_flush.empty_listed.Goals as goal
 
 pub loop-number-init : goal.loop-number-init

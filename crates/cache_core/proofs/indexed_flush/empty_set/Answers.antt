@@ -3,7 +3,8 @@ use Rattle.std.proofs.Common.{◌≡◌, ap, sym, ◌∙◌, arith}
 use Rattle.cache_core.specs.Order.{dirty_in}
 use Rattle.cache_core.specs.internal.SlotOrder.{with_order}
 use Rattle.cache_core.specs.internal.Indexed.{set_at}
-use Rattle.cache_core.proofs.IndexedPopping.{popping_none, slot_held, slot_within, shorter, one_popped}
+use Rattle.cache_core.proofs.IndexedPopping.{popping_none, slot_held, slot_within, shorter}
+use Rattle.cache_core.proofs.IndexedPopping.{one_popped}
 use Rattle.cache_core.proofs.indexed_flush.empty_set.Goals as goal
 
 pub loop-slot-init : goal.loop-slot-init

@@ -4,7 +4,8 @@ use Rattle.cache_core.specs.internal.SlotOrder.{order_of, with_moved, with_next}
 use Rattle.cache_core.specs.internal.Indexed.{counts_of}
 use Rattle.cache_core.specs.Rules.{rules}
 use Rattle.cache_core.proofs.HeldLaw.{order_same, set_twice, get_same}
-use Rattle.cache_core.proofs.IndexedDeeds.{in_sets, none_listed, next_free, more_indexed, more_counts}
+use Rattle.cache_core.proofs.IndexedDeeds.{in_sets, none_listed, next_free, more_indexed}
+use Rattle.cache_core.proofs.IndexedDeeds.{more_counts}
 use Rattle.cache_core.proofs.IndexedDeeds.{more_taken, more_sets}
 use Rattle.cache_core.proofs.indexed_set.fill.Goals as goal
 

@@ -1,5 +1,6 @@
 -- A slot of a full set gives up its block for another one.
-use Rattle.std.proofs.Common.{◌≡◌, ℕ, ◌+◌, ◌*◌, length, set, refl, sym, ◌∙◌, ap, arith, subst, Some, None}
+use Rattle.std.proofs.Common.{◌≡◌, ℕ, ◌+◌, ◌*◌, length, set, refl, sym, ◌∙◌, ap, arith, subst}
+use Rattle.std.proofs.Common.{Some, None}
 use Rattle.cache_core.specs.internal.SlotOrder.{order_of, with_moved, with_next}
 use Rattle.cache_core.specs.internal.Indexed.{counts_of, slot_at}
 use Rattle.cache_core.specs.Rules.{rules}
@@ -7,7 +8,8 @@ use Rattle.cache_core.proofs.HeldLaw.{order_same, set_twice, get_same}
 use Rattle.std.proofs.Common.{get_or}
 use Rattle.block_index.specs.BlockIndex.{HasBlock}
 use Rattle.cache_core.proofs.IndexedLaw.{slot_block}
-use Rattle.cache_core.proofs.IndexedDeeds.{in_sets, leaving, leaving_in_blocks, leaving_in_marks, gone}
+use Rattle.cache_core.proofs.IndexedDeeds.{in_sets, leaving, leaving_in_blocks, leaving_in_marks}
+use Rattle.cache_core.proofs.IndexedDeeds.{gone}
 use Rattle.cache_core.proofs.IndexedDeeds.{over_indexed, over_counts, over_taken, over_sets}
 use Rattle.cache_core.proofs.IndexedDeeds.{over_victim}
 use Rattle.cache_core.proofs.HeldLaw.{left_none}

@@ -1,5 +1,6 @@
 -- The last slot of a set leaves.
-use Rattle.std.proofs.Common.{◌≡◌, ℕ, ◌+◌, ◌-◌, ◌*◌, ◌<◌, length, refl, sym, ◌∙◌, ap, subst, arith, ◌∷◌, ◌++◌, []}
+use Rattle.std.proofs.Common.{◌≡◌, ℕ, ◌+◌, ◌-◌, ◌*◌, ◌<◌, length, refl, sym, ◌∙◌, ap, subst, arith}
+use Rattle.std.proofs.Common.{◌∷◌, ◌++◌, []}
 use Rattle.cache_core.specs.internal.SlotOrder.{OrderValue, order_of}
 use Rattle.std.specs.List.{range_with_len}
 use Rattle.std.specs.Prelude.{remove}
