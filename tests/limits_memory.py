@@ -153,8 +153,8 @@ def bytes_of_tables(limits, told):
 
 def bytes_of_caches(limits, told):
     """The same of caches, of which those of csim may have long lists too."""
-    *_, indexed = told_by_the_manual(CACHES)[:3]
-    below, above = int(indexed) - 1, int(indexed)
+    above = int(told_by_the_manual(CACHES)[2])
+    below = above - 1
     for command, policy, sets, ways, least in (
         ("din", "l", 2**20, 1, None), ("din", "r", 1024, below, None),
         ("din", "l", 1024, below, None), ("din", "l", 1024, above, None),

@@ -12,7 +12,7 @@ use Rattle.block_index.specs.BlockIndex.{IndexValue, HasBlock, NoSlotHas}
 use Rattle.cache_core.specs.Geometry.{GeometryValue, set_of_block}
 use Rattle.cache_core.specs.internal.SlotOrder.{order_of}
 use Rattle.cache_core.specs.internal.Indexed.{Holds, IsHeld, ArePacked}
-use Rattle.cache_core.proofs.SlotRows.{same_or, some_is}
+use Rattle.cache_core.proofs.SlotsApart.{same_or, some_is}
 
 pub some_some : (a b : ℕ) → Some (Some a) ≡ Some (Some b) → a ≡ b
 some_some a b e = cc

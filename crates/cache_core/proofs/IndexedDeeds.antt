@@ -20,7 +20,7 @@ use Rattle.cache_core.specs.internal.SlotOrder.{OrderValue, order_of, with_order
 use Rattle.cache_core.specs.internal.SlotOrder.{with_next, victim_index}
 use Rattle.cache_core.specs.internal.Indexed.{slot_at, set_at, sets_at, counts_of, with_mark}
 use Rattle.cache_core.specs.internal.Indexed.{Holds, IsHeld, ArePacked, IsIndexed}
-use Rattle.cache_core.proofs.SlotRows.{same_or, slot_in, map_kept}
+use Rattle.cache_core.proofs.SlotsApart.{same_or, slot_in, map_kept}
 use Rattle.cache_core.proofs.IndexedLaw.{found_at, found_nowhere, sets_written, other_slot}
 use Rattle.cache_core.proofs.IndexedLaw.{new_slot, mark_other, marked_set, slot_block}
 use Rattle.cache_core.proofs.HeldLaw.{with_block, in_no_other, by_set, held_put, held_moved}

@@ -20,7 +20,7 @@ use Rattle.cache_core.specs.Order.{dirty_in, dirty_slots}
 use Rattle.cache_core.specs.internal.SlotOrder.{OrderValue, order_of, with_order}
 use Rattle.cache_core.specs.internal.Indexed.{slot_at, set_at, sets_at, counts_of, IsHeld, Holds}
 use Rattle.cache_core.specs.internal.Touched.{ListsFilled}
-use Rattle.cache_core.proofs.SlotRows.{same_or, in_here, in_other, in_cons, not_in_tail}
+use Rattle.cache_core.proofs.SlotsApart.{same_or, in_here, in_other, in_cons, not_in_tail}
 use Rattle.cache_core.proofs.HeldLaw.{with_block, held_taken, by_set, order_same, order_other}
 use Rattle.cache_core.proofs.PolicySlots.{next_self, next_other}
 use Rattle.cache_core.proofs.IndexedLaw.{sets_written, sets_read}

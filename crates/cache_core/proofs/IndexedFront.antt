@@ -19,7 +19,7 @@ use Rattle.cache_core.specs.internal.Order.{DirtiesByWrites, holds_first, hits_i
 use Rattle.cache_core.specs.internal.SlotOrder.{OrderValue, order_of}
 use Rattle.cache_core.specs.internal.Indexed.{slot_at, set_at, sets_at, with_mark, Holds}
 use Rattle.cache_core.specs.internal.Indexed.{IsIndexed, indexed_contents}
-use Rattle.cache_core.proofs.SlotRows.{slot_in, some_is, index_once, index_within, map_kept}
+use Rattle.cache_core.proofs.SlotsApart.{slot_in, some_is, index_once, index_within, map_kept}
 use Rattle.cache_core.proofs.IndexedLaw.{slot_block, sets_read, sets_written, marked_set}
 use Rattle.cache_core.proofs.IndexedLaw.{mark_other}
 use Rattle.cache_core.proofs.HeldLaw.{some_some, in_no_other}

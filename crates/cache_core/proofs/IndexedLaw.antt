@@ -18,8 +18,8 @@ use Rattle.cache_core.specs.Order.{position_of, with_dirty_at}
 use Rattle.cache_core.specs.internal.SlotOrder.{order_of}
 use Rattle.cache_core.specs.internal.Indexed.{slot_at, set_at, sets_at, with_mark, Holds, IsHeld}
 use Rattle.cache_core.specs.internal.Indexed.{ArePacked}
-use Rattle.cache_core.proofs.SlotRows.{same_or, position_here, position_none, map_changed, map_kept}
-use Rattle.cache_core.proofs.SlotRows.{get_index, some_is}
+use Rattle.cache_core.proofs.SlotsApart.{same_or, position_here, position_none, map_changed, map_kept}
+use Rattle.cache_core.proofs.SlotsApart.{get_index, some_is}
 
 -- what a slot with a block holds
 pub slot_block : (index : IndexValue) (dirty : List Bool) (s b : ℕ) → HasBlock index s b →

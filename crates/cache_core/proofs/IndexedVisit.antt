@@ -103,9 +103,3 @@ pub numbers_drawn : (p : ChosenPolicy) (rest : ℕ → ℕ) (gone : Slot) →
 numbers_drawn (Lru p) rest gone e = e
 numbers_drawn (Fifo p) rest gone e = e
 numbers_drawn (Random p) rest gone e = e
-
-pub numbers_kept : (p : ChosenPolicy) →
-    random_numbers_of p ≡ random_numbers_after (policy_of p) None (random_numbers_of p)
-numbers_kept (Lru p) = refl
-numbers_kept (Fifo p) = refl
-numbers_kept (Random p) = refl

@@ -54,7 +54,7 @@ pub mod SlotSums
 pub mod AnyLaw
 pub mod TouchedSets
 pub mod SlabFlush
-pub mod SlotRows
+pub mod SlotsApart
 pub mod IndexedLaw
 pub mod HeldLaw
 pub mod WaysLaw

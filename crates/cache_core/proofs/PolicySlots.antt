@@ -12,10 +12,10 @@ use Rattle.cache_core.specs.declared.design.Repl.{Repl}
 use Rattle.cache_core.specs.Rules.{Place, InFront, InPlace, Victim, Last, Drawn, rules}
 use Rattle.cache_core.specs.Order.{Moves, Touches, TakesIn, with_slot_at, victim_at}
 use Rattle.cache_core.specs.internal.SlotOrder.{with_moved, with_next, victim_index}
-use Rattle.cache_core.proofs.SlotRows.{same_or, in_other, in_here, some_is, removed_self}
-use Rattle.cache_core.proofs.SlotRows.{removed_other}
-use Rattle.cache_core.proofs.SlotRows.{once_remove, length_remove_index, get_index, map_remove}
-use Rattle.cache_core.proofs.SlotRows.{map_kept, map_changed, index_once, not_in_tail}
+use Rattle.cache_core.proofs.SlotsApart.{same_or, in_other, in_here, some_is, removed_self}
+use Rattle.cache_core.proofs.SlotsApart.{removed_other}
+use Rattle.cache_core.proofs.SlotsApart.{once_remove, length_remove_index, get_index, map_remove}
+use Rattle.cache_core.proofs.SlotsApart.{map_kept, map_changed, index_once, not_in_tail}
 
 -- a slot that goes elsewhere in the order of its set
 pub moved_in : (p : Place) (s t : ℕ) (xs : List ℕ) → has_slot s xs ≡ true →

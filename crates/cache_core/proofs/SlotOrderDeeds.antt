@@ -17,8 +17,8 @@ use Rattle.cache_core.specs.declared.design.Repl.TheVariants.{Lru, Fifo, Random}
 use Rattle.cache_core.specs.Rules.{rules, InFront}
 use Rattle.cache_core.specs.internal.SlotOrder.{OrderValue, IsKept, orders, order_of, in_ways}
 use Rattle.cache_core.specs.internal.SlotOrder.{with_order, with_next, with_moved, victim_index}
-use Rattle.cache_core.proofs.SlotRows.{some_is, removed_self, index_once, slot_in}
-use Rattle.cache_core.proofs.SlotRows.{length_remove_index}
+use Rattle.cache_core.proofs.SlotsApart.{some_is, removed_self, index_once, slot_in}
+use Rattle.cache_core.proofs.SlotsApart.{length_remove_index}
 use Rattle.cache_core.proofs.HeldLaw.{by_set}
 use Rattle.cache_core.proofs.IndexedDeeds.{in_no_list}
 use Rattle.cache_core.proofs.PolicySlots.{moved_length}

@@ -5,7 +5,7 @@ use Rattle.std.proofs.lemmas.Option.{slice_get_within}
 use Rattle.cache_core.specs.Geometry.{block_of}
 use Rattle.cache_core.specs.internal.SlotOrder.{order_of}
 use Rattle.cache_core.specs.internal.Indexed.{with_mark}
-use Rattle.cache_core.proofs.SlotRows.{slot_in}
+use Rattle.cache_core.proofs.SlotsApart.{slot_in}
 use Rattle.cache_core.proofs.IndexedFront.{front_told, front_accesses, front_dirties}
 use Rattle.cache_core.proofs.indexed_set.visit_front.Goals as goal
 

@@ -6,7 +6,7 @@ use Rattle.std.specs.List.{range_with_len}
 use Rattle.std.specs.Prelude.{remove}
 use Rattle.std.proofs.Common.{◌≢◌}
 use Rattle.block_index.specs.SlotLists.{index_of_slot}
-use Rattle.cache_core.proofs.SlotRows.{slot_in}
+use Rattle.cache_core.proofs.SlotsApart.{slot_in}
 use Rattle.cache_core.proofs.SlotOrderDeeds.{in_some_list, popped_kept, popped_list, popped_sets}
 use Rattle.cache_core.proofs.SlotOrderDeeds.{way_kept, way_list, way_popped, few_ways, count_here}
 use Rattle.cache_core.proofs.slot_order.SlotOrder.pop.Goals as goal
