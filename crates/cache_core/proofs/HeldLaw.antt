@@ -2,7 +2,7 @@
 -- blocks.
 use Rattle.std.proofs.Common.{◌≡◌, ◌≢◌, ℕ, zero, suc, ◌+◌, ◌*◌, ◌^◌, ◌<◌, ◌≤◌, Bool, true, false}
 use Rattle.std.proofs.Common.{List, []}
-use Rattle.std.proofs.Common.{◌∷◌, length, set, get_or, refl, sym, ◌∙◌, ap, subst, arith, Option}
+use Rattle.std.proofs.Common.{◌∷◌, length, set, refl, sym, ◌∙◌, ap, subst, arith, Option}
 use Rattle.std.proofs.Common.{Some, None}
 use Rattle.std.specs.Prelude.{slice_get, ◌↔◌}
 use Rattle.std.proofs.lemmas.Bool.{false≢true}
@@ -12,7 +12,7 @@ use Rattle.block_index.specs.BlockIndex.{IndexValue, HasBlock, NoSlotHas}
 use Rattle.cache_core.specs.Geometry.{GeometryValue, set_of_block}
 use Rattle.cache_core.specs.internal.SlotOrder.{order_of}
 use Rattle.cache_core.specs.internal.Indexed.{Holds, IsHeld, ArePacked}
-use Rattle.cache_core.proofs.SlotsApart.{same_or, some_is}
+use Rattle.cache_core.proofs.SlotsApart.{same_or}
 
 pub some_some : (a b : ℕ) → Some (Some a) ≡ Some (Some b) → a ≡ b
 some_some a b e = cc

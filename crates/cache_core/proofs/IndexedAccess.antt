@@ -1,6 +1,6 @@
 -- One access to a cache whose blocks are found by an index: a hit, a block that is placed, or a
 -- reference that is passed on.
-use Rattle.std.proofs.Common.{◌≡◌, ◌≢◌, ℕ, ◌+◌, ◌*◌, ◌^◌, ◌<◌, Bool, true, false, List, [], length}
+use Rattle.std.proofs.Common.{◌≡◌, ℕ, ◌^◌, ◌<◌, Bool, true, false, List, [], length}
 use Rattle.std.proofs.Common.{set, get_or}
 use Rattle.std.proofs.Common.{refl, sym, ◌∙◌, ap, subst, arith, Option, Some, None}
 use Rattle.std.proofs.lemmas.List.{set-get_or, length-map}

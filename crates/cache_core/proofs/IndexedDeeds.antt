@@ -1,8 +1,8 @@
 -- One access to a cache whose blocks are found by an index: its set is another, and the invariant
 -- stays.
-use Rattle.std.proofs.Common.{◌≡◌, ◌≢◌, ℕ, zero, suc, ◌+◌, ◌*◌, ◌^◌, ◌<◌, ◌≤◌, Bool, true, false}
+use Rattle.std.proofs.Common.{◌≡◌, ℕ, suc, ◌+◌, ◌*◌, ◌^◌, ◌<◌, ◌≤◌, Bool, true, false}
 use Rattle.std.proofs.Common.{List, []}
-use Rattle.std.proofs.Common.{◌∷◌, length, map, set, get_or, refl, sym, ◌∙◌, ap, subst, arith}
+use Rattle.std.proofs.Common.{◌∷◌, length, set, get_or, refl, sym, ◌∙◌, ap, subst, arith}
 use Rattle.std.proofs.Common.{Option, Some, None, length-set}
 use Rattle.std.specs.Prelude.{slice_get, ◌↔◌}
 use Rattle.std.proofs.Common.{inl, inr}
@@ -19,12 +19,12 @@ use Rattle.cache_core.specs.Order.{position_of, with_dirty_at, Touches, TakesIn}
 use Rattle.cache_core.specs.internal.SlotOrder.{OrderValue, order_of, with_order, with_moved}
 use Rattle.cache_core.specs.internal.SlotOrder.{with_next, victim_index}
 use Rattle.cache_core.specs.internal.Indexed.{slot_at, set_at, sets_at, counts_of, with_mark}
-use Rattle.cache_core.specs.internal.Indexed.{Holds, IsHeld, ArePacked, IsIndexed}
+use Rattle.cache_core.specs.internal.Indexed.{Holds, IsIndexed}
 use Rattle.cache_core.proofs.SlotsApart.{same_or, slot_in, map_kept}
 use Rattle.cache_core.proofs.IndexedLaw.{found_at, found_nowhere, sets_written, other_slot}
 use Rattle.cache_core.proofs.IndexedLaw.{new_slot, mark_other, marked_set, slot_block}
 use Rattle.cache_core.proofs.HeldLaw.{with_block, in_no_other, by_set, held_put, held_moved}
-use Rattle.cache_core.proofs.HeldLaw.{packed_set, packed_moved, by_bool, set_twice, get_other}
+use Rattle.cache_core.proofs.HeldLaw.{packed_set, packed_moved, by_bool}
 use Rattle.cache_core.proofs.PolicySlots.{moved_in, moved_once, moved_length, next_self}
 use Rattle.cache_core.proofs.PolicySlots.{next_other, next_once, next_length, touches, takes_in}
 use Rattle.cache_core.proofs.PolicySlots.{takes_over}

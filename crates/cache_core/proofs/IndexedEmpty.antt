@@ -1,19 +1,18 @@
 -- A cache whose blocks are found by an index, of which no slot is filled.
-use Rattle.std.proofs.Common.{◌≡◌, ℕ, zero, suc, ◌+◌, ◌*◌, ◌^◌, ◌<◌, ◌≤◌, Bool, true, false, List}
-use Rattle.std.proofs.Common.{[], ◌∷◌, length, map}
-use Rattle.std.proofs.Common.{get_or, replicate, refl, sym, ◌∙◌, ap, subst, arith, Option, Some}
+use Rattle.std.proofs.Common.{◌≡◌, ℕ, zero, suc, ◌*◌, ◌^◌, Bool, List}
+use Rattle.std.proofs.Common.{[], ◌∷◌, length}
+use Rattle.std.proofs.Common.{replicate, refl, sym, ◌∙◌, ap, subst, arith, Some}
 use Rattle.std.proofs.Common.{None}
-use Rattle.std.specs.Prelude.{slice_get, ◌↔◌}
+use Rattle.std.specs.Prelude.{slice_get}
 use Rattle.std.proofs.lemmas.Bool.{false≢true}
 use Rattle.std.proofs.lemmas.List.{length-map}
 use Rattle.block_index.specs.SlotLists.{has_slot, AreOnce}
 use Rattle.block_index.specs.BlockIndex.{IndexValue, HasBlock}
-use Rattle.cache_core.specs.declared.outcome.Slot.{Slot}
 use Rattle.cache_core.specs.declared.design.Design.{Design}
 use Rattle.cache_core.specs.declared.design.Repl.{Repl}
-use Rattle.cache_core.specs.Geometry.{GeometryValue, IsGeometry, set_of_block}
+use Rattle.cache_core.specs.Geometry.{GeometryValue, IsGeometry}
 use Rattle.cache_core.specs.internal.SlotOrder.{OrderValue, order_of}
-use Rattle.cache_core.specs.internal.Indexed.{set_at, sets_at, counts_of, Holds, IsHeld, ArePacked}
+use Rattle.cache_core.specs.internal.Indexed.{set_at, sets_at, counts_of, IsHeld, ArePacked}
 use Rattle.cache_core.specs.internal.Indexed.{IsIndexed}
 
 none_at : (n k : ℕ) → order_of (replicate n []) k ≡ []

@@ -3,7 +3,7 @@ use Rattle.std.proofs.Common.{◌≡◌, ◌≢◌, ℕ, zero, suc, ◌+◌, ◌
 use Rattle.std.proofs.Common.{List, []}
 use Rattle.std.proofs.Common.{◌∷◌, ◌++◌, length, set, get_or, drop, replicate, refl, sym, ◌∙◌, ap}
 use Rattle.std.proofs.Common.{subst, arith, Some, None}
-use Rattle.std.proofs.Common.{length-set, map}
+use Rattle.std.proofs.Common.{length-set}
 use Rattle.std.proofs.Common.{inl, inr}
 use Rattle.std.proofs.lemmas.Bool.{false≢true, cases_lt}
 use Rattle.std.proofs.lemmas.List.{drop_all}
@@ -20,12 +20,12 @@ use Rattle.cache_core.specs.Order.{dirty_in, dirty_slots}
 use Rattle.cache_core.specs.internal.SlotOrder.{OrderValue, order_of, with_order}
 use Rattle.cache_core.specs.internal.Indexed.{slot_at, set_at, sets_at, counts_of, IsHeld, Holds}
 use Rattle.cache_core.specs.internal.Touched.{ListsFilled}
-use Rattle.cache_core.proofs.SlotsApart.{same_or, in_here, in_other, in_cons, not_in_tail}
+use Rattle.cache_core.proofs.SlotsApart.{same_or, in_other}
 use Rattle.cache_core.proofs.HeldLaw.{with_block, held_taken, by_set, order_same, order_other}
 use Rattle.cache_core.proofs.PolicySlots.{next_self, next_other}
 use Rattle.cache_core.proofs.IndexedLaw.{sets_written, sets_read}
 use Rattle.cache_core.proofs.WaysLaw.{counted, counts_set}
-use Rattle.cache_core.proofs.TouchedSets.{next_listed, emptied, no_count}
+use Rattle.cache_core.proofs.TouchedSets.{next_listed, emptied}
 
 dirty_more : (x : Slot) (xs : List Slot) → dirty_in (x ∷ xs) ≡ cond x.dirty 1 0 + dirty_in xs
 dirty_more x xs = sum_by-cons (λ (slot : Slot). cond slot.dirty 1 0) x xs

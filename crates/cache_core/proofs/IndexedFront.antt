@@ -1,8 +1,8 @@
 -- An access that finds its block in the first slot of its set, by an index.
-use Rattle.std.proofs.Common.{◌≡◌, ◌≢◌, ℕ, zero, suc, ◌^◌, ◌<◌, Bool, true, false, not, eqb, List}
+use Rattle.std.proofs.Common.{◌≡◌, ◌≢◌, ℕ, ◌^◌, ◌<◌, Bool, true, false, eqb, List}
 use Rattle.std.proofs.Common.{[], ◌∷◌, length, set, get_or}
 use Rattle.std.proofs.Common.{refl, sym, ◌∙◌, ap, subst, arith, Option, Some, None}
-use Rattle.std.specs.Prelude.{slice_get, is_some, if◌then◌else◌, ◌==◌}
+use Rattle.std.specs.Prelude.{slice_get, is_some}
 use Rattle.std.proofs.lemmas.List.{set-get_or, length-map}
 use Rattle.std.proofs.lemmas.Option.{slice_get_within}
 use Rattle.block_index.specs.SlotLists.{has_slot, index_of_slot}
@@ -17,12 +17,12 @@ use Rattle.cache_core.specs.Outcomes.{outcome_of, on_hit, is_dirtied, two_option
 use Rattle.cache_core.specs.Order.{Accesses, Visits, Touches, with_dirty_at, position_of}
 use Rattle.cache_core.specs.internal.Order.{DirtiesByWrites, holds_first, hits_in_front}
 use Rattle.cache_core.specs.internal.SlotOrder.{OrderValue, order_of}
-use Rattle.cache_core.specs.internal.Indexed.{slot_at, set_at, sets_at, with_mark, Holds}
+use Rattle.cache_core.specs.internal.Indexed.{slot_at, set_at, sets_at, with_mark}
 use Rattle.cache_core.specs.internal.Indexed.{IsIndexed, indexed_contents}
 use Rattle.cache_core.proofs.SlotsApart.{slot_in, some_is, index_once, index_within, map_kept}
 use Rattle.cache_core.proofs.IndexedLaw.{slot_block, sets_read, sets_written, marked_set}
 use Rattle.cache_core.proofs.IndexedLaw.{mark_other}
-use Rattle.cache_core.proofs.HeldLaw.{some_some, in_no_other}
+use Rattle.cache_core.proofs.HeldLaw.{in_no_other}
 use Rattle.cache_core.proofs.IndexedDeeds.{in_sets, hit_found}
 use Rattle.cache_core.proofs.IndexedVisit.{visits_hit, set_accesses, set_dirties}
 use Rattle.cache_core.proofs.FrontLaw.{touched_in_front, nothing_sent, itself}

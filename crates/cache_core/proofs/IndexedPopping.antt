@@ -1,12 +1,10 @@
 -- A set of a cache whose blocks are found by an index is emptied, from its last slot on.
 use Rattle.std.proofs.Common.{◌≡◌, ℕ, ◌+◌, ◌<◌, ◌≤◌, Bool, false, cond, List, [], ◌∷◌, ◌++◌}
 use Rattle.std.proofs.Common.{length, set, get_or}
-use Rattle.std.proofs.Common.{refl, sym, ◌∙◌, ap, subst, arith, Option, None, length-set}
+use Rattle.std.proofs.Common.{refl, sym, ◌∙◌, ap, subst, arith, None, length-set}
 use Rattle.std.proofs.Common.{length-append}
 use Rattle.std.proofs.lemmas.List.{get_or-set_same, set-get_or}
-use Rattle.block_index.specs.SlotLists.{has_slot}
 use Rattle.block_index.specs.BlockIndex.{IndexValue}
-use Rattle.cache_core.specs.declared.outcome.Slot.{Slot}
 use Rattle.cache_core.specs.Geometry.{GeometryValue}
 use Rattle.cache_core.specs.Order.{dirty_in}
 use Rattle.cache_core.specs.internal.SlotOrder.{OrderValue, order_of, with_order}

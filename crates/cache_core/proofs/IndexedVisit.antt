@@ -1,9 +1,9 @@
 -- One access to a cache whose blocks are found by an index, as its set sees it, and as all sets do.
-use Rattle.std.proofs.Common.{◌≡◌, ◌≢◌, ℕ, ◌+◌, ◌<◌, Bool, true, false, List, [], length, set}
+use Rattle.std.proofs.Common.{◌≡◌, ℕ, ◌+◌, ◌<◌, true, false, List, [], length, set}
 use Rattle.std.proofs.Common.{get_or}
 use Rattle.std.proofs.Common.{refl, sym, ◌∙◌, ap, subst, Option, Some, None, length-set}
 use Rattle.std.specs.Prelude.{MatchBool}
-use Rattle.std.proofs.lemmas.List.{get_or-set_other, get_or-set_same, set-get_or}
+use Rattle.std.proofs.lemmas.List.{get_or-set_other, get_or-set_same}
 use Rattle.trace_core.specs.declared.events.Ref.{Ref}
 use Rattle.trace_core.specs.Events.{is_write, one_if}
 use Rattle.cache_core.specs.declared.outcome.Slot.{Slot}
@@ -13,7 +13,7 @@ use Rattle.cache_core.specs.declared.design.Repl.{Repl}
 use Rattle.cache_core.specs.Geometry.{block_of, set_of}
 use Rattle.cache_core.specs.Outcomes.{is_allocated, is_dirtied, outcome_of, on_hit, on_passing}
 use Rattle.cache_core.specs.Outcomes.{on_placing}
-use Rattle.cache_core.specs.Order.{Accesses, Contents, Visits, VisitsAt, Hits, Fills, PassesOn}
+use Rattle.cache_core.specs.Order.{Accesses, Contents, Visits, VisitsAt, Fills, PassesOn}
 use Rattle.cache_core.specs.Order.{Touches, TakesIn}
 use Rattle.cache_core.specs.Order.{position_of, with_dirty_at, random_numbers_after, is_dirty}
 use Rattle.cache_core.specs.declared.chosen_policy.ChosenPolicy.{ChosenPolicy}

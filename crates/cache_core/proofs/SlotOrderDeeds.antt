@@ -1,9 +1,9 @@
 -- What the calls of the order of slots do, by the fields.
 use Rattle.std.proofs.Common.{◌≡◌, ◌≢◌, ℕ, zero, suc, ◌+◌, ◌-◌, ◌*◌, ◌%◌, ◌^◌, ◌<◌, ◌≤◌, List, []}
 use Rattle.std.proofs.Common.{◌∷◌, ◌++◌}
-use Rattle.std.proofs.Common.{length, set, get_or, take, drop, replicate, refl, sym, ◌∙◌, ap}
+use Rattle.std.proofs.Common.{length, set, get_or, replicate, refl, sym, ◌∙◌, ap}
 use Rattle.std.proofs.Common.{subst, arith, ◌⊎◌, inl, inr}
-use Rattle.std.proofs.Common.{Bool, true, false, Option, Some, None, ltb}
+use Rattle.std.proofs.Common.{Bool, true, false, Some, ltb}
 use Rattle.std.specs.Prelude.{slice_get, remove, nat_lt, IfOk}
 use Rattle.std.proofs.Common.{Result, Ok, Err}
 use Rattle.std.specs.Bool.{then_some}
@@ -15,8 +15,8 @@ use Rattle.block_index.specs.SlotLists.{AreApart, AreOnce, with_first, without_s
 use Rattle.cache_core.specs.declared.design.Repl.{Repl}
 use Rattle.cache_core.specs.declared.design.Repl.TheVariants.{Lru, Fifo, Random}
 use Rattle.cache_core.specs.Rules.{rules, InFront}
-use Rattle.cache_core.specs.internal.SlotOrder.{OrderValue, IsKept, orders, order_of, in_ways}
-use Rattle.cache_core.specs.internal.SlotOrder.{with_order, with_next, with_moved, victim_index}
+use Rattle.cache_core.specs.internal.SlotOrder.{IsKept, orders, order_of, in_ways}
+use Rattle.cache_core.specs.internal.SlotOrder.{with_next, with_moved, victim_index}
 use Rattle.cache_core.proofs.SlotsApart.{some_is, removed_self, index_once, slot_in}
 use Rattle.cache_core.proofs.SlotsApart.{length_remove_index}
 use Rattle.cache_core.proofs.HeldLaw.{by_set}

@@ -1,18 +1,16 @@
 -- The invariant of the order of slots, where a set has another order.
-use Rattle.std.proofs.Common.{◌≡◌, ◌≢◌, ℕ, zero, suc, ◌+◌, ◌*◌, ◌^◌, ◌<◌, ◌≤◌, List, [], ◌∷◌, ◌++◌}
+use Rattle.std.proofs.Common.{◌≡◌, ℕ, zero, suc, ◌+◌, ◌*◌, ◌^◌, ◌<◌, ◌≤◌, List, [], ◌∷◌}
 use Rattle.std.proofs.Common.{length, map}
 use Rattle.std.proofs.Common.{set, get_or, replicate, refl, sym, ◌∙◌, ap, subst, arith, length-set}
 use Rattle.std.specs.Prelude.{All}
 use Rattle.std.proofs.lemmas.List.Elements.{All-set, All-get_or, All-nil, All-cons}
 use Rattle.std.proofs.lemmas.List.{length-map}
 use Rattle.std.proofs.Math.Nat.{mul_comm}
-use Rattle.std.specs.List.{range_with_len}
 use Rattle.block_index.specs.SlotLists.{SlotListsValue}
 use Rattle.cache_core.specs.declared.design.Repl.{Repl}
 use Rattle.cache_core.specs.declared.design.Repl.TheVariants.{Lru, Fifo, Random}
 use Rattle.cache_core.specs.internal.SlotOrder.{IsKept, orders, order_of, in_ways}
-use Rattle.cache_core.proofs.WaysLaw.{counted, counts_set, count_kept, ways_counts, ways_at}
-use Rattle.cache_core.proofs.WaysLaw.{ways_set}
+use Rattle.cache_core.proofs.WaysLaw.{counted, counts_set, count_kept, ways_counts}
 
 -- lists, with another one
 abbrev pub with_list : SlotListsValue → ℕ → List ℕ → SlotListsValue

@@ -1,12 +1,12 @@
 -- Lists of slots in which none is twice, and what their slots hold.
-use Rattle.std.proofs.Common.{◌≡◌, ◌≢◌, ℕ, zero, suc, ◌+◌, ◌<◌, ◌≤◌, Bool, true, false, cond, eqb}
+use Rattle.std.proofs.Common.{◌≡◌, ◌≢◌, ℕ, zero, suc, ◌<◌, Bool, true, false, eqb}
 use Rattle.std.proofs.Common.{List, []}
-use Rattle.std.proofs.Common.{◌∷◌, ◌++◌, length, map, set, get_or, refl, sym, ◌∙◌, ap, subst}
-use Rattle.std.proofs.Common.{arith, Option, Some, None}
-use Rattle.std.proofs.Common.{take, drop, ltb, not, ⊎_elim, ◌||◌}
-use Rattle.std.specs.Prelude.{slice_get, remove, position}
-use Rattle.std.specs.List.{position_or_len, list_any}
-use Rattle.std.proofs.lemmas.Bool.{eqb-true, eqb-false, ne_eqb, eq-eqb, false≢true}
+use Rattle.std.proofs.Common.{◌∷◌, length, map, set, refl, sym, ◌∙◌, ap, subst}
+use Rattle.std.proofs.Common.{arith, Some, None}
+use Rattle.std.proofs.Common.{⊎_elim, ◌||◌}
+use Rattle.std.specs.Prelude.{slice_get, remove}
+use Rattle.std.specs.List.{position_or_len}
+use Rattle.std.proofs.lemmas.Bool.{ne_eqb, eq-eqb, false≢true}
 use Rattle.std.proofs.lemmas.Bool.Decides.{eqb_tells}
 use Rattle.std.proofs.lemmas.List.{length-map}
 use Rattle.block_index.specs.SlotLists.{has_slot, index_of_slot, AreOnce}

@@ -1,7 +1,7 @@
 -- One set after another is emptied.
-use Rattle.std.proofs.Common.{◌≡◌, ◌*◌, ◌<◌, ◌≤◌, ◌^◌, ap, sym, ◌∙◌, arith, length, drop, get_or}
-use Rattle.std.proofs.Common.{set, replicate, []}
-use Rattle.cache_core.specs.internal.SlotOrder.{OrderValue, order_of}
+use Rattle.std.proofs.Common.{◌*◌, ◌<◌, ap, sym, ◌∙◌, arith, length, get_or}
+use Rattle.std.proofs.Common.{replicate, []}
+use Rattle.cache_core.specs.internal.SlotOrder.{OrderValue}
 use Rattle.cache_core.specs.internal.Indexed.{counts_of}
 use Rattle.cache_core.proofs.IndexedEmptying.{emptying_none, one_emptied, few_dirty, all_emptied}
 use Rattle.cache_core.proofs.IndexedEmptying.{all_counted, listed_none, listed_within, listed_all}

@@ -1,5 +1,5 @@
 -- One slot after another leaves, from the last one on.
-use Rattle.std.proofs.Common.{◌≡◌, ap, sym, ◌∙◌, arith}
+use Rattle.std.proofs.Common.{ap, ◌∙◌, arith}
 use Rattle.cache_core.specs.Order.{dirty_in}
 use Rattle.cache_core.specs.internal.SlotOrder.{with_order}
 use Rattle.cache_core.specs.internal.Indexed.{set_at}

@@ -1,6 +1,5 @@
 -- No slot is filled, and no set is listed.
-use Rattle.std.proofs.Common.{◌≡◌, ◌∙◌, ap, length}
-use Rattle.cache_core.specs.internal.SlotOrder.{OrderValue}
+use Rattle.std.proofs.Common.{length}
 use Rattle.cache_core.specs.internal.Indexed.{counts_of}
 use Rattle.cache_core.proofs.TouchedSets.{covers_none}
 use Rattle.cache_core.proofs.IndexedEmpty.{flushed_indexed, flushed_counts}

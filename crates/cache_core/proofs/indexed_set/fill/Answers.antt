@@ -1,9 +1,9 @@
 -- The next slot of a set gets the block.
-use Rattle.std.proofs.Common.{◌≡◌, ℕ, suc, ◌+◌, ◌*◌, length, set, refl, sym, ◌∙◌, ap, arith}
-use Rattle.cache_core.specs.internal.SlotOrder.{order_of, with_moved, with_next}
+use Rattle.std.proofs.Common.{◌≡◌, suc, ◌+◌, ◌*◌, length, set, refl, sym, ◌∙◌, ap, arith}
+use Rattle.cache_core.specs.internal.SlotOrder.{order_of, with_next}
 use Rattle.cache_core.specs.internal.Indexed.{counts_of}
 use Rattle.cache_core.specs.Rules.{rules}
-use Rattle.cache_core.proofs.HeldLaw.{order_same, set_twice, get_same}
+use Rattle.cache_core.proofs.HeldLaw.{order_same}
 use Rattle.cache_core.proofs.IndexedDeeds.{in_sets, none_listed, next_free, more_indexed}
 use Rattle.cache_core.proofs.IndexedDeeds.{more_counts}
 use Rattle.cache_core.proofs.IndexedDeeds.{more_taken, more_sets}

@@ -1,7 +1,4 @@
 -- The slots of a set are its first, and each has a block.
-use Rattle.std.proofs.Common.{◌≡◌, ◌+◌, ◌*◌, length, sym}
-use Rattle.cache_core.specs.Geometry.{set_of_block}
-use Rattle.cache_core.specs.internal.SlotOrder.{order_of}
 use Rattle.cache_core.proofs.IndexedDeeds.{block_between, block_there}
 use Rattle.cache_core.proofs.indexed_set.find_slot.Goals as goal
 

@@ -1,5 +1,5 @@
 -- A set that is not full gets a slot more, and a full one gives one up.
-use Rattle.std.proofs.Common.{◌≡◌, ◌<◌, ◌+◌, sym, ◌∙◌, length, arith}
+use Rattle.std.proofs.Common.{◌<◌, ◌+◌, sym, ◌∙◌, length, arith}
 use Rattle.std.proofs.lemmas.List.{length-map}
 use Rattle.cache_core.specs.internal.Indexed.{counts_of}
 use Rattle.cache_core.specs.internal.SystemCaches.{random_numbers_of}

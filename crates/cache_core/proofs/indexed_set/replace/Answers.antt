@@ -1,12 +1,10 @@
 -- A slot of a full set gives up its block for another one.
-use Rattle.std.proofs.Common.{◌≡◌, ℕ, ◌+◌, ◌*◌, length, set, refl, sym, ◌∙◌, ap, arith, subst}
+use Rattle.std.proofs.Common.{◌≡◌, sym}
 use Rattle.std.proofs.Common.{Some, None}
-use Rattle.cache_core.specs.internal.SlotOrder.{order_of, with_moved, with_next}
-use Rattle.cache_core.specs.internal.Indexed.{counts_of, slot_at}
+use Rattle.cache_core.specs.internal.SlotOrder.{order_of, with_moved}
+use Rattle.cache_core.specs.internal.Indexed.{slot_at}
 use Rattle.cache_core.specs.Rules.{rules}
 use Rattle.cache_core.proofs.HeldLaw.{order_same, set_twice, get_same}
-use Rattle.std.proofs.Common.{get_or}
-use Rattle.block_index.specs.BlockIndex.{HasBlock}
 use Rattle.cache_core.proofs.IndexedLaw.{slot_block}
 use Rattle.cache_core.proofs.IndexedDeeds.{in_sets, leaving, leaving_in_blocks, leaving_in_marks}
 use Rattle.cache_core.proofs.IndexedDeeds.{gone}

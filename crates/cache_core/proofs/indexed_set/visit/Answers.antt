@@ -1,10 +1,10 @@
 -- The block is found in a slot, or nowhere, and then placed or passed on.
-use Rattle.std.proofs.Common.{◌≡◌, ◌<◌, ◌^◌, sym, ◌∙◌, ap, refl, arith, length, set}
+use Rattle.std.proofs.Common.{sym, ◌∙◌, ap, refl}
 use Rattle.cache_core.specs.internal.Indexed.{sets_at, set_at}
 use Rattle.cache_core.specs.internal.SlotOrder.{order_of}
 use Rattle.cache_core.specs.Geometry.{set_of_block}
 use Rattle.cache_core.specs.internal.SystemCaches.{policy_of, random_numbers_of}
-use Rattle.cache_core.proofs.IndexedDeeds.{in_sets, inside, in_marks, hit_indexed, hit_counts}
+use Rattle.cache_core.proofs.IndexedDeeds.{inside, in_marks, hit_indexed, hit_counts}
 use Rattle.cache_core.proofs.IndexedAccess.{hit_accesses, hit_dirties, passed_accesses}
 use Rattle.cache_core.proofs.IndexedAccess.{passed_dirties, placed_accesses, placed_dirties}
 use Rattle.cache_core.proofs.indexed_set.visit.Goals as goal

@@ -1,5 +1,5 @@
 -- The block is in the first slot of its set, or nothing is done.
-use Rattle.std.proofs.Common.{◌≡◌, set, true, sym, ◌∙◌, ap, refl, arith, Some}
+use Rattle.std.proofs.Common.{set, true, sym, ◌∙◌, ap, arith, Some}
 use Rattle.std.proofs.lemmas.Bool.{ne_eqb, eq-eqb}
 use Rattle.std.proofs.lemmas.Option.{slice_get_within}
 use Rattle.cache_core.specs.Geometry.{block_of}

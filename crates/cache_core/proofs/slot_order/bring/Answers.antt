@@ -1,8 +1,4 @@
 -- A slot leaves its list, is in none, and comes to the front.
-use Rattle.std.proofs.Common.{◌≡◌, ◌∷◌, ap, sym, ◌∙◌}
-use Rattle.std.specs.Prelude.{remove}
-use Rattle.block_index.specs.SlotLists.{index_of_slot, with_first, without_slot}
-use Rattle.cache_core.specs.internal.SlotOrder.{order_of}
 use Rattle.cache_core.proofs.SlotOrderDeeds.{taken_out, brought}
 use Rattle.cache_core.proofs.slot_order.bring.Goals as goal
 

@@ -1,5 +1,4 @@
 -- No slot is filled, whatever lists there are.
-use Rattle.std.proofs.Common.{◌≡◌, [], replicate}
 use Rattle.cache_core.proofs.SlotOrderDeeds.{if_ok, made_kept, made_sets, random_made, random_sets}
 use Rattle.cache_core.proofs.slot_order.no_lists.Goals as goal
 

@@ -1,5 +1,5 @@
 -- No slot is filled after a flush.
-use Rattle.std.proofs.Common.{◌≡◌, refl, ap, sym, ◌∙◌}
+use Rattle.std.proofs.Common.{refl, ◌∙◌}
 use Rattle.cache_core.proofs.IndexedEmpty.{flushed_views}
 use Rattle.cache_core.proofs.indexed_cache.IndexedCache.flush.Goals as goal
 

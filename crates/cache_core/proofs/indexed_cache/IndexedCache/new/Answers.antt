@@ -1,5 +1,5 @@
 -- No slot is filled, and no set is listed.
-use Rattle.std.proofs.Common.{◌≡◌, ◌^◌, Some, ap, sym, ◌∙◌, arith, length, replicate, []}
+use Rattle.std.proofs.Common.{Some, ap, sym, ◌∙◌, arith, replicate, []}
 use Rattle.cache_core.specs.internal.SlotOrder.{OrderValue}
 use Rattle.cache_core.specs.internal.Indexed.{counts_of}
 use Rattle.cache_core.proofs.TouchedSets.{covers_none}

@@ -1,5 +1,5 @@
 -- One slot more of a set is filled.
-use Rattle.std.proofs.Common.{◌≡◌, ℕ, ◌+◌, ◌-◌, ◌*◌, ◌<◌, length, refl, sym, ◌∙◌, ap, subst, arith}
+use Rattle.std.proofs.Common.{◌≡◌, ◌+◌, ◌*◌, ◌<◌, length, sym, ◌∙◌, ap, subst, arith}
 use Rattle.cache_core.specs.internal.SlotOrder.{OrderValue, order_of}
 use Rattle.cache_core.proofs.SlotOrderDeeds.{grown_kept, way_kept, way_next, count_here}
 use Rattle.cache_core.proofs.slot_order.SlotOrder.fill_next.Goals as goal

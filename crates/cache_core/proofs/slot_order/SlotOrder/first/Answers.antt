@@ -1,6 +1,6 @@
 -- The first way of a set is its first slot.
-use Rattle.std.proofs.Common.{◌≡◌, ℕ, ◌+◌, ◌-◌, ◌*◌, ◌<◌, length, refl, sym, ◌∙◌, ap, subst, arith}
-use Rattle.cache_core.specs.internal.SlotOrder.{OrderValue, order_of}
+use Rattle.std.proofs.Common.{◌<◌, length, sym, ◌∙◌, subst}
+use Rattle.cache_core.specs.internal.SlotOrder.{OrderValue}
 use Rattle.cache_core.proofs.SlotOrderDeeds.{way_first}
 use Rattle.cache_core.proofs.slot_order.SlotOrder.first.Goals as goal
 

@@ -1,6 +1,5 @@
 -- No slot is filled.
-use Rattle.std.proofs.Common.{◌≡◌, ap}
-use Rattle.cache_core.specs.internal.SlotOrder.{OrderValue}
+use Rattle.std.proofs.Common.{ap}
 use Rattle.cache_core.proofs.slot_order.SlotOrder.new.Goals as goal
 
 pub invariant_of-result : goal.invariant_of-result

@@ -1,10 +1,8 @@
 -- The last slot of a set leaves.
-use Rattle.std.proofs.Common.{◌≡◌, ℕ, ◌+◌, ◌-◌, ◌*◌, ◌<◌, length, refl, sym, ◌∙◌, ap, subst, arith}
-use Rattle.std.proofs.Common.{◌∷◌, ◌++◌, []}
+use Rattle.std.proofs.Common.{◌≡◌, ◌-◌, ◌*◌, ◌<◌, length, sym, ◌∙◌, ap, subst, arith}
 use Rattle.cache_core.specs.internal.SlotOrder.{OrderValue, order_of}
 use Rattle.std.specs.List.{range_with_len}
 use Rattle.std.specs.Prelude.{remove}
-use Rattle.std.proofs.Common.{◌≢◌}
 use Rattle.block_index.specs.SlotLists.{index_of_slot}
 use Rattle.cache_core.proofs.SlotsApart.{slot_in}
 use Rattle.cache_core.proofs.SlotOrderDeeds.{in_some_list, popped_kept, popped_list, popped_sets}

@@ -1,5 +1,5 @@
 -- As many slots are filled.
-use Rattle.std.proofs.Common.{◌≡◌, ◌<◌, true, length, sym, subst, inl}
+use Rattle.std.proofs.Common.{◌≡◌, ◌<◌, true, length, sym, subst}
 use Rattle.block_index.specs.SlotLists.{has_slot}
 use Rattle.cache_core.specs.internal.SlotOrder.{OrderValue, order_of}
 use Rattle.cache_core.proofs.SlotOrderDeeds.{brought_kept}

@@ -1,5 +1,5 @@
 -- The number names a way.
-use Rattle.std.proofs.Common.{◌≡◌, ℕ, ◌+◌, ◌-◌, ◌*◌, ◌<◌, length, refl, sym, ◌∙◌, ap, subst, arith}
+use Rattle.std.proofs.Common.{◌<◌, length, sym, subst, arith}
 use Rattle.cache_core.specs.internal.SlotOrder.{OrderValue, order_of}
 use Rattle.std.proofs.Math.Nat.{mod-lt}
 use Rattle.cache_core.proofs.SlotOrderDeeds.{way_drawn, count_here}
