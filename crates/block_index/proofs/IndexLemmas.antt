@@ -8,7 +8,8 @@ use Rattle.std.proofs.lemmas.List.{set-get_or, length-replicate}
 use Rattle.std.proofs.lemmas.Option.{slice_get_within}
 use Rattle.block_index.specs.SlotLists.{SlotListsValue, has_slot, is_listed, list_at}
 use Rattle.block_index.specs.SlotLists.{with_first, without_slot, AreApart}
-use Rattle.block_index.specs.BlockIndex.{IndexValue, HasBlock, NoSlotHas, AreDifferent, chain_of_block}
+use Rattle.block_index.specs.BlockIndex.{IndexValue, HasBlock, NoSlotHas, AreDifferent}
+use Rattle.block_index.specs.BlockIndex.{chain_of_block}
 use Rattle.block_index.specs.BlockIndex.{blocks_listed, AreOnChains}
 use Rattle.block_index.proofs.ListLemmas.{listed, listed-in, get-has}
 use Rattle.block_index.proofs.ChangeLemmas.{pushed_has, pushed_listed, pushed_same, not_in}

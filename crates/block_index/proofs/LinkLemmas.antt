@@ -1,5 +1,6 @@
 -- Lists that are linked, after a change to one of them.
-use Rattle.std.proofs.Common.{◌≡◌, ℕ, zero, suc, refl, ◌+◌, ◌-◌, ◌<◌, ◌≤◌, ◌^◌, inl, inr, true, false}
+use Rattle.std.proofs.Common.{◌≡◌, ℕ, zero, suc, refl, ◌+◌, ◌-◌, ◌<◌, ◌≤◌, ◌^◌, inl, inr, true}
+use Rattle.std.proofs.Common.{false}
 use Rattle.std.proofs.Common.{List, [], ◌∷◌, length, get_or, set, drop, sym, ◌∙◌, ap, subst, arith}
 use Rattle.std.proofs.Common.{length-set}
 use Rattle.std.specs.Prelude.{replicate, slice_get}
@@ -16,7 +17,8 @@ use Rattle.block_index.proofs.ChangeLemmas.{pushed_at, pushed_other, pushed_apar
 use Rattle.block_index.proofs.ChangeLemmas.{removed_other, removed_apart}
 use Rattle.block_index.proofs.PathLemmas.{back, forth, back_and_forth, after_on, before_on}
 use Rattle.block_index.proofs.PathLemmas.{path_kept, linked_slots-path, pushed_path, removed_path}
-use Rattle.block_index.proofs.PathLemmas.{before_pushed, after_pushed, path_first, path_last, path_next}
+use Rattle.block_index.proofs.PathLemmas.{before_pushed, after_pushed, path_first, path_last}
+use Rattle.block_index.proofs.PathLemmas.{path_next}
 
 empty_at : (n k : ℕ) → get_or {A = List ℕ} (replicate n []) k [] ≡ []
 empty_at zero k = refl
@@ -90,9 +92,11 @@ module _ {before after : List ℕ} {v : SlotListsValue} (h : AreLinked before af
   -- with slot s in front of list k
   module _ (k s : ℕ) (kl : k < length v.lists) (sl : s < v.slots)
       (free : is_listed v.lists s ≡ false) where
-    head_other : (j : ℕ) → (j ≡ k → ⊥) → has_slot (v.slots + k) ((v.slots + j) ∷ list_at v j) ≡ false
+    head_other : (j : ℕ) → (j ≡ k → ⊥) → has_slot (v.slots + k) ((v.slots + j) ∷ list_at v j) ≡
+        false
     head_other j ne =
-        not-both (v.slots + k) (v.slots + j) (list_at v j) (λ e. ne (omega (arith, e))) (not_head k j)
+        not-both (v.slots + k) (v.slots + j) (list_at v j) (λ e. ne (omega (arith, e))) (not_head k
+        j)
 
     -- the node after the head of list k is on no other list
     next_other : (j : ℕ) → j < length v.lists → (j ≡ k → ⊥) →
@@ -228,7 +232,8 @@ module _ {before after : List ℕ} {v : SlotListsValue} (h : AreLinked before af
           | inl e ↦ subst R (sym e) (subst Q (sym (removed_at v k s kl))
               (removed_path before after p q s refl refl forth_is back_is
               (omega (arith, h.after_long, p_small)) (omega (arith, h.before_long, q_small)) head
-              (list_at v k) head (h.paths k kl) (not_head k k) (not_head k k) (h.apart.once k) inside))
+              (list_at v k) head (h.paths k kl) (not_head k k) (not_head k k) (h.apart.once k)
+              inside))
           | inr ne ↦ subst P (sym (removed_other v k s kl j ne))
               (path_kept before after q p p q (v.slots + j) (list_at v j) (v.slots + j)
               (p_other j jl ne) (q_other j jl ne) (h.paths j jl))
@@ -236,7 +241,8 @@ module _ {before after : List ℕ} {v : SlotListsValue} (h : AreLinked before af
 
     pub removed_linked : AreLinked (set before q p) (set after p q) (without_slot v k s)
     removed_linked =
-        let long = length-set v.lists k (remove (list_at v k) (index_of_slot s (list_at v k))) in record {
+        let long = length-set v.lists k (remove (list_at v k) (index_of_slot s (list_at v k))) in
+        record {
           few = omega (arith, h.few, long);
           before_long = omega (arith, h.before_long, long, length-set before q p);
           after_long = omega (arith, h.after_long, long, length-set after p q);

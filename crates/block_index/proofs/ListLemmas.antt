@@ -87,7 +87,8 @@ has-remove s (suc i) (x ∷ xs) h =
 
 pub not-remove : (s i : ℕ) (xs : List ℕ) → has_slot s xs ≡ false → has_slot s (remove xs i) ≡ false
 not-remove s i xs absent =
-    false_from_ne_true (has_slot s (remove xs i)) (λ inside. not-and-has s xs absent (has-remove s i xs inside))
+    false_from_ne_true (has_slot s (remove xs i)) (λ inside. not-and-has s xs absent (has-remove s i
+    xs inside))
 
 pub once-remove : (i : ℕ) (xs : List ℕ) → AreOnce xs → AreOnce (remove xs i)
 once-remove zero [] once = tt

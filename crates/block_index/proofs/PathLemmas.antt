@@ -213,7 +213,8 @@ module _ (before after : List ℕ) (h s : ℕ) where
 
 -- slot s taken out, from between nodes p and q
 module _ (before after : List ℕ) (p q s : ℕ) (p_is : get_or before s 0 ≡ p)
-    (q_is : get_or after s 0 ≡ q) (forth_is : get_or after p 0 ≡ s) (back_is : get_or before q 0 ≡ s)
+    (q_is : get_or after s 0 ≡ q) (forth_is : get_or after p 0 ≡ s) (back_is : get_or before q 0 ≡
+    s)
     (pa : p < length after) (qb : q < length before) where
   link_across : (b : ℕ) → q ≡ b → IsLink (set before q p) (set after p q) p b
   link_across b e =

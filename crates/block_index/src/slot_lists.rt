@@ -1,9 +1,11 @@
 //! Lists of slots, no slot in two of them, that change in a few steps.
-ghost use Rattle.std.specs.Prelude.{◌≡◌, ◌+◌, ◌-◌, ◌<◌, ◌≤◌, ◌^◌, [], true, false, length, replicate};
+ghost use Rattle.std.specs.Prelude.{◌≡◌, ◌+◌, ◌-◌, ◌<◌, ◌≤◌, ◌^◌, [], true, false, length};
+ghost use Rattle.std.specs.Prelude.{replicate};
 ghost use Rattle.std.specs.Prelude.{slice_get, IfOk};
 ghost use Rattle.std.specs.List.{range_with_len};
 ghost use Rattle.block_index.specs.SlotLists.{SlotListsValue, has_slot, is_listed, index_of_slot};
-ghost use Rattle.block_index.specs.SlotLists.{list_at, with_first, without_slot, AreApart, slot_at_node};
+ghost use Rattle.block_index.specs.SlotLists.{list_at, with_first, without_slot, AreApart};
+ghost use Rattle.block_index.specs.SlotLists.{slot_at_node};
 
 use std::alloc::{AllocError, Global};
 use std::marker::Model;

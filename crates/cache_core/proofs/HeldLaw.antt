@@ -1,5 +1,5 @@
--- Slots get blocks and lose them, and go elsewhere in the order of their set: which slots have which
--- blocks.
+-- Slots get blocks and lose them, and go elsewhere in the order of their set: which slots have
+-- which blocks.
 use Rattle.std.proofs.Common.{◌≡◌, ◌≢◌, ℕ, zero, suc, ◌+◌, ◌*◌, ◌^◌, ◌<◌, ◌≤◌, Bool, true, false}
 use Rattle.std.proofs.Common.{List, []}
 use Rattle.std.proofs.Common.{◌∷◌, length, set, refl, sym, ◌∙◌, ap, subst, arith, Option}

@@ -64,7 +64,8 @@ in_no_list s (xs ∷ sets) none =
 
 free_slot : (index : IndexValue) (s : ℕ) → s < length index.blocks →
     ((c : ℕ) → HasBlock index s c → ⊥) → slice_get index.blocks s ≡ Some None
-free_slot index s lt none = by (get_or index.blocks s None) (slice_get-get_or index.blocks s None lt)
+free_slot index s lt none = by (get_or index.blocks s None) (slice_get-get_or index.blocks s None
+    lt)
   where
     by : (o : Option ℕ) → slice_get index.blocks s ≡ Some o → slice_get index.blocks s ≡ Some None
     by None e = e

@@ -70,7 +70,8 @@ module _ (g : GeometryValue) (dirty : List Bool) (k : ℕ) (first : IndexValue) 
     held = subst (λ (i : IndexValue). IsHeld g i left.sets) (sym gone)
         (subst (λ (ys : List (List ℕ)). IsHeld g (with_block index s None) ys) (sym left_sets)
         (pop_held g index order.sets k s xs p.held p.within is));
-    slots = ap (λ (i : IndexValue). length i.blocks) gone ∙ length-set index.blocks s None ∙ p.slots;
+    slots = ap (λ (i : IndexValue). length i.blocks) gone ∙ length-set index.blocks s None ∙
+        p.slots;
     rest = taken ∙ ap (λ (o : OrderValue). with_order o k xs) p.rest
         ∙ ap (λ ys. record start { sets = ys })
         (set_again start.sets k (order_of order.sets k) xs

@@ -57,7 +57,8 @@ pub taken_out : (v : SlotListsValue) (k s : ℕ) → AreApart v → k < length v
     is_listed (set v.lists k (remove (order_of v.lists k) (index_of_slot s (order_of v.lists k)))) s
     ≡ false
 taken_out v k s a lt i =
-    in_no_list s (set v.lists k (remove (order_of v.lists k) (index_of_slot s (order_of v.lists k))))
+    in_no_list s (set v.lists k (remove (order_of v.lists k) (index_of_slot s
+    (order_of v.lists k))))
     (by_set v.lists k (remove (order_of v.lists k) (index_of_slot s (order_of v.lists k))) lt
     (λ n ys. has_slot s ys ≡ false) (removed_self s (order_of v.lists k) (a.once k))
     (λ j ne. by_not (has_slot s (order_of v.lists j)) (λ h. ne (a.one_list j k s h i))))
@@ -202,7 +203,8 @@ module _ (ways : ℕ) (filled : List ℕ) (lists : SlotListsValue) (k : ℕ) (p 
     way_drawn number lt =
         ap (λ q. slice_get (order_of (orders p ways filled lists) k) (victim_index (rules q).victim
         number (length (order_of (orders p ways filled lists) k)))) named
-        ∙ ap (λ n. slice_get (order_of (orders p ways filled lists) k) (number % n)) (count_here m e)
+        ∙ ap (λ n. slice_get (order_of (orders p ways filled lists) k) (number % n)) (count_here m
+        e)
         ∙ ap (λ ys. slice_get ys (number % m)) row
         ∙ range_get (k * ways) m (number % m) lt
 

@@ -56,7 +56,8 @@ some_is x y e = cc
 -- the slot at an index is in the list
 pub slot_in : (xs : List ℕ) (i s : ℕ) → slice_get xs i ≡ Some s → has_slot s xs ≡ true
 slot_in [] i s e = absurd (cc)
-slot_in (x ∷ xs) zero s e = subst (λ (y : ℕ). has_slot y (x ∷ xs) ≡ true) (some_is x s e) (in_here x xs)
+slot_in (x ∷ xs) zero s e = subst (λ (y : ℕ). has_slot y (x ∷ xs) ≡ true) (some_is x s e) (in_here x
+    xs)
 slot_in (x ∷ xs) (suc i) s e = in_cons s x xs (slot_in xs i s e)
 
 -- its index is that index, if none is twice
@@ -131,7 +132,8 @@ pub map_kept : (f g : ℕ → Slot) (s : ℕ) (xs : List ℕ) → ((t : ℕ) →
     has_slot s xs ≡ false → map g xs ≡ map f xs
 map_kept f g s [] same e = refl
 map_kept f g s (x ∷ xs) same e =
-    ap (λ y. y ∷ map g xs) (same x (λ q. false≢true (sym e ∙ subst (λ (y : ℕ). has_slot y (x ∷ xs) ≡ true) q (in_here x xs))))
+    ap (λ y. y ∷ map g xs) (same x (λ q. false≢true (sym e ∙ subst
+    (λ (y : ℕ). has_slot y (x ∷ xs) ≡ true) q (in_here x xs))))
     ∙ ap (λ ys. f x ∷ ys) (map_kept f g s xs same (not_in_tail s x xs e))
 
 pub map_changed : (f g : ℕ → Slot) (s : ℕ) (xs : List ℕ) → ((t : ℕ) → t ≢ s → g t ≡ f t) →

@@ -21,9 +21,9 @@ use std::alloc::{AllocError, Global};
 use std::marker::Model;
 use trace_core::Ref;
 
-/// A cache under a policy. One array has the slots of all sets, each set in a segment of its own and
-/// in the policy's order. `touched` lists the sets with filled slots, as long as they are few, so
-/// that a flush visits only these.
+/// A cache under a policy. One array has the slots of all sets, each set in a segment of its own
+/// and in the policy's order. `touched` lists the sets with filled slots, as long as they are few,
+/// so that a flush visits only these.
 #[derive(Drop)]
 pub struct Cache<P> {
     design: Design,

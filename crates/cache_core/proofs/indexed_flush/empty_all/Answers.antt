@@ -72,9 +72,11 @@ loop-set-preserved c =
     )
 
 pub returns-clause-counted : goal.returns-clause-counted
-returns-clause-counted c = all_counted c.args.design.geometry c.args.dirty.now c.args.index.now c.args.order.now
+returns-clause-counted c = all_counted c.args.design.geometry c.args.dirty.now c.args.index.now
+    c.args.order.now
     c.loop-set.index c.loop-set.order c.loop-set.count c.loop-set.invariant.0
-    (ap (λ (o : OrderValue). o.sets) (all_emptied c.args.design.geometry c.args.dirty.now c.args.index.now c.args.order.now
+    (ap (λ (o : OrderValue). o.sets) (all_emptied c.args.design.geometry c.args.dirty.now
+    c.args.index.now c.args.order.now
     c.loop-set.index c.loop-set.order c.loop-set.count c.loop-set.invariant.0
     (λ k. none_from c.loop-set.order.sets c.loop-set.set (omega (
       arith,
@@ -86,7 +88,8 @@ returns-clause-counted c = all_counted c.args.design.geometry c.args.dirty.now c
     ∙ ap (λ n. replicate n []) (sym c.loop-set.invariant.0.sets))
 
 pub returns-clause-empty : goal.returns-clause-empty
-returns-clause-empty c = all_emptied c.args.design.geometry c.args.dirty.now c.args.index.now c.args.order.now
+returns-clause-empty c = all_emptied c.args.design.geometry c.args.dirty.now c.args.index.now
+    c.args.order.now
     c.loop-set.index c.loop-set.order c.loop-set.count c.loop-set.invariant.0
     (λ k. none_from c.loop-set.order.sets c.loop-set.set (omega (
       arith,

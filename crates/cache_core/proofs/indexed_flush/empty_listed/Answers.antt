@@ -27,7 +27,8 @@ empty_set-count-requires-clause-slots c = omega (
 )
 
 pub empty_set-count-requires-clause-set : goal.empty_set-count-requires-clause-set
-empty_set-count-requires-clause-set c = listed_within c.args.sets.now c.loop-number.order.sets c.loop-number.number-index
+empty_set-count-requires-clause-set c = listed_within c.args.sets.now c.loop-number.order.sets
+    c.loop-number.number-index
     c.loop-number-test.true c.loop-number.invariant.1
 
 pub empty_set-count-requires-clause-few : goal.empty_set-count-requires-clause-few
@@ -52,11 +53,14 @@ overflow_add-count c = omega (
 
 pub loop-number-preserved : goal.loop-number-preserved
 loop-number-preserved c =
-    let within : (get_or c.args.sets.now c.loop-number.number-index 0) < length c.loop-number.order.sets = listed_within c.args.sets.now c.loop-number.order.sets c.loop-number.number-index
+    let within : (get_or c.args.sets.now c.loop-number.number-index 0) < length
+    c.loop-number.order.sets = listed_within c.args.sets.now c.loop-number.order.sets
+    c.loop-number.number-index
     c.loop-number-test.true c.loop-number.invariant.1 in (
       one_emptied c.args.design.geometry c.args.dirty.now c.args.index.now c.args.order.now
           c.loop-number.index c.loop-number.order c.loop-number.count c.loop-number.invariant.0
-          (get_or c.args.sets.now c.loop-number.number-index 0) within c.empty_set-count.new.index c.empty_set-count.new.order
+          (get_or c.args.sets.now c.loop-number.number-index 0) within c.empty_set-count.new.index
+          c.empty_set-count.new.order
           c.empty_set-count.result c.empty_set-count.ensures.empty c.empty_set-count.ensures.held
           c.empty_set-count.ensures.slots c.empty_set-count.ensures.counted,
       still_listed c.args.sets.now c.loop-number.order c.empty_set-count.new.order
@@ -65,9 +69,11 @@ loop-number-preserved c =
     )
 
 pub returns-clause-counted : goal.returns-clause-counted
-returns-clause-counted c = all_counted c.args.design.geometry c.args.dirty.now c.args.index.now c.args.order.now
+returns-clause-counted c = all_counted c.args.design.geometry c.args.dirty.now c.args.index.now
+    c.args.order.now
     c.loop-number.index c.loop-number.order c.loop-number.count c.loop-number.invariant.0
-    (ap (λ (o : OrderValue). o.sets) (all_emptied c.args.design.geometry c.args.dirty.now c.args.index.now c.args.order.now
+    (ap (λ (o : OrderValue). o.sets) (all_emptied c.args.design.geometry c.args.dirty.now
+    c.args.index.now c.args.order.now
     c.loop-number.index c.loop-number.order c.loop-number.count c.loop-number.invariant.0
     (listed_none c.loop-number.order.sets (listed_all c.args.sets.now c.loop-number.order.sets
     c.loop-number.number-index (omega (arith, c.loop-number-test.false))
@@ -75,7 +81,8 @@ returns-clause-counted c = all_counted c.args.design.geometry c.args.dirty.now c
     ∙ ap (λ n. replicate n []) (sym c.loop-number.invariant.0.sets))
 
 pub returns-clause-empty : goal.returns-clause-empty
-returns-clause-empty c = all_emptied c.args.design.geometry c.args.dirty.now c.args.index.now c.args.order.now
+returns-clause-empty c = all_emptied c.args.design.geometry c.args.dirty.now c.args.index.now
+    c.args.order.now
     c.loop-number.index c.loop-number.order c.loop-number.count c.loop-number.invariant.0
     (listed_none c.loop-number.order.sets (listed_all c.args.sets.now c.loop-number.order.sets
     c.loop-number.number-index (omega (arith, c.loop-number-test.false))

@@ -18,7 +18,8 @@ fill_next-slot-requires-clause-free c = rw c.requires.indexed.ways
     c.requires.room refl)
 
 pub add-requires-clause-free : goal.add-requires-clause-free
-add-requires-clause-free c = next_free c.args.design c.args.index.now c.args.dirty.now c.args.order.now
+add-requires-clause-free c = next_free c.args.design c.args.index.now c.args.dirty.now
+    c.args.order.now
     c.args.set c.requires.indexed c.requires.within c.args.new.block c.requires.none
     (sym c.requires.set) c.requires.address c.args.new.dirty
     c.fill_next-slot.result c.requires.room
@@ -38,7 +39,8 @@ pub returns-clause-counts : goal.returns-clause-counts
 returns-clause-counts c =
     let one : suc (length (order_of c.args.order.now.sets c.args.set))
     ≡ length (order_of c.args.order.now.sets c.args.set) + 1 = omega arith in
-    rw c.fill_next-slot.ensures.order (more_counts c.args.design c.args.index.now c.args.dirty.now c.args.order.now
+    rw c.fill_next-slot.ensures.order (more_counts c.args.design c.args.index.now c.args.dirty.now
+    c.args.order.now
     c.args.set c.requires.indexed c.requires.within c.args.new.block c.requires.none
     (sym c.requires.set) c.requires.address c.args.new.dirty
     c.fill_next-slot.result c.requires.room
@@ -50,7 +52,8 @@ pub returns-clause-taken : goal.returns-clause-taken
 returns-clause-taken c = λ number. rw (
   c.add.ensures,
   c.fill_next-slot.ensures.order,
-  order_same c.args.order.now.sets c.args.set (with_next (rules c.args.order.now.policy).placed c.fill_next-slot.result
+  order_same c.args.order.now.sets c.args.set (with_next (rules c.args.order.now.policy).placed
+      c.fill_next-slot.result
       (order_of c.args.order.now.sets c.args.set))
       (in_sets c.args.design c.args.index.now c.args.dirty.now c.args.order.now
       c.args.set c.requires.indexed c.requires.within),
@@ -66,7 +69,8 @@ pub returns-clause-sets : goal.returns-clause-sets
 returns-clause-sets c = rw (
   c.add.ensures,
   c.fill_next-slot.ensures.order,
-  order_same c.args.order.now.sets c.args.set (with_next (rules c.args.order.now.policy).placed c.fill_next-slot.result
+  order_same c.args.order.now.sets c.args.set (with_next (rules c.args.order.now.policy).placed
+      c.fill_next-slot.result
       (order_of c.args.order.now.sets c.args.set))
       (in_sets c.args.design c.args.index.now c.args.dirty.now c.args.order.now
       c.args.set c.requires.indexed c.requires.within),

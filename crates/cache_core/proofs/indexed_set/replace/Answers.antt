@@ -14,7 +14,8 @@ use Rattle.cache_core.proofs.HeldLaw.{left_none}
 use Rattle.cache_core.proofs.indexed_set.replace.Goals as goal
 
 pub renew-requires-clause-slot : goal.renew-requires-clause-slot
-renew-requires-clause-slot c = leaving c.args.design c.args.index.now c.args.dirty.now c.args.order.now
+renew-requires-clause-slot c = leaving c.args.design c.args.index.now c.args.dirty.now
+    c.args.order.now
     c.args.set c.requires.indexed c.requires.within c.args.new.block c.requires.none
     (sym c.requires.set) c.requires.address c.args.new.dirty
     c.victim-slot.result c.args.number c.requires.full c.victim-slot.ensures
@@ -26,7 +27,8 @@ block-requires c = let h = gone c.args.design c.args.index.now c.args.dirty.now 
     c.victim-slot.result c.args.number c.requires.full c.victim-slot.ensures in (h.block, h.has)
 
 pub bounds-dirty-slot : goal.bounds-dirty-slot
-bounds-dirty-slot c = leaving_in_marks c.args.design c.args.index.now c.args.dirty.now c.args.order.now
+bounds-dirty-slot c = leaving_in_marks c.args.design c.args.index.now c.args.dirty.now
+    c.args.order.now
     c.args.set c.requires.indexed c.requires.within c.args.new.block c.requires.none
     (sym c.requires.set) c.requires.address c.args.new.dirty
     c.victim-slot.result c.args.number c.requires.full c.victim-slot.ensures
@@ -48,20 +50,28 @@ add-requires-clause-other c = rw c.remove.ensures
     c.victim-slot.result c.args.number c.requires.full c.victim-slot.ensures) c.requires.none)
 
 pub bounds-dirty-slot-2 : goal.bounds-dirty-slot-2
-bounds-dirty-slot-2 c = leaving_in_marks c.args.design c.args.index.now c.args.dirty.now c.args.order.now
+bounds-dirty-slot-2 c = leaving_in_marks c.args.design c.args.index.now c.args.dirty.now
+    c.args.order.now
     c.args.set c.requires.indexed c.requires.within c.args.new.block c.requires.none
     (sym c.requires.set) c.requires.address c.args.new.dirty
     c.victim-slot.result c.args.number c.requires.full c.victim-slot.ensures
 
 pub returns-clause-indexed : goal.returns-clause-indexed
-returns-clause-indexed c = rw (c.add.ensures, c.remove.ensures, set_twice c.args.index.now.blocks c.victim-slot.result None (Some c.args.new.block), c.renew.ensures)
+returns-clause-indexed c = rw (
+  c.add.ensures,
+  c.remove.ensures,
+  set_twice c.args.index.now.blocks
+      c.victim-slot.result None (Some c.args.new.block),
+  c.renew.ensures,
+)
     (over_indexed c.args.design c.args.index.now c.args.dirty.now c.args.order.now
     c.args.set c.requires.indexed c.requires.within c.args.new.block c.requires.none
     (sym c.requires.set) c.requires.address c.args.new.dirty
     c.victim-slot.result c.args.number c.requires.full c.victim-slot.ensures)
 
 pub returns-clause-counts : goal.returns-clause-counts
-returns-clause-counts c = rw c.renew.ensures (over_counts c.args.design c.args.index.now c.args.dirty.now c.args.order.now
+returns-clause-counts c = rw c.renew.ensures (over_counts c.args.design c.args.index.now
+    c.args.dirty.now c.args.order.now
     c.args.set c.requires.indexed c.requires.within c.args.new.block c.requires.none
     (sym c.requires.set) c.requires.address c.args.new.dirty
     c.victim-slot.result c.args.number c.requires.full c.victim-slot.ensures)
@@ -77,7 +87,8 @@ returns-clause-taken c = rw (
   c.remove.ensures,
   set_twice c.args.index.now.blocks c.victim-slot.result None (Some c.args.new.block),
   c.renew.ensures,
-  order_same c.args.order.now.sets c.args.set (with_moved (rules c.args.order.now.policy).placed c.victim-slot.result
+  order_same c.args.order.now.sets c.args.set (with_moved (rules c.args.order.now.policy).placed
+      c.victim-slot.result
       (order_of c.args.order.now.sets c.args.set))
       (in_sets c.args.design c.args.index.now c.args.dirty.now c.args.order.now
       c.args.set c.requires.indexed c.requires.within),
@@ -94,7 +105,8 @@ returns-clause-sets c = rw (
   c.remove.ensures,
   set_twice c.args.index.now.blocks c.victim-slot.result None (Some c.args.new.block),
   c.renew.ensures,
-  order_same c.args.order.now.sets c.args.set (with_moved (rules c.args.order.now.policy).placed c.victim-slot.result
+  order_same c.args.order.now.sets c.args.set (with_moved (rules c.args.order.now.policy).placed
+      c.victim-slot.result
       (order_of c.args.order.now.sets c.args.set))
       (in_sets c.args.design c.args.index.now c.args.dirty.now c.args.order.now
       c.args.set c.requires.indexed c.requires.within),
@@ -105,7 +117,8 @@ returns-clause-sets c = rw (
     c.victim-slot.result c.args.number c.requires.full c.victim-slot.ensures)
 
 pub returns-clause-victim : goal.returns-clause-victim
-returns-clause-victim c = rw (held c) (over_victim c.args.design c.args.index.now c.args.dirty.now c.args.order.now
+returns-clause-victim c = rw (held c) (over_victim c.args.design c.args.index.now c.args.dirty.now
+    c.args.order.now
     c.args.set c.requires.indexed c.requires.within c.args.new.block c.requires.none
     (sym c.requires.set) c.requires.address c.args.new.dirty
     c.victim-slot.result c.args.number c.requires.full c.victim-slot.ensures)

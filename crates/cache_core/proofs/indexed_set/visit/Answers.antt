@@ -14,22 +14,27 @@ find_slot-requires-clause-set c = c.set_of-set.ensures.value
     ∙ ap (set_of_block c.args.design.geometry) (sym c.block_of-block.ensures.value)
 
 pub use_slot-requires-clause-slot : goal.use_slot-requires-clause-slot
-use_slot-requires-clause-slot c = inside c.args.design c.args.index.now c.args.dirty.now c.args.order.now
+use_slot-requires-clause-slot c =
+    inside c.args.design c.args.index.now c.args.dirty.now c.args.order.now
     c.set_of-set.result c.requires.indexed c.set_of-set.ensures.within
-    c.in-Some.slot c.block_of-block.result c.in-Some.ensures (ap (set_of_block c.args.design.geometry) c.block_of-block.ensures.value
+    c.in-Some.slot c.block_of-block.result c.in-Some.ensures (ap
+    (set_of_block c.args.design.geometry) c.block_of-block.ensures.value
     ∙ sym c.set_of-set.ensures.value)
 
 pub use_slot-requires-clause-mark : goal.use_slot-requires-clause-mark
-use_slot-requires-clause-mark c = in_marks c.args.design c.args.index.now c.args.dirty.now c.args.order.now
+use_slot-requires-clause-mark c =
+    in_marks c.args.design c.args.index.now c.args.dirty.now c.args.order.now
     c.set_of-set.result c.requires.indexed c.set_of-set.ensures.within
-    c.in-Some.slot c.block_of-block.result c.in-Some.ensures (ap (set_of_block c.args.design.geometry) c.block_of-block.ensures.value
+    c.in-Some.slot c.block_of-block.result c.in-Some.ensures (ap
+    (set_of_block c.args.design.geometry) c.block_of-block.ensures.value
     ∙ sym c.set_of-set.ensures.value)
 
 pub returns-in-Some-clause-indexed : goal.returns-in-Some-clause-indexed
 returns-in-Some-clause-indexed c = rw (c.use_slot.ensures.mark, c.use_slot.ensures.order)
     (hit_indexed c.args.design c.args.index.now c.args.dirty.now c.args.order.now
     c.set_of-set.result c.requires.indexed c.set_of-set.ensures.within
-    c.in-Some.slot c.block_of-block.result c.in-Some.ensures (ap (set_of_block c.args.design.geometry) c.block_of-block.ensures.value
+    c.in-Some.slot c.block_of-block.result c.in-Some.ensures (ap
+    (set_of_block c.args.design.geometry) c.block_of-block.ensures.value
     ∙ sym c.set_of-set.ensures.value) c.dirties_line-mark.result)
 
 pub returns-in-Some-clause-touched : goal.returns-in-Some-clause-touched
@@ -37,7 +42,8 @@ returns-in-Some-clause-touched c = rw (
   c.use_slot.ensures.order,
   hit_counts c.args.design c.args.index.now c.args.dirty.now c.args.order.now
       c.set_of-set.result c.requires.indexed c.set_of-set.ensures.within
-      c.in-Some.slot c.block_of-block.result c.in-Some.ensures (ap (set_of_block c.args.design.geometry) c.block_of-block.ensures.value
+      c.in-Some.slot c.block_of-block.result c.in-Some.ensures (ap
+      (set_of_block c.args.design.geometry) c.block_of-block.ensures.value
       ∙ sym c.set_of-set.ensures.value) c.dirties_line-mark.result,
 )
     c.requires.touched
@@ -62,9 +68,11 @@ returns-in-Some-clause-dirty c =
 
 pub returns-then-not-allocates_line-clause-step : goal.returns-then-not-allocates_line-clause-step
 returns-then-not-allocates_line-clause-step c =
-    passed_accesses c.args.design c.args.index.now c.args.dirty.now c.args.order.now c.args.reference
+    passed_accesses c.args.design c.args.index.now c.args.dirty.now c.args.order.now
+    c.args.reference
     c.set_of-set.result c.block_of-block.result c.requires.indexed c.set_of-set.ensures.value
-    c.block_of-block.ensures.value c.set_of-set.ensures.within c.passing_outcome.result c.in_default.ensures
+    c.block_of-block.ensures.value c.set_of-set.ensures.within c.passing_outcome.result
+    c.in_default.ensures
     (sym c.allocates_line.ensures ∙ c.if-not-allocates_line.true) c.passing_outcome.ensures
     (policy_of c.args.policy.now) (random_numbers_of c.args.policy.now)
 
@@ -73,12 +81,14 @@ pub returns-then-not-allocates_line-clause-dirty :
 returns-then-not-allocates_line-clause-dirty c =
     passed_dirties c.args.design c.args.index.now c.args.dirty.now c.args.order.now c.args.reference
     c.set_of-set.result c.block_of-block.result c.requires.indexed c.set_of-set.ensures.value
-    c.block_of-block.ensures.value c.set_of-set.ensures.within c.passing_outcome.result c.in_default.ensures
+    c.block_of-block.ensures.value c.set_of-set.ensures.within c.passing_outcome.result
+    c.in_default.ensures
     (sym c.allocates_line.ensures ∙ c.if-not-allocates_line.true) c.passing_outcome.ensures
 
 pub returns-clause-step : goal.returns-clause-step
 returns-clause-step c =
-    placed_accesses c.args.design c.args.index.now c.args.dirty.now c.args.order.now c.args.reference
+    placed_accesses c.args.design c.args.index.now c.args.dirty.now c.args.order.now
+    c.args.reference
     c.set_of-set.result c.block_of-block.result c.requires.indexed c.set_of-set.ensures.value
     c.block_of-block.ensures.value c.set_of-set.ensures.within c.placing_outcome.result
     c.in_default.ensures c.dirties_line-mark.result c.dirties_line-mark.ensures

@@ -18,11 +18,13 @@ block-requires c =
 
 pub returns-then-block-clause-answers : goal.returns-then-block-clause-answers
 returns-then-block-clause-answers c =
-    sym (front_told c.args.design c.args.index.now c.args.dirty.now c.args.order.now c.args.reference
+    sym (front_told c.args.design c.args.index.now c.args.dirty.now c.args.order.now
+    c.args.reference
     c.set_of-set.result c.in-Some.slot c.block.result c.requires c.set_of-set.ensures.value
     c.set_of-set.ensures.within (sym c.first.ensures ∙ c.in-Some.is) c.block.ensures
     c.hit_outcome-outcome.result c.hit_outcome-outcome.ensures
-    (sym c.is_some.ensures ∙ c.if-is_some.false) ∙ ne_eqb c.block.result (block_of c.args.design.geometry c.args.reference.addr)
+    (sym c.is_some.ensures ∙ c.if-is_some.false) ∙ ne_eqb c.block.result (block_of
+    c.args.design.geometry c.args.reference.addr)
     (λ q. c.if-block.true (q ∙ sym c.block_of-block.ensures.value)))
 
 pub bounds-dirty-slot : goal.bounds-dirty-slot
@@ -55,11 +57,13 @@ returns-then-dirties_line-clause-dirty c =
 
 pub returns-then-dirties_line-clause-answers : goal.returns-then-dirties_line-clause-answers
 returns-then-dirties_line-clause-answers c =
-    sym (front_told c.args.design c.args.index.now c.args.dirty.now c.args.order.now c.args.reference
+    sym (front_told c.args.design c.args.index.now c.args.dirty.now c.args.order.now
+    c.args.reference
     c.set_of-set.result c.in-Some.slot c.block.result c.requires c.set_of-set.ensures.value
     c.set_of-set.ensures.within (sym c.first.ensures ∙ c.in-Some.is) c.block.ensures
     c.hit_outcome-outcome.result c.hit_outcome-outcome.ensures
-    (sym c.is_some.ensures ∙ c.if-is_some.false) ∙ eq-eqb c.block.result (block_of c.args.design.geometry c.args.reference.addr)
+    (sym c.is_some.ensures ∙ c.if-is_some.false) ∙ eq-eqb c.block.result (block_of
+    c.args.design.geometry c.args.reference.addr)
     (c.if-block.false ∙ c.block_of-block.ensures.value))
 
 pub returns-else-dirties_line-clause-access : goal.returns-else-dirties_line-clause-access
@@ -74,9 +78,11 @@ returns-else-dirties_line-clause-access c = λ policy numbers.
 
 pub returns-else-dirties_line-clause-answers : goal.returns-else-dirties_line-clause-answers
 returns-else-dirties_line-clause-answers c =
-    sym (front_told c.args.design c.args.index.now c.args.dirty.now c.args.order.now c.args.reference
+    sym (front_told c.args.design c.args.index.now c.args.dirty.now c.args.order.now
+    c.args.reference
     c.set_of-set.result c.in-Some.slot c.block.result c.requires c.set_of-set.ensures.value
     c.set_of-set.ensures.within (sym c.first.ensures ∙ c.in-Some.is) c.block.ensures
     c.hit_outcome-outcome.result c.hit_outcome-outcome.ensures
-    (sym c.is_some.ensures ∙ c.if-is_some.false) ∙ eq-eqb c.block.result (block_of c.args.design.geometry c.args.reference.addr)
+    (sym c.is_some.ensures ∙ c.if-is_some.false) ∙ eq-eqb c.block.result (block_of
+    c.args.design.geometry c.args.reference.addr)
     (c.if-block.false ∙ c.block_of-block.ensures.value))

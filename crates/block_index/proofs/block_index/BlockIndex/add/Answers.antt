@@ -1,4 +1,5 @@
-use Rattle.std.proofs.Common.{◌≡◌, ◌+◌, ◌/◌, ◌<◌, ◌∙◌, ℕ, List, Option, Some, None, length, set, sym, ap}
+use Rattle.std.proofs.Common.{◌≡◌, ◌+◌, ◌/◌, ◌<◌, ◌∙◌, ℕ, List, Option, Some, None, length, set}
+use Rattle.std.proofs.Common.{sym, ap}
 use Rattle.std.proofs.Common.{subst, arith, false}
 use Rattle.std.specs.Prelude.{slice_get}
 use Rattle.block_index.specs.SlotLists.{SlotListsValue, is_listed, with_first}
@@ -26,7 +27,8 @@ module _ (c : After-chain_among-chain) where
   list_in = omega (arith, c.chain_among-chain.ensures.within, chains_are)
 
   chain_is : chain_of_block (length lists) c.args.block ≡ chain
-  chain_is = sym (c.chain_among-chain.ensures.is ∙ ap (λ n. chain_of_block n c.args.block) chains_are)
+  chain_is = sym (c.chain_among-chain.ensures.is ∙ ap (λ n. chain_of_block n c.args.block)
+      chains_are)
 
   had : slice_get (blocks_listed lists 0 blocks) c.args.slot ≡ Some None
   had = ap (λ w. slice_get w.blocks c.args.slot) c.self.view_is ∙ c.requires.free

@@ -17,6 +17,7 @@ invariant_of-result c =
 pub returns : goal.returns
 returns c =
     let n : ℕ = c.args.slots in
-    ap (blocks_listed c.in_ok-new.field-0.lists 0) (c.in_ok-vec.ensures.items_if_clones_equal (λ y e. e))
+    ap (blocks_listed c.in_ok-new.field-0.lists 0) (c.in_ok-vec.ensures.items_if_clones_equal
+    (λ y e. e))
     ∙ ap (λ w. blocks_listed w.lists 0 (replicate n 0)) (c.in_ok-new.ensures {u = tt})
     ∙ none_blocks n (replicate (n / 2 + 1) []) 0 (none-listed (n / 2 + 1))

@@ -1,4 +1,5 @@
-use Rattle.std.proofs.Common.{◌≡◌, ◌+◌, ◌/◌, ◌<◌, ◌∙◌, ℕ, List, Option, Some, None, length, get_or, set}
+use Rattle.std.proofs.Common.{◌≡◌, ◌+◌, ◌/◌, ◌<◌, ◌∙◌, ℕ, List, Option, Some, None, length, get_or}
+use Rattle.std.proofs.Common.{set}
 use Rattle.std.proofs.Common.{sym, ap, subst, arith, true}
 use Rattle.std.specs.Prelude.{slice_get}
 use Rattle.std.proofs.lemmas.List.{get_or_read}
@@ -7,7 +8,8 @@ use Rattle.block_index.specs.BlockIndex.{IndexValue, chain_of_block, blocks_list
 use Rattle.block_index.proofs.IndexLemmas.{within-has, listed-has, on_chain, removed_indexed}
 use Rattle.block_index.proofs.IndexLemmas.{removed_blocks}
 use Rattle.block_index.proofs.block_index.BlockIndex.remove.Goals as goal
-use Rattle.block_index.proofs.block_index.BlockIndex.remove.Goals.{After-len, After-chain_among-chain}
+use Rattle.block_index.proofs.block_index.BlockIndex.remove.Goals.{After-len}
+use Rattle.block_index.proofs.block_index.BlockIndex.remove.Goals.{After-chain_among-chain}
 
 module _ (c : After-len) where
   slot_in : c.args.slot < length c.self.inside.blocks.items

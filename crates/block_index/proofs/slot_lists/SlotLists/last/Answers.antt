@@ -17,4 +17,5 @@ returns c =
     get_or_read s.before.items (s.slots + c.args.list) c.index.result.now
     (omega (arith, i.before_long, kl)) c.index.ensures 0 in
     c.slot_at.ensures ∙ ap (slot_at_node s.slots) read ∙ list_last i c.args.list kl
-    ∙ ap (λ w. slice_get (list_at w c.args.list) (length (list_at w c.args.list) - 1)) c.self.view_is
+    ∙ ap (λ w. slice_get (list_at w c.args.list) (length (list_at w c.args.list) - 1))
+    c.self.view_is

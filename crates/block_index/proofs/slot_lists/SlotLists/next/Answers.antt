@@ -19,6 +19,7 @@ returns c =
     let read : c.index.result.now ≡ get_or s.after.items c.args.slot 0 =
     get_or_read s.after.items c.args.slot c.index.result.now
     (omega (arith, i.after_long, i.apart.below c.args.list c.args.slot inside)) c.index.ensures 0 in
-    c.slot_at.ensures ∙ ap (slot_at_node s.slots) read ∙ list_next i c.args.list c.args.slot kl inside
+    c.slot_at.ensures ∙ ap (slot_at_node s.slots) read ∙ list_next i c.args.list c.args.slot kl
+    inside
     ∙ ap (λ w. slice_get (list_at w c.args.list)
     (index_of_slot c.args.slot (list_at w c.args.list) + 1)) c.self.view_is

@@ -1,6 +1,7 @@
 use Rattle.std.proofs.Common.{◌≡◌, ◌+◌, ◌<◌, ◌∙◌, ℕ, length, get_or, set, ap, arith}
 use Rattle.std.proofs.lemmas.List.{get_or_read}
-use Rattle.block_index.specs.SlotLists.{SlotListsValue, is_listed, list_at, with_first, linked_lists}
+use Rattle.block_index.specs.SlotLists.{SlotListsValue, is_listed, list_at, with_first}
+use Rattle.block_index.specs.SlotLists.{linked_lists}
 use Rattle.block_index.specs.SlotLists.{AreLinked}
 use Rattle.block_index.proofs.ListLemmas.{has-head}
 use Rattle.block_index.proofs.LinkLemmas.{after_small, linked_again, pushed, read_off}

@@ -1,6 +1,7 @@
 use Rattle.std.proofs.Common.{◌≡◌, ◌<◌, ◌∙◌, length, get_or, set, ap, arith, true}
 use Rattle.std.proofs.lemmas.List.{get_or_read}
-use Rattle.block_index.specs.SlotLists.{SlotListsValue, has_slot, list_at, without_slot, linked_lists}
+use Rattle.block_index.specs.SlotLists.{SlotListsValue, has_slot, list_at, without_slot}
+use Rattle.block_index.specs.SlotLists.{linked_lists}
 use Rattle.block_index.specs.SlotLists.{AreLinked}
 use Rattle.block_index.proofs.LinkLemmas.{linked_again, removed, read_off, p_small, q_small}
 use Rattle.block_index.proofs.slot_lists.SlotLists.remove.Goals as goal

@@ -16,7 +16,8 @@ invariant_of-result c =
         allocate = c.args.allocate;
       }) c.in_ok-index.index c.in_ok-dirty.dirty.items c.in_ok-order.order c.name.result
           c.sets-sets.result c.lines-lines.result c.lines-lines.ensures.limits c.sets-sets.ensures
-          c.lines-lines.ensures.value c.in_ok-index.ensures (omega (arith, c.in_ok-dirty.ensures.len))
+          c.lines-lines.ensures.value c.in_ok-index.ensures (omega
+          (arith, c.in_ok-dirty.ensures.len))
           made,
       covers_none c.in_ok-touched.touched _ c.sets-sets.result (counts_of c.in_ok-order.order.sets)
           c.in_ok-touched.ensures (new_counts c.in_ok-order.order c.name.result c.args.geometry.e

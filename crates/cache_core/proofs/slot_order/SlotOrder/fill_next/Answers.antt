@@ -38,7 +38,8 @@ returns-in-Random-clause-order c =
     c.requires.set) in
     let same : c.index_mut.result.now ≡ c.index.result.now =
     sym (count_here i.ways i.filled.items i.lists c.args.set i.policy c.self.invariant within
-    c.index_mut.result.now c.index_mut.ensures.value) ∙ count_here i.ways i.filled.items i.lists c.args.set i.policy c.self.invariant
+    c.index_mut.result.now c.index_mut.ensures.value) ∙ count_here i.ways i.filled.items i.lists
+    c.args.set i.policy c.self.invariant
     within c.index.result.now c.index.ensures in
     rw (← c.self.view_is, same)
     (ap (λ sets. record { policy = i.policy; ways = i.ways; sets = sets })

@@ -34,12 +34,15 @@ invariant_of-self c =
     (subst (λ (v : OrderValue). c.args.set < length v.sets) (sym c.self.view_is)
     c.requires) c.in-Lru.is
     c.index_mut.result.now c.unwrap-last.result c.index_mut.ensures.value
-    (λ q. c.if-count-eq0.false (sym (count_here i.ways i.filled.items i.lists c.args.set i.policy c.self.invariant
+    (λ q. c.if-count-eq0.false (sym (count_here i.ways i.filled.items i.lists c.args.set i.policy
+    c.self.invariant
     (subst (λ (v : OrderValue). c.args.set < length v.sets) (sym c.self.view_is)
     c.requires)
-    c.index.result.now c.index.ensures) ∙ count_here i.ways i.filled.items i.lists c.args.set i.policy c.self.invariant
+    c.index.result.now c.index.ensures) ∙ count_here i.ways i.filled.items i.lists c.args.set
+    i.policy c.self.invariant
     (subst (λ (v : OrderValue). c.args.set < length v.sets) (sym c.self.view_is)
-    c.requires) c.index_mut.result.now c.index_mut.ensures.value ∙ q)) (sym c.last.ensures ∙ c.unwrap-last.ensures) (c.are_apart.ensures.once c.args.set))
+    c.requires) c.index_mut.result.now c.index_mut.ensures.value ∙ q)) (sym c.last.ensures ∙
+    c.unwrap-last.ensures) (c.are_apart.ensures.once c.args.set))
 
 pub invariant_of-self-in-Random : goal.invariant_of-self-in-Random
 invariant_of-self-in-Random c =
@@ -64,19 +67,23 @@ returns-in-Lru c =
           (index_of_slot c.unwrap-last.result (order_of i.lists.lists c.args.set)),
       popped_list i.ways i.filled.items i.lists c.args.set i.policy c.self.invariant within
           c.in-Lru.is c.index_mut.result.now c.unwrap-last.result c.index_mut.ensures.value
-          (λ q. c.if-count-eq0.false (sym (count_here i.ways i.filled.items i.lists c.args.set i.policy c.self.invariant
+          (λ q. c.if-count-eq0.false (sym (count_here i.ways i.filled.items i.lists c.args.set
+          i.policy c.self.invariant
           (subst (λ (v : OrderValue). c.args.set < length v.sets) (sym c.self.view_is)
           c.requires)
-          c.index.result.now c.index.ensures) ∙ count_here i.ways i.filled.items i.lists c.args.set i.policy c.self.invariant
+          c.index.result.now c.index.ensures) ∙ count_here i.ways i.filled.items i.lists c.args.set
+          i.policy c.self.invariant
           (subst (λ (v : OrderValue). c.args.set < length v.sets) (sym c.self.view_is)
           c.requires) c.index_mut.result.now c.index_mut.ensures.value ∙ q)) last once,
       ap (λ sets. record { policy = i.policy; ways = i.ways; sets = sets })
           (popped_sets i.ways i.filled.items i.lists c.args.set i.policy c.self.invariant within
           c.in-Lru.is c.index_mut.result.now c.unwrap-last.result c.index_mut.ensures.value
-          (λ q. c.if-count-eq0.false (sym (count_here i.ways i.filled.items i.lists c.args.set i.policy c.self.invariant
+          (λ q. c.if-count-eq0.false (sym (count_here i.ways i.filled.items i.lists c.args.set
+          i.policy c.self.invariant
           (subst (λ (v : OrderValue). c.args.set < length v.sets) (sym c.self.view_is)
           c.requires)
-          c.index.result.now c.index.ensures) ∙ count_here i.ways i.filled.items i.lists c.args.set i.policy c.self.invariant
+          c.index.result.now c.index.ensures) ∙ count_here i.ways i.filled.items i.lists c.args.set
+          i.policy c.self.invariant
           (subst (λ (v : OrderValue). c.args.set < length v.sets) (sym c.self.view_is)
           c.requires) c.index_mut.result.now c.index_mut.ensures.value ∙ q)) last once),
     )
@@ -88,7 +95,8 @@ returns-in-Random c =
     c.requires) in
     let same : c.index_mut.result.now ≡ c.index.result.now =
     sym (count_here i.ways i.filled.items i.lists c.args.set i.policy c.self.invariant within
-    c.index_mut.result.now c.index_mut.ensures.value) ∙ count_here i.ways i.filled.items i.lists c.args.set i.policy c.self.invariant
+    c.index_mut.result.now c.index_mut.ensures.value) ∙ count_here i.ways i.filled.items i.lists
+    c.args.set i.policy c.self.invariant
     within c.index.result.now c.index.ensures in
     rw (← c.self.view_is, same) (
       range_with_len (c.args.set * i.ways) (c.index.result.now - 1),

@@ -8,7 +8,8 @@ use Rattle.cache_core.proofs.slot_order.SlotOrder.touch.Goals as goal
 pub invariant_of-self : goal.invariant_of-self
 invariant_of-self c =
     let i = c.self.inside in
-    rw c.bring.ensures (brought_kept i.ways i.filled.items i.lists c.args.set i.policy c.self.invariant
+    rw c.bring.ensures (brought_kept i.ways i.filled.items i.lists c.args.set i.policy
+    c.self.invariant
     (subst (λ (v : OrderValue). c.args.set < length v.sets) (sym c.self.view_is)
     c.requires.set) (inl c.in-Lru.is)
     c.args.slot

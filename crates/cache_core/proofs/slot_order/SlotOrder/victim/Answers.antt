@@ -17,6 +17,7 @@ returns-in-Random c =
       subst (λ (v : OrderValue). 0 < length (order_of v.sets c.args.set)) (sym c.self.view_is)
           c.requires.some,
     ) in
-    rw (← c.self.view_is) (way_drawn i.ways i.filled.items i.lists c.args.set i.policy c.self.invariant
+    rw (← c.self.view_is) (way_drawn i.ways i.filled.items i.lists c.args.set i.policy
+    c.self.invariant
     within c.in-Random.is c.index.result.now c.index.ensures c.args.number
     (mod-lt c.args.number some))
