@@ -252,8 +252,8 @@ class Split(PlotTest):
     UNIFIED = (f"l1-usize,l1-ubsize,{COUNTS},memory-reads", "64,16,100,50,50.000,0,50",
                "128,16,100,20,20.000,0,20")
     SPLIT = ("l1-isize,l1-dsize,l1-i-references,l1-i-misses,l1-i-percent,l1-d-references,"
-             "l1-d-misses,l1-d-percent,bypassed,memory-reads", "64,64,60,6,10.000,40,20,50.000,0,26",
-             "64,128,60,6,10.000,40,10,25.000,0,16")
+             "l1-d-misses,l1-d-percent,bypassed,memory-reads",
+             "64,64,60,6,10.000,40,20,50.000,0,26", "64,128,60,6,10.000,40,10,25.000,0,16")
 
     def setUp(self):
         super().setUp()
@@ -292,7 +292,8 @@ class Split(PlotTest):
         """A row in which a cache is there in part, or none is; two that have nothing in common."""
         for line in "64,,100,50,50.000,0,50", ",16,100,50,50.000,0,50":
             self.write("t.csv", f"{self.UNIFIED[0].replace('usize', 'usets')}\n{line}\n")
-            self.refused(self.run_tool("best", "t.csv"), 1, "t.csv: line 2: no row of a table of din")
+            ran = self.run_tool("best", "t.csv")
+            self.refused(ran, 1, "t.csv: line 2: no row of a table of din")
         self.write("other.csv", "l1-dsize,l1-d-references,l1-d-misses,bypassed\n64,40,20,60\n")
         ran = self.run_tool("plot", "--script", "one.csv", "other.csv", "-")
         self.refused(ran, 1, "plot: the tables have no measure in common: name one by --measure")

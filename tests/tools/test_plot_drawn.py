@@ -131,7 +131,7 @@ class Drawn(PlotTest):
 
 @needs("gnuplot-nox")
 class Texts(PlotTest):
-    """A title, a measure and a name of a table are drawn as they are, whatever letters they have."""
+    """A title, a measure and a table's name are drawn as they are, whatever letters they have."""
 
     WILD = ("'a", "''", "a''b", "it's", "'`date`'", "'@GPVAL_VERSION", "@b", '"q"\\n\'', "{c}^2_3",
             "'0'7\\0471", "&lt;<b>", "x'$y", "'%g'#;!")

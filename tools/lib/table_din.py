@@ -133,8 +133,10 @@ def cases_of(found, options):
     seeds are one run."""
     policies = [at for at, option in enumerate(options) if kind(option) == "repl"]
     for case in found:
-        is_random = any(case.given[at] == "r" for at in policies) or len(set(case.values)) > 1
-        yield case if is_random else case._replace(values=case.values[:1], wholes=case.wholes[:1])
+        is_random = any(case.given[at] == "r" for at in policies) or len({*case.values}) > 1
+        if len(case.values) > 1 and not is_random:
+            case = case._replace(values=case.values[:1], wholes=case.wholes[:1])
+        yield case
 
 
 def read_table(lines, name, measure=None):

@@ -216,7 +216,10 @@ def of_several(asked, tables, views, measure):
 def read(asked, given, first=None):
     """A table with its measure and the option on its axis: those that are asked for, or of the
     first table, where this one has them; else its own, as of a split cache beside a unified one."""
-    table, columns = read_table(given.lines, given.shown), given.lines[0].strip().split(",")
+    columns = given.lines[0].strip().split(",")
+    likely = (usual_measure(columns) or "").replace("-misses", "-percent")
+    likely = asked.measure or (likely if likely in columns else None)
+    table = read_table(given.lines, given.shown, likely)
     as_first = first.across if first and first.across in table.options else None
     across = across_of(asked.across or as_first, table, given.file)
     if first and kind(across) != kind(first.across):
@@ -224,7 +227,8 @@ def read(asked, given, first=None):
     measure = asked.measure or chosen_measure(columns, across)
     if first and not asked.measure and first.table.measure in columns:
         measure = first.table.measure
-    table = read_table(given.lines, given.shown, measure)
+    if measure != table.measure:
+        table = read_table(given.lines, given.shown, measure)
     if table.left_out:
         warn(table.left_out)
     return View(table, across, given.file)
