@@ -285,8 +285,8 @@ class Split(PlotTest):
         self.ends(ran, 0, told, wanted)
         ran = self.run_tool("plot", "--script", "both.csv", "-")
         self.assertIn("64 50\n128 25\n", ran.stdout.decode())
-        self.assertEqual(ran.stderr.decode(), told.replace("best:", "plot:").replace("misses",
-                                                                                    "percent"))
+        told = told.replace("best:", "plot:").replace("misses", "percent")
+        self.assertEqual(ran.stderr.decode(), told)
 
     def test_refused(self):
         """A row in which a cache is there in part, or none is; two that have nothing in common."""

@@ -216,10 +216,7 @@ def of_several(asked, tables, views, measure):
 def read(asked, given, first=None):
     """A table with its measure and the option on its axis: those that are asked for, or of the
     first table, where this one has them; else its own, as of a split cache beside a unified one."""
-    columns = given.lines[0].strip().split(",")
-    likely = (usual_measure(columns) or "").replace("-misses", "-percent")
-    likely = asked.measure or (likely if likely in columns else None)
-    table = read_table(given.lines, given.shown, likely)
+    table, columns = read_table(given.lines, given.shown), given.lines[0].strip().split(",")
     as_first = first.across if first and first.across in table.options else None
     across = across_of(asked.across or as_first, table, given.file)
     if first and kind(across) != kind(first.across):
