@@ -1,5 +1,6 @@
 """The table that `cachesim sweep` writes, for the tools of this folder that read one."""
 
+import gc
 import re
 from collections import namedtuple
 
@@ -145,6 +146,7 @@ def lines_of(name):
     spare(name)
     shown = "standard input" if name == "-" else name
     text = {"encoding": "utf-8-sig", "errors": "replace"}
+    gc.disable()  # it would look at all rows again and again: half of the time for a million
     with faults_of(shown), open(0 if name == "-" else name, closefd=name != "-", **text) as file:
         return list(file), shown
 

@@ -133,8 +133,10 @@ def cases_of(found, options):
     seeds are one run."""
     policies = [at for at, option in enumerate(options) if kind(option) == "repl"]
     for case in found:
-        is_random = any(case.given[at] == "r" for at in policies) or len(set(case.values)) > 1
-        yield case if is_random else case._replace(values=case.values[:1], wholes=case.wholes[:1])
+        is_random = any(case.given[at] == "r" for at in policies) or len({*case.values}) > 1
+        if len(case.values) > 1 and not is_random:
+            case = case._replace(values=case.values[:1], wholes=case.wholes[:1])
+        yield case
 
 
 def read_table(lines, name, measure=None):
@@ -148,13 +150,13 @@ def read_table(lines, name, measure=None):
                        "columns")
     measured, whole = column_of(columns, measure, name), whole_of(columns, measure)
     is_share = COUNT.fullmatch(measure) and not measure.endswith("-percent")
-    places, seed = [columns.index(option) for option in options], columns.index("seed") if (
-        "seed" in columns) else None
+    places = [columns.index(option) for option in options]
+    seeds = [at for at, column in enumerate(columns) if column == "seed"][:1]
     own = [at for at in places if measure.startswith(f"{cache(columns[at])}-")]
     found, seen, references, empty = {}, set(), None, 0
     for place, fields, size, references in read_rows(lines, name, columns, options):
         given = tuple(fields[at] for at in places)
-        named = given if seed is None else (given, fields[seed])
+        named = (given, *(fields[at] for at in seeds))
         if named in seen:
             raise BadTable(f"{place}: a second row of the same options")
         seen.add(named)
@@ -165,7 +167,7 @@ def read_table(lines, name, measure=None):
             found[given] = Case(given, size, [], [], len(found))
         found[given].values.append(number_of(fields[measured], measure, place))
         found[given].wholes.append(100 if not is_share else references if whole is None
-                                   else int(fields[whole]))
+                                   else int(fields[whole] or 0))
     if not found:
         raise BadTable(f"{name}: a table without {f'any {measure}' if empty else 'a row'}")
     left_out = f"{name}: {empty} of {len(seen)} rows have no {measure}, and are left out"

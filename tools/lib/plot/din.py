@@ -224,7 +224,8 @@ def read(asked, given, first=None):
     measure = asked.measure or chosen_measure(columns, across)
     if first and not asked.measure and first.table.measure in columns:
         measure = first.table.measure
-    table = read_table(given.lines, given.shown, measure)
+    if measure != table.measure:
+        table = read_table(given.lines, given.shown, measure)
     if table.left_out:
         warn(table.left_out)
     return View(table, across, given.file)
