@@ -57,8 +57,8 @@ class Runs:
         self.runs, self.spool, self.handed = [], None, 0
         # where there is no such file, each run tells it
         is_special = os.path.exists(trace) and not (os.path.isfile(trace) or os.path.isdir(trace))
-        # the program takes no word that isn't UTF-8, and can't show other odd ones
-        is_special |= tool.visible(trace) != trace
+        # the program takes no word that isn't UTF-8
+        is_special |= trace != trace.encode(errors="replace").decode()
         self.is_read_once = is_read_once or trace == "-" or is_packed(trace) or is_special
 
     def start_next(self):
