@@ -194,7 +194,8 @@ class Others(Wrong):
         calls.append({"READ_MOST": 1, "READ_FAILS": len(din.trace) + 2})
         outputs = ["a full device", "a pipe that nobody reads", "stream 1 is closed"]
         bad = self.named("devices", ["SILENT", "AGAIN"], "--commands", "din")[1]
-        wanted = [f"din {call}" for call in calls] + [f"din: {output}" for output in outputs]
+        wanted = [f"din, {' '.join(call)}: {call}" for call in calls]
+        wanted += [f"din: {output}" for output in outputs]
         self.assertEqual(bad, wanted)
 
     def test_refusals(self):

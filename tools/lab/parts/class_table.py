@@ -38,7 +38,7 @@ class Judgement(namedtuple("Judgement", "text right of points fault")):
 
 def unjudged(text, fault, of=None):
     """The judgement on a program for which there are no numbers: it has no case right, of all or
-    of so many that were judged."""
+    of as many as were judged."""
     return Judgement(f"{text}{fault}\n", 0, of, 0, fault)
 
 
@@ -75,7 +75,7 @@ class Class:
             fault = message if ended == 2 else f"grade ended with status {ended}"
             self.faults.append(f"{program}: {fault}")
         fault = message.replace(f"{program}: ", "csim: ") or "not judged"
-        return unjudged(text, fault, None if is_of_program else 0)
+        return unjudged(text, fault, None if is_of_program or ended != 2 else 0)
 
     def student(self, folder):
         """The judgement on a student; its text is kept in the folder."""
