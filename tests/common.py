@@ -122,9 +122,9 @@ class Sum:
         """Compares what a script has run with what is kept of it: a case that is lost fails."""
         kept = [*lines_of(SUMS), *lines_of(NAMES)]
         own = [line for line in kept if begin_of(line) == f"tests/{script}"]
-        self.compare(own, self.leave(script, count))
+        self.compare_kept(own, self.leave(script, count))
 
-    def compare(self, kept, lines):
+    def compare_kept(self, kept, lines):
         """Compares lines with those that are kept: for what begins in the same way, says what was
         and what is, and how it is renewed."""
         for begin, (was, now) in changes(kept, lines).items():
