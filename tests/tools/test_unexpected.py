@@ -86,13 +86,15 @@ class Unexpected(base.ToolTest):
                     self.assertTrue(ran.stdout)
 
     def test_names(self):
-        """Of a file that is not there, of one that is no trace, and of one that is badly packed."""
+        """Of a file that is not there, of one that is no trace, and of one that is badly packed.
+        The program shows a line feed by its number."""
         for wild in map(os.fsdecode, WILD):
+            shown = tool.visible(wild), tool.visible(wild).replace("\\n", "\\x0a")
             for name, line in NAMES.items():
                 with self.subTest(tool=name, file=wild):
                     lines, ran = self.lines_of(name, line.replace("TRACE", wild).split(" "))
                     self.assertTrue(ran.returncode)
-                    self.assertTrue(any(tool.visible(wild) in one for one in lines), lines)
+                    self.assertTrue(any(one in line for line in lines for one in shown), lines)
         for wild in map(os.fsdecode, WILD):
             self.write(f"{wild}.gz", "no")
             self.write(wild, "no \x1b[31m\x9b\x7f\n")
