@@ -58,7 +58,7 @@ class Runs:
         # where there is no such file, each run tells it
         is_special = os.path.exists(trace) and not (os.path.isfile(trace) or os.path.isdir(trace))
         # the program takes no word that isn't UTF-8
-        is_special |= trace != trace.encode(errors="replace").decode()
+        is_special |= trace.encode(errors="replace") != os.fsencode(trace)
         self.is_read_once = is_read_once or trace == "-" or is_packed(trace) or is_special
 
     def start_next(self):
