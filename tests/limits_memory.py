@@ -1,7 +1,6 @@
 """What tests/limits judges of the bytes that a run asks for: the formulas of the manual, and runs
 that must ask for as many as these give."""
 
-import math
 import re
 import sys
 
@@ -34,10 +33,11 @@ ALL_PAIRS = f"Sweeping all {PAIRS} pairs with one way takes {NUMBER} MB"
 BUFFERS = f"a run has two buffers of {NUMBER} KiB, and a sweep {NUMBER} KiB for references"
 CACHES = (
     f"`csim`, `din` and `log` take {NUMBER} bytes per line of a cache and {NUMBER} per set; `din` "
-    f"and `log` with {NUMBER} ways or more take, in place of that, {NUMBER} bytes per set and "
-    f"{NUMBER} for each {NUMBER} ways after the first {NUMBER}, or a part of 128; `csim` with more "
-    f"than {NUMBER} ways takes, in place of {NUMBER} bytes, at most {NUMBER} bytes for each line "
-    f"after the first {NUMBER} of a set, and {NUMBER} more per set"
+    f"and `log` with {NUMBER} ways or more take, instead of that, {NUMBER} bytes per line, "
+    f"{NUMBER} per set and {NUMBER} more, and under random replacement {NUMBER} bytes per line, "
+    f"{NUMBER} per set and {NUMBER} more; `csim` with more than {NUMBER} ways takes, instead of "
+    f"{NUMBER} bytes, at most {NUMBER} bytes for each line after the first {NUMBER} of a set, and "
+    f"{NUMBER} more per set"
 )
 
 
@@ -69,16 +69,18 @@ def told_of_pair(sets, ways):
     return value(formula, sets, ways)
 
 
-def told_of_cache(command, sets, ways):
-    """The bytes of a cache of din, log or csim, for so many sets and lines per set."""
-    line, set_, wide, *others = told_by_the_manual(CACHES)
-    set_in_parts, ring, slots, first = others[:4]
-    searched, instead, line_far, near, set_far = others[4:]
+def told_of_cache(command, sets, ways, policy="l"):
+    """The bytes of a cache of din, log or csim, for so many sets and lines per set, and of din and
+    log by the letter of their policy."""
+    line, set_, indexed, *others = told_by_the_manual(CACHES)
+    in_order, random, (searched, instead, line_far, near, set_far) = (
+        others[:3], others[3:6], others[6:])
+    if command != "csim" and ways >= indexed:
+        line, set_, more = random if policy == "r" else in_order
+        return sets * (line * ways + set_) + more
     of_set = line * ways + set_
     if command == "csim" and ways > searched:
         of_set += (line_far - instead) * (ways - near) + set_far
-    elif command != "csim" and ways >= wide:
-        of_set = set_in_parts + ring * math.ceil((ways - first) / slots)
     return sets * of_set
 
 
@@ -88,13 +90,14 @@ def pair(sets, ways):
     return [*words, "--size", "0-1g"], told_of_pair(sets, ways)
 
 
-def cache(command, sets, ways):
+def cache(command, sets, ways, policy="l"):
     """A run of one cache, and its bytes."""
     if command == "csim":
         words = ["-s", f"{sets.bit_length() - 1}", "-E", f"{ways}", "-b", "4", "-t", "/dev/stdin"]
     else:
         words = ["-l1-ubsize", "16", "-l1-usets", f"{sets}", "-l1-uassoc", f"{ways}"]
-    return [command, *words], told_of_cache(command, sets, ways)
+        words += ["-l1-urepl", policy]
+    return [command, *words], told_of_cache(command, sets, ways, policy)
 
 
 def blocks(sets, tags=range(1)):
@@ -150,16 +153,21 @@ def bytes_of_tables(limits, told):
 
 def bytes_of_caches(limits, told):
     """The same of caches, of which those of csim may have long lists too."""
-    for command, sets, ways, least in (
-        ("din", 2**20, 1, None), ("din", 1024, 127, None), ("din", 1024, 128, None),
-        ("din", 1024, 144, None), ("din", 1024, 145, None), ("din", 1, WAYS, None),
-        ("din", 64, WAYS, None), ("log", 1024, 127, None), ("log", 1024, 128, None),
-        ("csim", 2**20, 1, None), ("csim", 1024, 256, None), ("csim", 1024, 257, 0.996),
-        ("csim", 1, WAYS, 0.996), ("csim", 64, WAYS, 0.996),
+    above = int(told_by_the_manual(CACHES)[2])
+    below = above - 1
+    for command, policy, sets, ways, least in (
+        ("din", "l", 2**20, 1, None), ("din", "r", 1024, below, None),
+        ("din", "l", 1024, below, None), ("din", "l", 1024, above, None),
+        ("din", "f", 1024, above, None), ("din", "r", 1024, above, None),
+        ("din", "l", 1, WAYS, None), ("din", "l", 64, WAYS, None), ("din", "r", 64, WAYS, None),
+        ("log", "l", 1024, below, None), ("log", "l", 1024, above, None),
+        ("csim", "l", 2**20, 1, None), ("csim", "l", 1024, 256, None),
+        ("csim", "l", 1024, 257, 0.996), ("csim", "l", 1, WAYS, 0.996),
+        ("csim", "l", 64, WAYS, 0.996),
     ):
-        name = f"{command} with S = {sets} and A = {ways}"
+        name = f"{command} with S = {sets} and A = {ways}, replacement {policy}"
         small = cache(command, 16, 1)
-        limits.takes(name, cache(command, sets, ways), small, told, least=least)
+        limits.takes(name, cache(command, sets, ways, policy), small, told, least=least)
 
 
 def bytes_of_buffers(limits, large):

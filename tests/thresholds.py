@@ -3,7 +3,8 @@
 It keeps lists of few, of some and of many blocks in different ways, a sweep also those of up to
 4,096 sets and of more, and it feeds the profiles of a sweep some thousands of references at a time.
 A place is a command and one of these sizes. The sets of a case are filled, so that blocks are
-evicted from lists of that size.
+evicted from lists of that size. At some places, din and log have an index of blocks, and the blocks
+of a set are all on one of its chains, so that most are not found by a walk along it.
 """
 
 import collections
@@ -11,10 +12,12 @@ import re
 
 import model
 
-WAYS = 11, 12, 16, 17, 31, 32, 63, 64, 127, 128, 144, 145, 255, 256, 257
+WAYS = 11, 12, 16, 17, 31, 32, 63, 64, 127, 128, 255, 256, 257
 SETS = 4096, 8192
 # with more than 4,096 of them a sweep keeps lists of 32 to 255 ways in another way again
 OF_MANY = "ways of 8,192 sets"
+# the blocks of a set are all on one chain of an index
+OF_CHAIN = "ways of one chain"
 # references of a sweep between two flushes
 REFERENCES = 4095, 4096, 4097
 COMMANDS = "sweep", "csim", "din", "log"
@@ -22,11 +25,16 @@ PLACES = [
     *((command, "ways", ways) for ways in WAYS for command in COMMANDS),
     *((command, "sets", sets) for sets in SETS for command in COMMANDS),
     *(("sweep", OF_MANY, ways) for ways in (31, 32)),
+    *((command, OF_CHAIN, ways) for ways in (128, 257) for command in ("din", "log")),
     *(("sweep", "references", count) for count in REFERENCES for _ in range(2)),
 ]
 # between two blocks: neighbours, powers of two, and distances at which sixteen blocks of a list in
 # slots have one to three marks (mark_of in slotted_rests.rt); at most others they have 14 or more
 STEPS = 1, 1, 1, 3, 16, 1024, 126_543, 774_080
+# the chain of a block is its product with this in 64 bits, whose upper half is scaled to the number
+# of chains (block_index.rt of block_index), and the block the product with this inverse
+FACTOR = 0x9E37_79B9_7F4A_7C15
+INVERSE = pow(FACTOR, -1, 2**64)
 
 
 # ---- traces
@@ -43,14 +51,40 @@ def orders(rng, count):
     ))
 
 
-def numbers(rng, ways, steps=STEPS):
-    """A function from the time to the number of a block. First one block more than a set has ways
+def turns(rng, ways):
+    """A function from the time to an index below ways + 6. First one block more than a set has ways
     come in turns, so that it is full; then in two other orders a few less or more."""
-    step, least = rng.choice(steps), rng.choice((0, 0, 1, 2**40))
     counts = [max(1, ways + rng.choice((-1, 0, 1, 1, 2, 5))) for _ in range(2)]
     drawn = [lambda at: at % (ways + 1), *(orders(rng, count) for count in counts)]
     length = ways + 1 + rng.randrange(2 * ways)
-    return lambda at: least + step * drawn[min(at // length, 2)](at)
+    return lambda at: drawn[min(at // length, 2)](at)
+
+
+def numbers(rng, ways, steps=STEPS):
+    """A function from the time to the number of a block, which has no digits of its set."""
+    step, least = rng.choice(steps), rng.choice((0, 0, 1, 2**40))
+    draw = turns(rng, ways)
+    return lambda at: least + step * draw(at)
+
+
+def chain_of(block, chains):
+    return (block * FACTOR % 2**64 >> 32) * chains >> 32
+
+
+def on_one_chain(rng, count, bits, sets, set_, ways):
+    """So many blocks of a set that are all on one chain of an index of a cache: of each the upper
+    half of the product is one that is scaled to this chain, and the lower half is any that leaves
+    the set."""
+    chains = sets * ways // 2 + 1
+    chain = rng.randrange(chains)
+    least, end = (-(-at * 2**32 // chains) for at in (chain, chain + 1))
+    found = {}
+    while len(found) < count:
+        lower = rng.randrange(2**32) // sets * sets + set_ * FACTOR % sets
+        block = (rng.randrange(least, end) << 32 | lower) * INVERSE % 2**64
+        if block < 2 ** (64 - bits):
+            found[block] = None
+    return list(found)
 
 
 def line(rng, format, addr):
@@ -70,13 +104,20 @@ def text_of(lines):
     return b"".join(line + b"\n" for line in lines)
 
 
-def filled(rng, format, bits, sets, touched, ways):
-    """A trace that fills some sets, in turns, and in din a few flushes behind that."""
-    draws = [numbers(rng, ways) for _ in touched]
+def numbers_of_chain(rng, ways, bits, sets, set_):
+    """The same of blocks that are all on one chain."""
+    found = on_one_chain(rng, ways + 6, bits, sets, set_, ways)
+    draw = turns(rng, ways)
+    return lambda at: found[draw(at)] // sets
+
+
+def filled(rng, format, bits, sets, draws, ways):
+    """A trace that fills some sets, each by the function that draws its numbers, in turns, and in
+    din a few flushes behind that."""
     rounds, flushes = 3 * ways + rng.randrange(ways + 40), rng.choice((0, 0, 1, 3))
     offsets, lines = (0, 0, 1) if bits else (0,), []
     for at in range(rounds):
-        for set_, draw in zip(touched, draws):
+        for set_, draw in draws.items():
             addr = (draw(at) * sets + set_ << bits) + rng.choice(offsets)
             lines.append(line(rng, format, addr % 2**64))
         if format == "d" and rng.random() * rounds < flushes and at > ways:
@@ -116,8 +157,7 @@ def sweep_of_ways(rng, ways, format):
     and those of the others have half or twice as many, where all hold as many bytes."""
     bits, sets = rng.choice((0, 4, 6)), 2 ** rng.choice((0, 0, 1, 2))
     bsizes = span(2**bits, 2 ** (bits + rng.choice((0, 0, 1, 2))))
-    touched = rng.sample(range(sets), min(sets, rng.choice((1, 2))))
-    trace = filled(rng, format, bits, sets, touched, ways)
+    trace = filled(rng, format, bits, sets, few_of(rng, sets, ways), ways)
     if ways <= 64 and rng.random() < 0.4:
         counts, assoc = span(max(1, sets // 2), 2 * sets), span(max(1, ways // 2 - 1), 2 * ways)
         return of_sweep(format, bsizes, counts, assoc, f"0-{ways * sets << bits}"), trace
@@ -133,15 +173,22 @@ def sweep_of_sets(rng, sets, format, ways=None):
     low = rng.choice((sets, sets, sets // 2, 1024))
     bsizes = span(2**bits, 2 ** (bits + rng.choice((0, 0, 1))))
     assoc = span(max(1, ways - rng.choice((0, 1, 7))), ways)
-    trace = filled(rng, format, bits, sets, few_of(rng, sets), ways)
+    trace = filled(rng, format, bits, sets, few_of_many(rng, sets, ways), ways)
     return of_sweep(format, bsizes, span(low, sets), assoc), trace
 
 
-def few_of(rng, sets):
+def few_of(rng, sets, ways):
+    """One or two of a few sets, each with its numbers."""
+    touched = rng.sample(range(sets), min(sets, rng.choice((1, 2))))
+    return {set_: numbers(rng, ways) for set_ in touched}
+
+
+def few_of_many(rng, sets, ways):
     """A few sets of many: the first and the last of half of them and of all, and their
     neighbours."""
     edges = [0, 1, 7, 8, 9, sets // 2 - 1, sets // 2, sets // 2 + 1, sets - 8, sets - 1]
-    return rng.sample([*edges, *(rng.randrange(sets) for _ in range(4))], rng.choice((2, 3, 5)))
+    edges += [rng.randrange(sets) for _ in range(4)]
+    return {set_: numbers(rng, ways) for set_ in rng.sample(edges, rng.choice((2, 3, 5)))}
 
 
 def sweep_of_references(rng, count, format):
@@ -188,13 +235,15 @@ def case_at(rng, place):
     if command == "sweep":
         return SWEEPS[what](rng, size, format)
     bits = rng.choice((0, 4, 6))
-    if what == "ways":
-        sets, ways = 2 ** rng.choice((0, 0, 1, 2)), size
-        touched = rng.sample(range(sets), min(sets, rng.choice((1, 2))))
-    else:
+    if what == "sets":
         sets, ways = size, rng.choice((1, 2, 4, 8, 16, 17, 64))
-        touched = few_of(rng, sets)
-    text = filled(rng, format, bits, sets, touched, ways)
+        draws = few_of_many(rng, sets, ways)
+    else:
+        sets, ways = 2 ** rng.choice((0, 0, 1, 2)), size
+        set_ = rng.randrange(sets)
+        draws = few_of(rng, sets, ways) if what == "ways" else {
+            set_: numbers_of_chain(rng, ways, bits, sets, set_)}
+    text = filled(rng, format, bits, sets, draws, ways)
     if command == "csim":
         return of_csim(rng, bits, sets, ways), text
     return of_system(rng, command, bits, sets, ways, format), text
@@ -218,7 +267,20 @@ def places_of(arguments, text, out):
         shapes = [(it["s"], it["ways"]) for name, it in job["caches"].items()
                   if re.search(evicted.format(name), out, re.M)]
     found = {(command, "ways", ways) for _, ways in shapes}
-    return (found | {(command, "sets", 2**bits) for bits, _ in shapes}) & set(PLACES)
+    found |= {(command, "sets", 2**bits) for bits, _ in shapes}
+    if command != "csim":
+        caches = job["caches"].values()
+        entries = model.read(job["format"], text)[0]
+        found |= {(command, OF_CHAIN, it["ways"]) for it in caches
+                  if (it["s"], it["ways"]) in shapes and is_on_one_chain(entries, it)}
+    return found & set(PLACES)
+
+
+def is_on_one_chain(entries, cache):
+    """Whether all blocks of a trace are on one chain of an index of this cache."""
+    chains = (cache["ways"] << cache["s"]) // 2 + 1
+    refs = model.events_of([it for it in entries if it is not model.FLUSH], "u")
+    return len({chain_of(ref.addr >> cache["b"], chains) for ref in refs}) == 1
 
 
 def places_of_sweep(job, text, out):

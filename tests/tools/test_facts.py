@@ -72,14 +72,17 @@ class Manual(base.ToolTest):
         self.assertEqual(len(told), 5)
         self.assertEqual(sorted(said), sorted(told))
         caches = limits.told_by_the_manual(limits.CACHES)
-        line, set_, wide, *rings, searched, instead, far, near, set_far = caches
-        in_parts, ring, slots, first = rings
-        self.assertEqual((instead, first), (line, near))
+        line, set_, ways, *indexed, searched, instead, far, near, set_far = caches
+        self.assertEqual(instead, line)
+        self.assertEqual(ways, constant("cache_core", "chosen_cache.rt", "INDEXED_WAYS"))
+        in_order, random = (
+            f"{of_line:g}{{}} for each line, {of_set:g} for each set and {more:g} more"
+            for of_line, of_set, more in (indexed[:3], indexed[3:]))
         text, lists = flat(f"crates/cache_core/{page}"), flat(f"crates/deep_list/{page}")
         for part in (
             f"{line:g} bytes for each line and {set_:g} for each set",
-            f"{wide:g} ways or more takes {in_parts:g} bytes for each set, and {ring:,.0f} for "
-            f"each {slots:g} ways after the first {first:g}, or a part of {slots:g}",
+            f"{ways:g} ways or more takes {in_order.format(' bytes')}, and under random "
+            f"replacement {random.format('')}",
             f"more than {searched:g} ways takes the first for {near:g} ways, at most {far:g} bytes "
             f"for each line more, and {set_far:g} more for each set",
         ):
@@ -215,9 +218,8 @@ class Thresholds(unittest.TestCase):
             ("sweep_core", "batch.rt", "BATCH", "sweep", "references", (-1, 0, 1)),
             ("cache_core", "lru_sets.rt", "NEAR_WAYS", "csim", "ways", (0, 1)),
             ("cache_core", "lru_sets.rt", "SEARCHED_WAYS", "csim", "ways", (0, 1)),
-            ("cache_core", "far_access.rt", "NEAR", "din", "ways", (0, 1)),
-            ("cache_core", "fingerprinted.rt", "FINGERPRINTED_WAYS", "din", "ways", (-1, 0)),
-            ("cache_core", "fingerprinted.rt", "FINGERPRINTED_WAYS", "log", "ways", (-1, 0)),
+            ("cache_core", "chosen_cache.rt", "INDEXED_WAYS", "din", "ways", (-1, 0)),
+            ("cache_core", "chosen_cache.rt", "INDEXED_WAYS", "log", "ways", (-1, 0)),
         ):
             size = constant(crate, source, name)
             self.assertLessEqual({(command, what, size + side) for side in sides}, places, name)

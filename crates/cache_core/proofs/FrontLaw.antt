@@ -173,13 +173,13 @@ first_told true block slots tells = grind (arith, first_there block slots, tells
 first_told false block slots tells = grind (arith, there_first block slots, tells)
 
 -- nothing is sent on where the first of two options is none
-nothing_sent : (refs : List Ref) →
+pub nothing_sent : (refs : List Ref) →
     (length refs == 0) ≡ not (is_some (get_or (two_options refs) 0 None))
 nothing_sent [] = refl
 nothing_sent (x ∷ []) = refl
 nothing_sent (x ∷ y ∷ refs) = grind arith
 
-itself : (b : Bool) → (if b then true else false) ≡ b
+pub itself : (b : Bool) → (if b then true else false) ≡ b
 itself true = refl
 itself false = refl
 

@@ -18,7 +18,8 @@ use Rattle.cache_core.specs.Systems.{machine_of, events_for, first_level_referen
 use Rattle.cache_core.specs.Systems.{flush_counts, flush_copybacks, is_taken}
 use Rattle.cache_core.specs.internal.SystemSteps.{SystemValue, present_refs, AccessesFirstLevel}
 use Rattle.cache_core.specs.internal.SystemSteps.{AllDescend, EmptiesCache, IsNewSystemCache}
-use Rattle.cache_core.specs.internal.SystemSteps.{IsNewCache}
+use Rattle.cache_core.specs.internal.SystemSteps.{IsNewCache, accesses_of}
+use Rattle.cache_core.specs.internal.Counted.{accesses}
 use Rattle.cache_core.specs.internal.SystemStands.{SystemStandsFor}
 use Rattle.cache_core.proofs.RunLaw.{start_law, flush_run}
 use Rattle.cache_core.proofs.Pushes.{count_by_push}
@@ -70,6 +71,14 @@ new_cache seed (Some planned) cache n =
     let stands = start_law (machine_of seed planned) (system_cache_contents n.0) new.design
     new.policy new.random_numbers new.empty in
     (n.0, n.1, record { stands = stands; counts = new.counts })
+
+-- a new cache has counted no access
+pub none_counted : (seed : ℕ) (planned : Option PlannedCache) (cache : Option SystemCache) →
+    IsNewCache seed planned cache → accesses_of cache ≡ 0
+none_counted seed None cache n = ap accesses_of n
+none_counted seed (Some planned) cache n =
+    let new : IsNewSystemCache seed planned n.0 = n.2 in
+    ap accesses_of n.1 ∙ ap accesses new.counts
 
 pub new_law : (plan : PlannedCaches) (seed : ℕ) (v : SystemValue) →
     IsNewCache seed plan.i v.i → IsNewCache seed plan.d v.d → IsNewCache seed plan.u v.u →

@@ -1,8 +1,5 @@
 pub mod Order
 pub mod Slab
-pub mod Fingerprints
-pub mod Rings
-pub mod Whole
 pub mod Touched
 pub mod Stands
 pub mod DeepSets
@@ -14,3 +11,6 @@ pub mod CacheSteps
 pub mod SystemSteps
 pub mod SystemFields
 pub mod SystemStands
+pub mod SlotOrder
+pub mod Indexed
+pub mod ChosenCaches

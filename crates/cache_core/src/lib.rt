@@ -4,18 +4,16 @@
 
 pub mod arrival;
 pub mod cache;
-mod cache_sets;
+mod chosen_cache;
 mod chosen_policy;
 mod deep_sets;
 pub mod design;
 mod effects;
 mod emptying;
-mod far_access;
-mod far_set;
-mod far_sets;
-mod fingerprinted;
-mod fingerprints;
 pub mod geometry;
+mod indexed_cache;
+mod indexed_flush;
+mod indexed_set;
 pub mod laws;
 mod lru_sets;
 mod one_set;
@@ -23,13 +21,12 @@ pub mod outcome;
 pub mod plan;
 pub mod powers;
 pub mod replacement;
-mod ring;
 pub mod simulate;
 pub mod simulation;
+mod slot_order;
 pub mod stats;
 pub mod system;
 mod system_cache;
-mod to_front;
 pub mod touched;
 mod walk;
 

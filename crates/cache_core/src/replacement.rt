@@ -1,11 +1,10 @@
 //! Replacement: which slot of a full set is evicted.
-ghost use Rattle.std.specs.Prelude.{◌≡◌, ◌≤◌, ◌<◌, ◌+◌, ℕ, length, take, slice_get};
+ghost use Rattle.std.specs.Prelude.{◌≡◌, ◌≤◌, ◌<◌, ◌+◌, ◌∷◌, ℕ, length, take, remove, slice_get};
 ghost use Rattle.std.specs.Prelude.{Option, Some, None};
 ghost use Rattle.cache_core.specs.Order.{Touches, TakesIn, random_numbers_after};
 
 use crate::design::Repl;
 use crate::outcome::Slot;
-use crate::to_front::bring;
 use rand_core::utils::NextWord;
 use rand_pcg::Pcg32;
 use std::marker::Model;
@@ -89,6 +88,16 @@ fn put_in_front(set: &mut [Slot], filled: usize, new: Slot) -> Option<Slot>
     let gone = (filled == set.len()).then_some(set[last]);
     bring(set, last, new);
     gone
+}
+
+/// Puts a slot in front of a row, and takes out the one at an index.
+#[inline(always)]
+fn bring(row: &mut [Slot], at: usize, slot: Slot)
+    requires { at < length row.old }
+    ensures { row.new ≡ slot ∷ remove row.old at }
+{
+    row[at] = slot;
+    row[..=at].rotate_right(1);
 }
 
 /// First in, first out: the slot that was placed last is in front.

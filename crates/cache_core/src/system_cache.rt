@@ -8,8 +8,8 @@ ghost use Rattle.cache_core.specs.internal.SystemCaches.{policy_of, random_numbe
 ghost use Rattle.cache_core.specs.Systems.{random_numbers_for};
 
 use crate::arrival::{Observer, arrival_at};
+use crate::chosen_cache::ChosenCache;
 use crate::chosen_policy::chosen_policy;
-use crate::fingerprinted::FingerprintedCache;
 use crate::outcome::Outcome;
 use crate::plan::{CacheName, PlannedCache};
 use crate::stats::CacheStats;
@@ -20,7 +20,7 @@ use trace_core::Ref;
 /// and each copyback and each dirty line by a write.
 #[derive(Drop)]
 pub(crate) struct SystemCache {
-    pub(crate) cache: FingerprintedCache,
+    pub(crate) cache: ChosenCache,
     pub(crate) stats: CacheStats,
     ghost counted: { IsCounted stats },
     ghost written: { stats.copybacks + dirty_slots cache.sets ≤ stats.writes },
@@ -36,7 +36,7 @@ impl SystemCache {
     {
         let PlannedCache { design, policy } = planned;
         let policy = chosen_policy(policy, seed);
-        let cache = FingerprintedCache::new(
+        let cache = ChosenCache::new(
             alloc,
             design.geometry,
             policy,

@@ -2,8 +2,8 @@
 //! and its job in `arguments` cite. A constant would be copied into each function that cites it,
 //! whose check then takes twice as long.
 //!
-//! `package/completion` reads these texts in the program's help: a text that ends in letters with
-//! their meanings, for example `u all, d data`, tells it the values; a value called FILE is
+//! `package/completion.py` reads these texts in the program's help: a text that ends in letters
+//! with their meanings, for example `u all, d data`, tells it the values; a value called FILE is
 //! completed as a file; and `[default: ..]` is left out. The limits in them are those of
 //! `cache_core::geometry`: 20, 65536 and 64k, and 1m are `MAX_BITS`, `MAX_WAYS` and 2^`MAX_BITS`.
 

@@ -1,6 +1,6 @@
-//! Laws over the definitions: each is the contract of a function with no code, so that the gate
-//! proves it. A caller uses a law by calling its function, which costs nothing: below the call the
-//! law is known. A proof may cite the lemma that a law names instead.
+//! Laws over the definitions: each is the contract of a function with no code, or with one line of
+//! it, so that the gate proves it. A caller uses a law by calling its function, which costs
+//! nothing: below the call the law is known. A proof may cite the lemma that a law names instead.
 ghost use Rattle.std.specs.Prelude.{◌≡◌, ◌≢◌, ◌≤◌, ◌*◌, ◌^◌, ℕ};
 ghost use Rattle.std.specs.Prelude.{List, [], ◌∷◌, ◌++◌, flat_map, length};
 ghost use Rattle.std.specs.Prelude.{true, Option, None, Some, ◌↔◌, IsTrue, Contains, AllPairs};

@@ -29,9 +29,10 @@ pub type SweepFault = RunFault;
 /// depends only on the trace and the space: it counts as if each profile looked for each
 /// reference's block from the most recent entry on, which takes at most as many comparisons as the
 /// profile is deep. This is the cost of the stack algorithm, by which spaces can be compared. The
-/// sweep makes as many comparisons or fewer, though no contract says so: one look that decides for
-/// several profiles counts as one comparison in each of them, and a profile of 256 ways or more
-/// finds most distances without a walk over the list.
+/// sweep makes as many comparisons with such entries or fewer, though no contract says so: one look
+/// that decides for several profiles counts as one comparison in each of them, and a profile of 256
+/// ways or more finds most distances without a walk over the list. It also compares each
+/// reference's block with that of the reference before, which does not count.
 ///
 /// Errors: `Memory`, with nothing read or written; `Trace` if the trace has a fault or the
 /// source failed, with nothing written; `Write` if the sink failed, after the whole trace was

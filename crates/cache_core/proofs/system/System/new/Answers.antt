@@ -1,8 +1,23 @@
 -- A new system stands for no event.
-use Rattle.std.proofs.Common.{refl, subst}
+use Rattle.std.proofs.Common.{refl, subst, arith}
 use Rattle.cache_core.specs.internal.SystemSteps.{IsNewCache}
-use Rattle.cache_core.proofs.SystemLaw.{new_law}
+use Rattle.cache_core.proofs.SystemLaw.{new_law, none_counted}
 use Rattle.cache_core.proofs.system.System.new.Goals as goal
+
+pub invariant_of-result : goal.invariant_of-result
+invariant_of-result c =
+    let none = none_counted c.args.seed in
+    record {
+      steps = omega arith;
+      first = omega (
+        arith,
+        none _ c.in_ok-i.i c.in_ok-i.ensures,
+        none _ c.in_ok-d.d c.in_ok-d.ensures,
+        none _ c.in_ok-u.u c.in_ok-u.ensures,
+      );
+      second = omega (arith, none _ c.in_ok-second.second c.in_ok-second.ensures);
+      memory = omega arith;
+    }
 
 pub returns-clause-stands : goal.returns-clause-stands
 returns-clause-stands c = new_law c.args.plan c.args.seed _

@@ -1,0 +1,5 @@
+pub mod ListLemmas
+pub mod ChangeLemmas
+pub mod PathLemmas
+pub mod LinkLemmas
+pub mod IndexLemmas

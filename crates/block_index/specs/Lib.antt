@@ -1,0 +1,2 @@
+pub mod SlotLists
+pub mod BlockIndex

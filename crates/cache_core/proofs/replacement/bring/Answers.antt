@@ -1,0 +1,7 @@
+-- A prefix turned right by one brings the element to the front.
+use Rattle.cache_core.proofs.Lawful.{brought}
+use Rattle.cache_core.proofs.replacement.bring.Goals as goal
+
+pub returns : goal.returns
+returns c = brought c.args.row.now c.args.at c.args.slot _ c.requires
+    c.rotate_right.ensures.after

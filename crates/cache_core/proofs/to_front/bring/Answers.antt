@@ -1,7 +1,0 @@
--- A prefix turned right by one brings the element to the front.
-use Rattle.cache_core.proofs.Lawful.{brought}
-use Rattle.cache_core.proofs.to_front.bring.Goals as goal
-
-pub returns : goal.returns
-returns g c = brought c.args.row.now c.args.at c.args.element _ c.requires
-    c.rotate_right.ensures.after
