@@ -16,10 +16,7 @@ use Rattle.cache_core.specs.Outcomes.{on_placing}
 use Rattle.cache_core.specs.Order.{Accesses, Contents, Visits, VisitsAt, Fills, PassesOn}
 use Rattle.cache_core.specs.Order.{Touches, TakesIn}
 use Rattle.cache_core.specs.Order.{position_of, with_dirty_at, random_numbers_after, is_dirty}
-use Rattle.cache_core.specs.declared.chosen_policy.ChosenPolicy.{ChosenPolicy}
-use Rattle.cache_core.specs.declared.chosen_policy.ChosenPolicy.TheVariants.{Lru, Fifo, Random}
 use Rattle.cache_core.specs.internal.Order.{DirtiesByWrites}
-use Rattle.cache_core.specs.internal.SystemCaches.{policy_of, random_numbers_of}
 use Rattle.cache_core.proofs.DirtyLaw.{visit_dirty, sets_dirty}
 
 -- the contents of a cache
@@ -95,11 +92,3 @@ module _ (d : Design) (policy : Option Repl) (numbers rest : ℕ → ℕ) (ref :
         (subst (λ b. MatchBool b (Fills d policy numbers ref old outcome new rest)
         (PassesOn numbers ref old outcome new rest)) (sym allocated)
         record { order = order; undrawn = undrawn; effect = effect })
-
--- only a policy that draws numbers has others after a draw
-pub numbers_drawn : (p : ChosenPolicy) (rest : ℕ → ℕ) (gone : Slot) →
-    rest ≡ (λ n. random_numbers_of p (n + 1)) →
-    rest ≡ random_numbers_after (policy_of p) (Some gone) (random_numbers_of p)
-numbers_drawn (Lru p) rest gone e = e
-numbers_drawn (Fifo p) rest gone e = e
-numbers_drawn (Random p) rest gone e = e

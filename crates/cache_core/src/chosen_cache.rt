@@ -1,4 +1,4 @@
-//! A cache of a system. By its number of ways its sets are walked over, or its blocks are found by
+//! A cache under a named policy. By its number of ways its sets are walked over, or its blocks are found by
 //! an index.
 ghost use Rattle.std.specs.Prelude.{◌≡◌, ◌<◌, ◌*◌, ◌^◌, IfOk, IfSome};
 ghost use Rattle.cache_core.specs.Geometry.{IsGeometry};
@@ -6,13 +6,12 @@ ghost use Rattle.cache_core.specs.Order.{Accesses, FlushesCache};
 ghost use Rattle.cache_core.specs.Slab.{contents_of};
 ghost use Rattle.cache_core.specs.internal.Slab.{empty_sets, AccessesInFront};
 ghost use Rattle.cache_core.specs.internal.Order.{DirtiesByWrites};
-ghost use Rattle.cache_core.specs.internal.SystemCaches.{policy_of, random_numbers_of};
 
 use crate::cache::Cache;
-use crate::chosen_policy::ChosenPolicy;
 use crate::design::{AllocMode, WriteMode};
 use crate::geometry::Geometry;
 use crate::indexed_cache::IndexedCache;
+use crate::named_policy::NamedPolicy;
 use crate::outcome::Outcome;
 use std::alloc::{AllocError, Global};
 use std::marker::Model;
@@ -22,41 +21,40 @@ use trace_core::Ref;
 /// over, which usually takes less time.
 const INDEXED_WAYS: u64 = 128;
 
-/// How a cache of a system is kept.
+/// How a cache is kept.
 #[derive(Drop)]
-enum Kept {
-    Walked(Cache<ChosenPolicy>),
-    Indexed(IndexedCache),
+enum Kept<P: NamedPolicy> {
+    Walked(Cache<P>),
+    Indexed(IndexedCache<P>),
 }
 
-/// A cache of a system.
-pub(crate) struct ChosenCache {
-    kept: Kept,
+/// A cache under a named policy.
+pub(crate) struct ChosenCache<P: NamedPolicy> {
+    kept: Kept<P>,
 }
 
 /// Written out, so that a proof of what drops a cache need not tell both kinds apart.
-impl Drop for ChosenCache {
+impl<P: NamedPolicy> Drop for ChosenCache<P> {
     fn drop(self) {
         let ChosenCache { kept: _ } = self;
     }
 }
 
-impl Model for ChosenCache {
+impl<P: NamedPolicy> Model for ChosenCache<P> {
     ghost use Rattle.cache_core.specs.Slab.{CacheValue};
-    ghost use Rattle.cache_core.specs.declared.chosen_policy.ChosenPolicy.{ChosenPolicy};
     ghost use Rattle.cache_core.specs.internal.ChosenCaches.{cache_kept};
 
-    ghost Value = { CacheValue ChosenPolicy };
+    ghost Value = { CacheValue P };
 
     ghost view = { λ c. cache_kept c.kept };
 }
 
-impl ChosenCache {
+impl<P: NamedPolicy> ChosenCache<P> {
     /// An empty cache. It takes all its memory here, and that alone can fail.
     pub(crate) fn new(
         alloc: Global,
         geometry: Geometry,
-        policy: ChosenPolicy,
+        policy: P,
         write: WriteMode,
         allocate: AllocMode,
     ) -> Result<Self, AllocError>
@@ -81,8 +79,8 @@ impl ChosenCache {
     /// Makes one access, and returns its outcome.
     #[inline(always)]
     pub(crate) fn access(&mut self, reference: Ref) -> Outcome
-        ensures step { Accesses (contents_of policy_of random_numbers_of self.old) reference result
-            (contents_of policy_of random_numbers_of self.new) }
+        ensures step { Accesses (contents_of P.policy P.words self.old) reference result
+            (contents_of P.policy P.words self.new) }
         ensures dirty { DirtiesByWrites self.old.sets reference result self.new.sets }
         ensures victim { IfSome result.evicted
             (λ slot. slot.block * 2 ^ self.old.design.geometry.b < 2 ^ 64) }
@@ -97,7 +95,7 @@ impl ChosenCache {
     /// and returns its outcome. Otherwise it does nothing.
     #[inline(always)]
     pub(crate) fn access_in_front(&mut self, reference: Ref) -> Option<Outcome>
-        ensures { AccessesInFront policy_of random_numbers_of self.old reference result self.new }
+        ensures { AccessesInFront P.policy P.words self.old reference result self.new }
     {
         match &mut self.kept {
             Kept::Walked(cache) => cache.access_in_front(reference),
@@ -118,8 +116,8 @@ impl ChosenCache {
 
     /// Empties the cache, and returns how many dirty lines it held.
     pub(crate) fn flush(&mut self) -> u64
-        ensures { FlushesCache (contents_of policy_of random_numbers_of self.old) result
-            (contents_of policy_of random_numbers_of self.new) }
+        ensures { FlushesCache (contents_of P.policy P.words self.old) result
+            (contents_of P.policy P.words self.new) }
     {
         match &mut self.kept {
             Kept::Walked(cache) => cache.flush(),

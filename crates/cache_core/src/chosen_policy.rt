@@ -1,9 +1,10 @@
 //! The policy of a cache of a system, which is chosen at run time.
-ghost use Rattle.std.specs.Prelude.{◌≡◌, ◌+◌, Some};
+ghost use Rattle.std.specs.Prelude.{◌≡◌, Some};
 ghost use Rattle.cache_core.specs.internal.SystemCaches.{policy_of, random_numbers_of};
 ghost use Rattle.cache_core.specs.Systems.{random_numbers_for};
 
 use crate::design::Repl;
+use crate::named_policy::NamedPolicy;
 use crate::outcome::Slot;
 use crate::replacement::{Fifo, Lru, Random, Replacement};
 
@@ -13,31 +14,6 @@ pub(crate) enum ChosenPolicy {
     Lru(Lru),
     Fifo(Fifo),
     Random(Random),
-}
-
-impl ChosenPolicy {
-    /// Its name.
-    pub(crate) fn name(&self) -> Repl
-        ensures { policy_of self.now ≡ Some result }
-    {
-        match self {
-            ChosenPolicy::Lru(_) => Repl::Lru,
-            ChosenPolicy::Fifo(_) => Repl::Fifo,
-            ChosenPolicy::Random(_) => Repl::Random,
-        }
-    }
-
-    /// The next random number, 0 of a policy that has none.
-    pub(crate) fn draw(&mut self) -> usize
-        ensures number { result ≡ random_numbers_of self.old 0 }
-        ensures rest { random_numbers_of self.new ≡ λ n. random_numbers_of self.old (n + 1) }
-        ensures policy { policy_of self.new ≡ policy_of self.old }
-    {
-        match self {
-            ChosenPolicy::Random(policy) => policy.draw(),
-            _ => 0,
-        }
-    }
 }
 
 impl Replacement for ChosenPolicy {
@@ -60,6 +36,24 @@ impl Replacement for ChosenPolicy {
             ChosenPolicy::Lru(policy) => policy.place(set, filled, new),
             ChosenPolicy::Fifo(policy) => policy.place(set, filled, new),
             ChosenPolicy::Random(policy) => policy.place(set, filled, new),
+        }
+    }
+}
+
+impl NamedPolicy for ChosenPolicy {
+    fn name(&self) -> Repl {
+        match self {
+            ChosenPolicy::Lru(policy) => policy.name(),
+            ChosenPolicy::Fifo(policy) => policy.name(),
+            ChosenPolicy::Random(policy) => policy.name(),
+        }
+    }
+
+    fn draw(&mut self) -> usize {
+        match self {
+            ChosenPolicy::Lru(policy) => policy.draw(),
+            ChosenPolicy::Fifo(policy) => policy.draw(),
+            ChosenPolicy::Random(policy) => policy.draw(),
         }
     }
 }

@@ -6,13 +6,12 @@ ghost use Rattle.cache_core.specs.Order.{Accesses, FlushesCache};
 ghost use Rattle.cache_core.specs.Slab.{contents_of};
 ghost use Rattle.cache_core.specs.internal.Slab.{empty_sets, AccessesInFront};
 ghost use Rattle.cache_core.specs.internal.Order.{DirtiesByWrites};
-ghost use Rattle.cache_core.specs.internal.SystemCaches.{policy_of, random_numbers_of};
 
-use crate::chosen_policy::ChosenPolicy;
 use crate::design::{AllocMode, Design, WriteMode};
 use crate::geometry::Geometry;
 use crate::indexed_flush::empty_sets;
 use crate::indexed_set::{visit, visit_front};
+use crate::named_policy::NamedPolicy;
 use crate::outcome::Outcome;
 use crate::slot_order::SlotOrder;
 use crate::touched::TouchedSets;
@@ -25,24 +24,22 @@ use trace_core::Ref;
 /// marks, and `order` those of each set that are filled. `touched` lists the sets that have some,
 /// as long as they are few, so that a flush visits only these.
 #[derive(Drop)]
-pub(crate) struct IndexedCache {
+pub(crate) struct IndexedCache<P: NamedPolicy> {
     design: Design,
-    policy: ChosenPolicy,
+    policy: P,
     index: BlockIndex,
     dirty: Vec<bool>,
     order: SlotOrder,
     touched: TouchedSets,
 }
 
-impl Model for IndexedCache {
+impl<P: NamedPolicy> Model for IndexedCache<P> {
     ghost use Rattle.std.specs.Prelude.{◌≡◌, Some};
     ghost use Rattle.cache_core.specs.Slab.{CacheValue};
-    ghost use Rattle.cache_core.specs.declared.chosen_policy.ChosenPolicy.{ChosenPolicy};
-    ghost use Rattle.cache_core.specs.internal.SystemCaches.{policy_of};
     ghost use Rattle.cache_core.specs.internal.Indexed.{sets_at, IsIndexed, counts_of};
     ghost use Rattle.cache_core.specs.internal.Touched.{Covers};
 
-    ghost Value = { CacheValue ChosenPolicy };
+    ghost Value = { CacheValue P };
 
     ghost view = { λ c. record {
       design = c.design;
@@ -52,17 +49,17 @@ impl Model for IndexedCache {
 
     ghost invariant = { λ c. IsIndexed c.design c.index c.dirty.items c.order
         × Covers c.touched (counts_of c.order.sets)
-        × (policy_of c.policy ≡ Some c.order.policy) };
+        × (P.policy c.policy ≡ Some c.order.policy) };
 }
 
-impl IndexedCache {
+impl<P: NamedPolicy> IndexedCache<P> {
     /// An empty cache. It takes all its memory here, at most 29 bytes for each line, 12 and a
     /// quarter for each set (under random 21, and 4 and a quarter) and 8 more, and that alone can
     /// fail.
     pub(crate) fn new(
         alloc: Global,
         geometry: Geometry,
-        policy: ChosenPolicy,
+        policy: P,
         write: WriteMode,
         allocate: AllocMode,
     ) -> Result<Self, AllocError>
@@ -95,8 +92,8 @@ impl IndexedCache {
     /// Makes one access, and returns its outcome.
     #[inline(never)]
     pub(crate) fn access(&mut self, reference: Ref) -> Outcome
-        ensures step { Accesses (contents_of policy_of random_numbers_of self.old) reference result
-            (contents_of policy_of random_numbers_of self.new) }
+        ensures step { Accesses (contents_of P.policy P.words self.old) reference result
+            (contents_of P.policy P.words self.new) }
         ensures dirty { DirtiesByWrites self.old.sets reference result self.new.sets }
         ensures victim { IfSome result.evicted
             (λ slot. slot.block * 2 ^ self.old.design.geometry.b < 2 ^ 64) }
@@ -116,7 +113,7 @@ impl IndexedCache {
     /// and returns its outcome. Otherwise it does nothing.
     #[inline(always)]
     pub(crate) fn access_in_front(&mut self, reference: Ref) -> Option<Outcome>
-        ensures { AccessesInFront policy_of random_numbers_of self.old reference result self.new }
+        ensures { AccessesInFront P.policy P.words self.old reference result self.new }
     {
         visit_front(
             self.design,
@@ -138,8 +135,8 @@ impl IndexedCache {
     /// Empties the cache, and returns how many dirty lines it held. It takes time by the slots that
     /// are filled.
     pub(crate) fn flush(&mut self) -> u64
-        ensures { FlushesCache (contents_of policy_of random_numbers_of self.old) result
-            (contents_of policy_of random_numbers_of self.new) }
+        ensures { FlushesCache (contents_of P.policy P.words self.old) result
+            (contents_of P.policy P.words self.new) }
     {
         empty_sets(
             self.design,

@@ -8,15 +8,14 @@ ghost use Rattle.cache_core.specs.Geometry.{block_of, set_of, set_of_block};
 ghost use Rattle.cache_core.specs.Order.{Accesses, TakesIn, random_numbers_after};
 ghost use Rattle.cache_core.specs.Rules.{rules};
 ghost use Rattle.cache_core.specs.internal.Order.{DirtiesByWrites, hits_in_front, hit_in_front};
-ghost use Rattle.cache_core.specs.internal.SystemCaches.{policy_of, random_numbers_of};
 ghost use Rattle.cache_core.specs.internal.Indexed.{IsIndexed, indexed_contents, sets_at, set_at};
 ghost use Rattle.cache_core.specs.internal.Indexed.{counts_of, with_mark};
 ghost use Rattle.cache_core.specs.internal.SlotOrder.{order_of, with_order, with_moved};
 ghost use Rattle.cache_core.specs.internal.Touched.{Covers};
 
-use crate::chosen_policy::ChosenPolicy;
 use crate::design::Design;
 use crate::effects::{allocates_line, dirties_line, hit_outcome, passing_outcome, placing_outcome};
+use crate::named_policy::NamedPolicy;
 use crate::outcome::{Outcome, Slot};
 use crate::slot_order::SlotOrder;
 use crate::touched::TouchedSets;
@@ -25,9 +24,9 @@ use trace_core::Ref;
 
 /// Makes one access.
 #[inline(always)]
-pub(crate) fn visit(
+pub(crate) fn visit<P: NamedPolicy>(
     design: Design,
-    policy: &mut ChosenPolicy,
+    policy: &mut P,
     index: &mut BlockIndex,
     dirty: &mut [bool],
     order: &mut SlotOrder,
@@ -36,14 +35,14 @@ pub(crate) fn visit(
 ) -> Outcome
     requires indexed { IsIndexed design index.old dirty.old order.old }
     requires touched { Covers touched.old (counts_of order.old.sets) }
-    requires policy { policy_of policy.old ≡ Some order.old.policy }
+    requires policy { P.policy policy.old ≡ Some order.old.policy }
     ensures indexed { IsIndexed design index.new dirty.new order.new }
     ensures touched { Covers touched.new (counts_of order.new.sets) }
-    ensures policy { policy_of policy.new ≡ Some order.new.policy }
+    ensures policy { P.policy policy.new ≡ Some order.new.policy }
     ensures step { Accesses
-        (indexed_contents design (policy_of policy.old) (random_numbers_of policy.old)
+        (indexed_contents design (P.policy policy.old) (P.words policy.old)
         index.old dirty.old order.old) reference result
-        (indexed_contents design (policy_of policy.new) (random_numbers_of policy.new)
+        (indexed_contents design (P.policy policy.new) (P.words policy.new)
         index.new dirty.new order.new) }
     ensures dirty { DirtiesByWrites (sets_at index.old dirty.old order.old.sets) reference result
         (sets_at index.new dirty.new order.new.sets) }
@@ -107,9 +106,9 @@ fn use_slot(dirty: &mut [bool], order: &mut SlotOrder, set: usize, slot: usize, 
 }
 
 /// Puts a block into its set, and returns the slot that leaves a full set.
-fn place(
+fn place<P: NamedPolicy>(
     design: Design,
-    policy: &mut ChosenPolicy,
+    policy: &mut P,
     index: &mut BlockIndex,
     dirty: &mut [bool],
     order: &mut SlotOrder,
@@ -122,18 +121,18 @@ fn place(
     requires address { new.block * 2 ^ design.geometry.b < 2 ^ 64 }
     ensures indexed { IsIndexed design index.new dirty.new order.new }
     ensures touched { Covers touched.new (counts_of order.new.sets) }
-    ensures policy { policy_of policy.new ≡ policy_of policy.old }
+    ensures policy { P.policy policy.new ≡ P.policy policy.old }
     ensures name { order.new.policy ≡ order.old.policy }
     ensures taken { let set = set_of_block design.geometry new.block in
-        TakesIn (Some order.old.policy) (random_numbers_of policy.old 0) design.geometry.e
+        TakesIn (Some order.old.policy) (P.words policy.old 0) design.geometry.e
         (set_at index.old dirty.old (order_of order.old.sets set)) new result
         (set_at index.new dirty.new (order_of order.new.sets set)) }
     ensures sets { let set = set_of_block design.geometry new.block in
         sets_at index.new dirty.new order.new.sets
         ≡ slice_set (sets_at index.old dirty.old order.old.sets) set
         (set_at index.new dirty.new (order_of order.new.sets set)) }
-    ensures numbers { random_numbers_of policy.new
-        ≡ random_numbers_after (policy_of policy.old) result (random_numbers_of policy.old) }
+    ensures numbers { P.words policy.new
+        ≡ random_numbers_after (P.policy policy.old) result (P.words policy.old) }
     ensures victim { IfSome result (λ slot. slot.block * 2 ^ design.geometry.b < 2 ^ 64) }
 {
     let set = design.geometry.set_of_block(new.block) as usize;

@@ -16,6 +16,7 @@ mod indexed_flush;
 mod indexed_set;
 pub mod laws;
 mod lru_sets;
+mod named_policy;
 mod one_set;
 pub mod outcome;
 pub mod plan;

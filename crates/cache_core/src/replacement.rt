@@ -159,7 +159,7 @@ impl Random {
 
     /// The next random number.
     #[inline(always)]
-    pub(crate) fn draw(&mut self) -> usize
+    pub(crate) fn next_number(&mut self) -> usize
         ensures number { result ≡ random_number self.old 0 }
         ensures rest { random_number self.new ≡ λ n. random_number self.old (n + 1) }
     {
@@ -184,7 +184,7 @@ impl Replacement for Random {
             set[filled] = new;
             return (filled, None);
         }
-        let way = self.draw() % set.len();
+        let way = self.next_number() % set.len();
         let gone = set[way];
         set[way] = new;
         (way, Some(gone))

@@ -9,7 +9,7 @@ ghost use Rattle.cache_core.specs.Systems.{random_numbers_for};
 
 use crate::arrival::{Observer, arrival_at};
 use crate::chosen_cache::ChosenCache;
-use crate::chosen_policy::chosen_policy;
+use crate::chosen_policy::{ChosenPolicy, chosen_policy};
 use crate::outcome::Outcome;
 use crate::plan::{CacheName, PlannedCache};
 use crate::stats::CacheStats;
@@ -20,7 +20,7 @@ use trace_core::Ref;
 /// and each copyback and each dirty line by a write.
 #[derive(Drop)]
 pub(crate) struct SystemCache {
-    pub(crate) cache: ChosenCache,
+    pub(crate) cache: ChosenCache<ChosenPolicy>,
     pub(crate) stats: CacheStats,
     ghost counted: { IsCounted stats },
     ghost written: { stats.copybacks + dirty_slots cache.sets ≤ stats.writes },

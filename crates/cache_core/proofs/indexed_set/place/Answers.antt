@@ -2,14 +2,12 @@
 use Rattle.std.proofs.Common.{◌<◌, ◌+◌, sym, ◌∙◌, length, arith}
 use Rattle.std.proofs.lemmas.List.{length-map}
 use Rattle.cache_core.specs.internal.Indexed.{counts_of}
-use Rattle.cache_core.specs.internal.SystemCaches.{random_numbers_of}
 use Rattle.cache_core.proofs.IndexedDeeds.{in_sets, count_is}
-use Rattle.cache_core.proofs.IndexedVisit.{numbers_drawn}
 use Rattle.cache_core.proofs.TouchedSets.{covers_change}
 use Rattle.cache_core.proofs.indexed_set.place.Goals as goal
 
 pub returns-then-count-e-clause-touched : goal.returns-then-count-e-clause-touched
-returns-then-count-e-clause-touched c =
+returns-then-count-e-clause-touched g c =
     let lt : c.set_of_block-set.result < length (counts_of c.args.order.now.sets) = omega (
       arith,
       length-map c.args.order.now.sets (λ order. length order),
@@ -24,10 +22,8 @@ returns-then-count-e-clause-touched c =
     c.set_of_block-set.ensures.within)) c.requires.touched)
 
 pub returns-then-count-e-clause-taken : goal.returns-then-count-e-clause-taken
-returns-then-count-e-clause-taken c =
+returns-then-count-e-clause-taken g c =
     rw (← c.set_of_block-set.ensures.value) (c.fill.ensures.taken 0)
 
 pub returns-clause-numbers : goal.returns-clause-numbers
-returns-clause-numbers c =
-    numbers_drawn c.args.policy.now (random_numbers_of c.draw-number.new.self) c.replace.result
-    c.draw-number.ensures.rest
+returns-clause-numbers g c = c.draw-number.ensures.rest c.replace.result

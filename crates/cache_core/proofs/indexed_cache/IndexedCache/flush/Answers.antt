@@ -4,7 +4,7 @@ use Rattle.cache_core.proofs.IndexedEmpty.{flushed_views}
 use Rattle.cache_core.proofs.indexed_cache.IndexedCache.flush.Goals as goal
 
 pub returns : goal.returns
-returns c =
+returns g c =
     let i = c.self.inside in
     rw (← c.self.view_is) record {
       empty = flushed_views i.index c.empty_sets.new.index i.dirty.items i.order

@@ -7,7 +7,7 @@ use Rattle.cache_core.proofs.IndexedEmpty.{new_indexed, new_counts, new_views, m
 use Rattle.cache_core.proofs.indexed_cache.IndexedCache.new.Goals as goal
 
 pub invariant_of-result : goal.invariant_of-result
-invariant_of-result c =
+invariant_of-result g c =
     let made = made_ways c.in_ok-order.order c.name.result c.e.result c.args.geometry.e
     c.sets-sets.result c.in_ok-order.ensures c.e.ensures.value in (
       new_indexed (record {
@@ -26,7 +26,7 @@ invariant_of-result c =
     )
 
 pub returns-clause-empty : goal.returns-clause-empty
-returns-clause-empty c =
+returns-clause-empty g c =
     new_views c.in_ok-index.index c.in_ok-dirty.dirty.items c.in_ok-order.order c.name.result
     c.args.geometry.e c.sets-sets.result (made_ways c.in_ok-order.order c.name.result c.e.result
     c.args.geometry.e c.sets-sets.result c.in_ok-order.ensures c.e.ensures.value)

@@ -5,5 +5,5 @@ use Rattle.cache_core.proofs.replacement.RandomReplacement.place.Goals as goal
 
 pub returns-clause-order : goal.returns-clause-order
 returns-clause-order c =
-    exchange_full c.args.set.now c.args.filled c.draw.result _ c.args.new _ (omega arith)
-    c.requires.some c.draw.ensures.number
+    exchange_full c.args.set.now c.args.filled c.next_number.result _ c.args.new _ (omega arith)
+    c.requires.some c.next_number.ensures.number

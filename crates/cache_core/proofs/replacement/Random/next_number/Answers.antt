@@ -3,7 +3,7 @@ use Rattle.rand_pcg.specs.Lcg.{Lcg}
 use Rattle.rand_pcg.specs.Pcg.{pcg32}
 use Rattle.std.proofs.Common.{ℕ, ap, ◌∙◌, sym}
 use Rattle.cache_core.proofs.RandomNumberLemmas.{random_number-first, random_number-rest}
-use Rattle.cache_core.proofs.replacement.Random.draw.Goals as goal
+use Rattle.cache_core.proofs.replacement.Random.next_number.Goals as goal
 
 pub returns-clause-number : goal.returns-clause-number
 returns-clause-number c =
