@@ -22,10 +22,6 @@ pub mod DownLaw
 pub mod LruSet
 pub mod LruRun
 pub mod MoreWays
-pub mod DeepBlocks
-pub mod LruSetsLaw
-pub mod PushedBack
-pub mod DeepSetsLaw
 pub mod Pushes
 pub mod Simulating
 pub mod Exponents

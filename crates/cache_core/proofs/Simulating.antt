@@ -1,22 +1,31 @@
 -- How a simulation follows a list of events.
 use Rattle.std.proofs.Common.{◌≡◌, ℕ, ◌+◌, ◌≤◌, Bool, cond, List, [], ◌∷◌, ◌++◌, length, refl, sym}
 use Rattle.std.proofs.Common.{ap, ◌∙◌, arith}
-use Rattle.std.specs.Prelude.{count_by}
+use Rattle.std.specs.Prelude.{count_by, is_some}
 use Rattle.std.proofs.lemmas.List.Sums.{sum_by-cons}
 use Rattle.trace_core.specs.declared.events.Ref.{Ref}
 use Rattle.trace_core.specs.declared.events.Event.{Event}
 use Rattle.trace_core.specs.declared.events.Event.TheVariants as event
+use Rattle.cache_core.specs.declared.design.WriteMode.TheVariants.{Back}
 use Rattle.cache_core.specs.declared.outcome.Counts.{Counts}
+use Rattle.cache_core.specs.declared.outcome.Outcome.{Outcome}
+use Rattle.cache_core.specs.declared.replacement.Lru.{Lru as LruPolicy}
 use Rattle.cache_core.specs.declared.simulation.Lookup.{Lookup}
+use Rattle.cache_core.specs.declared.simulation.Lookup.TheVariants.{Hit, Miss, MissEviction}
 use Rattle.cache_core.specs.declared.simulation.Simulation.{Simulation}
 use Rattle.cache_core.specs.Geometry.{GeometryValue}
-use Rattle.cache_core.specs.LruLaws.{occurrence_after}
-use Rattle.cache_core.specs.internal.LruSets.{LruSetsValue, LruSetsStandFor}
+use Rattle.cache_core.specs.LruLaws.{lru_machine, occurrence_after}
+use Rattle.cache_core.specs.internal.Stands.{CacheStandsFor}
+use Rattle.cache_core.specs.Machine.{Machine}
 use Rattle.cache_core.specs.Simulation.{lookup_at}
+use Rattle.cache_core.specs.internal.Simulation.{lru_contents, LooksUp}
 use Rattle.cache_core.specs.internal.Simulation.{counts_with, SimulationCountsWithin}
 use Rattle.cache_core.specs.internal.Simulation.{SimulationStandsFor}
-use Rattle.cache_core.specs.Windows.{Occurrence, counts, occurrences_after}
+use Rattle.cache_core.specs.Slab.{CacheValue}
+use Rattle.cache_core.specs.Windows.{Occurrence, counts, is_hit, occurrences_after}
+use Rattle.cache_core.proofs.LruRun.{next_law}
 use Rattle.cache_core.proofs.Occurrences.{sum_by-reference, occurrences-flush}
+use Rattle.cache_core.proofs.RunLaw.{access_run}
 
 counts-reference : (g : GeometryValue) (events : List Event) (r : Ref)
     → counts g (events ++ event.Reference r ∷ []) ≡ counts_with (counts g events)
@@ -24,23 +33,41 @@ counts-reference : (g : GeometryValue) (events : List Event) (r : Ref)
 unfolding counts
 counts-reference g events r = grind (arith, sum_by-reference)
 
+-- one more reference at the cache goes as the windows say
+pub looked_up : (g : GeometryValue) (events : List Event) (old new : CacheValue LruPolicy)
+    (ref : Ref) (lookup : Lookup) → 1 ≤ g.e →
+    CacheStandsFor (lru_machine g Back) events (lru_contents old) → LooksUp old ref lookup new →
+    CacheStandsFor (lru_machine g Back) (events ++ event.Reference ref ∷ []) (lru_contents new)
+    × (lookup ≡ lookup_at g (occurrence_after g events ref))
+looked_up g events old new ref lookup some stands step =
+    let m : Machine = lru_machine g Back in
+    let p : Occurrence = occurrence_after g events ref in
+    let after = access_run m events (lru_contents old) ref step.outcome (lru_contents new) some
+    stands step.access in
+    let next = next_law g Back events ref some in (
+      after.0,
+      step.told
+          ∙ ap (λ h. cond h Hit (cond (is_some step.outcome.evicted) MissEviction Miss))
+          (ap (λ (o : Outcome). o.hit) after.1 ∙ next.0)
+          ∙ ap (λ e. cond (is_hit g p) Hit (cond e MissEviction Miss))
+          (ap (λ (o : Outcome). is_some o.evicted) after.1 ∙ next.1),
+    )
+
 -- one more reference with this lookup
 pub simulates_lookup : (g : GeometryValue) (events : List Event) (old : Simulation)
-    (sets : LruSetsValue) (r : Ref) (told is : Lookup) →
-    (LruSetsStandFor g events old.sets → LruSetsStandFor g (events ++ event.Reference r ∷ []) sets ×
-    (told ≡ lookup_at g (occurrence_after g events r))) →
-    told ≡ is → SimulationStandsFor g events old →
+    (cache : CacheValue LruPolicy) (r : Ref) (told is : Lookup) →
+    LooksUp old.cache r told cache → told ≡ is → SimulationStandsFor g events old →
     SimulationStandsFor g (events ++ event.Reference r ∷ []) (record {
-      sets = sets;
+      cache = cache;
       counts =
           counts_with old.counts is;
     })
     × (told ≡ lookup_at g (occurrence_after g events r))
-simulates_lookup g events old sets r told is step same h =
-    let s = step h.sets in (
+simulates_lookup g events old cache r told is step same h =
+    let s = looked_up g events old.cache cache r told h.some h.cache step in (
       record {
         some = h.some;
-        sets = s.0;
+        cache = s.0;
         counts = ap (λ c. counts_with c is) h.counts ∙ ap (counts_with (counts g events))
             (sym same ∙ s.1) ∙ sym (counts-reference g events r);
       },

@@ -2,8 +2,6 @@ pub mod Order
 pub mod Slab
 pub mod Touched
 pub mod Stands
-pub mod DeepSets
-pub mod LruSets
 pub mod Simulation
 pub mod SystemCaches
 pub mod Counted

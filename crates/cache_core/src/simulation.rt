@@ -1,7 +1,12 @@
 //! An LRU cache with its counts.
+ghost use Rattle.std.specs.Prelude.{◌≡◌};
+ghost use Rattle.cache_core.specs.internal.Simulation.{lookup_of, LooksUp};
+
+use crate::chosen_cache::ChosenCache;
+use crate::design::{AllocMode, WriteMode};
 use crate::geometry::Geometry;
-use crate::lru_sets::LruSets;
-use crate::outcome::Counts;
+use crate::outcome::{Counts, Outcome};
+use crate::replacement::Lru;
 use std::alloc::{AllocError, Global};
 use trace_core::Ref;
 
@@ -17,7 +22,7 @@ pub enum Lookup {
 /// configuration.
 #[derive(Drop)]
 pub struct Simulation {
-    sets: LruSets,
+    cache: ChosenCache<Lru>,
     counts: Counts,
 }
 
@@ -33,19 +38,19 @@ impl Simulation {
     ghost use Rattle.trace_core.specs.declared.events.Event.TheVariants as event;
 
     /// An empty cache of this geometry, with nothing counted. It takes all its memory here, and
-    /// that alone can fail: 16 bytes for each line and 4 and a quarter for each set; with more than
-    /// 256 lines per set, this for 16 of them, and at most 21.6 bytes for each further line and 160
-    /// more for each set.
+    /// that alone can fail: 16 bytes for each line and 4 and a quarter for each set; with 128 lines
+    /// per set or more, at most 29 bytes for each line, 12 and a quarter for each set, and 8 more.
     pub fn new(alloc: Global, geometry: Geometry) -> Result<Simulation, AllocError>
         ensures { IfOk result (SimulationStandsFor geometry []) }
     {
-        let sets = LruSets::new(alloc, geometry)?;
+        let policy = Lru::new();
+        let cache = ChosenCache::new(alloc, geometry, policy, WriteMode::Back, AllocMode::Always)?;
         let counts = Counts {
             hits: 0,
             misses: 0,
             evictions: 0,
         };
-        Ok(Simulation { sets, counts })
+        Ok(Simulation { cache, counts })
     }
 
     /// The hits, misses and evictions so far.
@@ -67,7 +72,7 @@ impl Simulation {
             × (result ≡ lookup_at g (occurrence_after g events reference)) }
         ensures counted { self.new.counts ≡ counts_with self.old.counts result }
     {
-        let lookup = self.sets.access(reference);
+        let lookup = look_up(&mut self.cache, reference);
         match lookup {
             Lookup::Hit => self.counts.hits += 1,
             Lookup::Miss => self.counts.misses += 1,
@@ -86,6 +91,41 @@ impl Simulation {
             SimulationStandsFor g (events ++ event.Flush ∷ []) self.new }
         ensures counted { self.new.counts ≡ self.old.counts }
     {
-        self.sets.flush();
+        self.cache.flush();
+    }
+}
+
+/// Makes a reference, and returns how it went.
+#[inline(always)]
+fn look_up(cache: &mut ChosenCache<Lru>, reference: Ref) -> Lookup
+    ensures { LooksUp cache.old reference result cache.new }
+{
+    if cache.access_in_front(reference).is_some() {
+        return Lookup::Hit;
+    }
+    look_further(cache, reference)
+}
+
+/// Makes any reference. It is a function of its own, so that the path of the many references that
+/// find their block in the first slot of its set stays short.
+#[inline(never)]
+fn look_further(cache: &mut ChosenCache<Lru>, reference: Ref) -> Lookup
+    ensures { LooksUp cache.old reference result cache.new }
+{
+    let outcome = cache.access(reference);
+    lookup_of(&outcome)
+}
+
+/// How an access with this outcome went.
+#[inline(always)]
+fn lookup_of(outcome: &Outcome) -> Lookup
+    ensures { result ≡ lookup_of outcome.now }
+{
+    if outcome.hit {
+        Lookup::Hit
+    } else if outcome.evicted.is_some() {
+        Lookup::MissEviction
+    } else {
+        Lookup::Miss
     }
 }

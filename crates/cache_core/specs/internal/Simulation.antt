@@ -1,14 +1,38 @@
 -- An LRU cache with its counts, and the lists of events that it stands for.
 -- Few clauses cite these definitions, which need not be judged.
-use Rattle.std.specs.Prelude.{◌≡◌, ◌≤◌, ℕ, ◌+◌, List}
+use Rattle.std.specs.Prelude.{◌≡◌, ◌≤◌, ℕ, ◌+◌, List, Some, is_some, if◌then◌else◌}
 use Rattle.trace_core.specs.declared.events.Event.{Event}
+use Rattle.trace_core.specs.declared.events.Ref.{Ref}
+use Rattle.cache_core.specs.declared.design.Repl.TheVariants.{Lru}
+use Rattle.cache_core.specs.declared.design.WriteMode.TheVariants.{Back}
+use Rattle.cache_core.specs.declared.replacement.Lru.{Lru as LruPolicy}
 use Rattle.cache_core.specs.declared.outcome.Counts.{Counts}
+use Rattle.cache_core.specs.declared.outcome.Outcome.{Outcome}
 use Rattle.cache_core.specs.declared.simulation.Lookup.{Lookup}
 use Rattle.cache_core.specs.declared.simulation.Lookup.TheVariants.{Hit, Miss, MissEviction}
 use Rattle.cache_core.specs.declared.simulation.Simulation.{Simulation}
 use Rattle.cache_core.specs.Geometry.{GeometryValue}
-use Rattle.cache_core.specs.internal.LruSets.{LruSetsStandFor}
+use Rattle.cache_core.specs.LruLaws.{lru_machine}
+use Rattle.cache_core.specs.Order.{Contents, Accesses}
+use Rattle.cache_core.specs.Slab.{CacheValue, contents_of}
 use Rattle.cache_core.specs.Windows.{counts}
+use Rattle.cache_core.specs.internal.Stands.{CacheStandsFor}
+
+-- the contents of a cache under LRU
+abbrev pub lru_contents : CacheValue LruPolicy → Contents
+lru_contents cache = contents_of (λ _. Some Lru) (λ _ _. 0) cache
+
+-- how an access with this outcome went
+abbrev pub lookup_of : Outcome → Lookup
+lookup_of outcome =
+    if outcome.hit then Hit else if is_some outcome.evicted then MissEviction else Miss
+
+-- one reference at a cache under LRU
+pub record LooksUp (old : CacheValue LruPolicy) (ref : Ref) (lookup : Lookup)
+    (new : CacheValue LruPolicy) : Type 0 where
+  pub outcome : Outcome
+  pub access : Accesses (lru_contents old) ref outcome (lru_contents new)
+  pub told : lookup ≡ lookup_of outcome
 
 -- the counts with one more lookup
 abbrev pub counts_with : Counts → Lookup → Counts
@@ -22,9 +46,9 @@ pub record SimulationCountsWithin (n : ℕ) (c : Counts) : Type 0 where
   pub misses : c.misses ≤ n
   pub evictions : c.evictions ≤ n
 
--- the sets and the counts are those of a list of events
+-- the cache and the counts are those of a list of events
 pub record SimulationStandsFor (g : GeometryValue) (events : List Event)
     (sim : Simulation) : Type 0 where
   pub some : 1 ≤ g.e
-  pub sets : LruSetsStandFor g events sim.sets
+  pub cache : CacheStandsFor (lru_machine g Back) events (lru_contents sim.cache)
   pub counts : sim.counts ≡ counts g events

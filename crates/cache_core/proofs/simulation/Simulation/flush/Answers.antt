@@ -1,5 +1,9 @@
 -- A flush leads to the list with a flush behind it.
 use Rattle.std.proofs.Common.{◌∙◌, sym}
+use Rattle.cache_core.specs.declared.design.WriteMode.TheVariants.{Back}
+use Rattle.cache_core.specs.LruLaws.{lru_machine}
+use Rattle.cache_core.specs.internal.Simulation.{lru_contents}
+use Rattle.cache_core.proofs.RunLaw.{flush_run}
 use Rattle.cache_core.proofs.Simulating.{counts-flush}
 use Rattle.cache_core.proofs.simulation.Simulation.flush.Goals as goal
 
@@ -7,7 +11,7 @@ pub returns-clause-stands : goal.returns-clause-stands
 returns-clause-stands c = λ g events h.
     record {
       some = h.some;
-      sets = c.flush.ensures g events h.sets;
-      counts =
-          h.counts ∙ sym (counts-flush g events);
+      cache = (flush_run (lru_machine g Back) events (lru_contents c.args.self.now.cache)
+          c.flush.result (lru_contents c.flush.new.self) h.cache c.flush.ensures).0;
+      counts = h.counts ∙ sym (counts-flush g events);
     }
