@@ -35,7 +35,7 @@ effects_from m st events = map (λ p. p.1) (with_effects_from m st events)
 abbrev pub blocks_in : List Line → List ℕ
 blocks_in lines = map (λ line. line.block) lines
 
-pub blocks_slots : (lines : List Line) → blocks_of (map slot_of lines) ≡ blocks_in lines
+blocks_slots : (lines : List Line) → blocks_of (map slot_of lines) ≡ blocks_in lines
 blocks_slots [] = refl
 blocks_slots (l ∷ ls) = ap (λ xs. l.block ∷ xs) (blocks_slots ls)
 
@@ -176,7 +176,7 @@ window_folds g before (e ∷ es) =
     grind (arith, window-push, append_assoc, window_folds g (before ++ e ∷ []) es)
 
 -- the state after a list holds the fronts of its window's stacks
-pub run_stacked : (g : GeometryValue) (write : WriteMode) (events : List Event) → 1 ≤ g.e →
+run_stacked : (g : GeometryValue) (write : WriteMode) (events : List Event) → 1 ≤ g.e →
     IsStacked g write (window g events) (run (lru_machine g write) events)
 run_stacked g write events some =
     subst (λ w. IsStacked g write w (run (lru_machine g write) events))

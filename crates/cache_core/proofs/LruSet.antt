@@ -65,7 +65,7 @@ at_position : (x : ℕ) (xs : List ℕ) → list_any (is x) xs ≡ true →
 at_position x [] h = absurd (false≢true h)
 at_position x (y ∷ ys) h = let rest = at_position x ys in grind arith
 
-pub block_at : (slots : List Slot) (n : ℕ) (y : Slot) → slice_get slots n ≡ Some y →
+block_at : (slots : List Slot) (n : ℕ) (y : Slot) → slice_get slots n ≡ Some y →
     slice_get (blocks_of slots) n ≡ Some y.block
 block_at [] n y e = absurd cc
 block_at (l ∷ ls) zero y e = let q : l ≡ y = cc in ap (λ (z : Slot). Some z.block) q
@@ -109,7 +109,7 @@ abbrev pub front_after : GeometryValue → Occurrence → List ℕ
 front_after g p = take g.e (distinct_of_set g (set_of_block g p.block) (p.block ∷ p.window))
 
 -- a hit, by the front of the stack
-pub is_hit_is : (g : GeometryValue) (p : Occurrence) →
+is_hit_is : (g : GeometryValue) (p : Occurrence) →
     is_hit g p ≡ list_any (is p.block) (front g p)
 is_hit_is g p =
     let index : ℕ = position_or_len (is p.block) (stack g p) in

@@ -75,20 +75,6 @@ impl Geometry {
         self.b
     }
 
-    /// This geometry with fewer lines per set.
-    pub(crate) fn with_ways(&self, e: u64) -> Geometry
-        requires some { 1 ≤ e }
-        requires fewer { e ≤ self.now.e }
-        ensures { result ≡ record self.now { e = e } }
-    {
-        Geometry {
-            s: self.s,
-            e,
-            b: self.b,
-            set_mask: self.set_mask,
-        }
-    }
-
     /// The number of sets.
     pub fn sets(&self) -> u64
         ensures { result ≡ 2 ^ self.now.s }
