@@ -32,12 +32,10 @@ BATCH = f"All pairs together take {NUMBER} KiB more"
 ALL_PAIRS = f"Sweeping all {PAIRS} pairs with one way takes {NUMBER} MB"
 BUFFERS = f"a run has two buffers of {NUMBER} KiB, and a sweep {NUMBER} KiB for references"
 CACHES = (
-    f"`csim`, `din` and `log` take {NUMBER} bytes per line of a cache and {NUMBER} per set; `din` "
-    f"and `log` with {NUMBER} ways or more take, instead of that, {NUMBER} bytes per line, "
-    f"{NUMBER} per set and {NUMBER} more, and under random replacement {NUMBER} bytes per line, "
-    f"{NUMBER} per set and {NUMBER} more; `csim` with more than {NUMBER} ways takes, instead of "
-    f"{NUMBER} bytes, at most {NUMBER} bytes for each line after the first {NUMBER} of a set, and "
-    f"{NUMBER} more per set"
+    f"`csim`, `din` and `log` take {NUMBER} bytes per line of a cache and {NUMBER} per set; with "
+    f"{NUMBER} ways or more they take, instead of that, {NUMBER} bytes per line, {NUMBER} per set "
+    f"and {NUMBER} more, and under random replacement {NUMBER} bytes per line, {NUMBER} per set "
+    f"and {NUMBER} more"
 )
 
 
@@ -69,19 +67,13 @@ def told_of_pair(sets, ways):
     return value(formula, sets, ways)
 
 
-def told_of_cache(command, sets, ways, policy="l"):
-    """The bytes of a cache of din, log or csim, for so many sets and lines per set, and of din and
-    log by the letter of their policy."""
+def told_of_cache(sets, ways, policy="l"):
+    """The bytes of a cache for so many sets and lines per set, by the letter of its policy."""
     line, set_, indexed, *others = told_by_the_manual(CACHES)
-    in_order, random, (searched, instead, line_far, near, set_far) = (
-        others[:3], others[3:6], others[6:])
-    if command != "csim" and ways >= indexed:
-        line, set_, more = random if policy == "r" else in_order
-        return sets * (line * ways + set_) + more
-    of_set = line * ways + set_
-    if command == "csim" and ways > searched:
-        of_set += (line_far - instead) * (ways - near) + set_far
-    return sets * of_set
+    more = 0
+    if ways >= indexed:
+        line, set_, more = others[3:] if policy == "r" else others[:3]
+    return sets * (line * ways + set_) + more
 
 
 def pair(sets, ways):
@@ -97,7 +89,7 @@ def cache(command, sets, ways, policy="l"):
     else:
         words = ["-l1-ubsize", "16", "-l1-usets", f"{sets}", "-l1-uassoc", f"{ways}"]
         words += ["-l1-urepl", policy]
-    return [command, *words], told_of_cache(command, sets, ways, policy)
+    return [command, *words], told_of_cache(sets, ways, policy)
 
 
 def blocks(sets, tags=range(1)):
@@ -152,22 +144,19 @@ def bytes_of_tables(limits, told):
 
 
 def bytes_of_caches(limits, told):
-    """The same of caches, of which those of csim may have long lists too."""
+    """The same of caches."""
     above = int(told_by_the_manual(CACHES)[2])
     below = above - 1
-    for command, policy, sets, ways, least in (
-        ("din", "l", 2**20, 1, None), ("din", "r", 1024, below, None),
-        ("din", "l", 1024, below, None), ("din", "l", 1024, above, None),
-        ("din", "f", 1024, above, None), ("din", "r", 1024, above, None),
-        ("din", "l", 1, WAYS, None), ("din", "l", 64, WAYS, None), ("din", "r", 64, WAYS, None),
-        ("log", "l", 1024, below, None), ("log", "l", 1024, above, None),
-        ("csim", "l", 2**20, 1, None), ("csim", "l", 1024, 256, None),
-        ("csim", "l", 1024, 257, 0.996), ("csim", "l", 1, WAYS, 0.996),
-        ("csim", "l", 64, WAYS, 0.996),
+    for command, policy, sets, ways in (
+        ("din", "l", 2**20, 1), ("din", "r", 1024, below), ("din", "l", 1024, below),
+        ("din", "l", 1024, above), ("din", "f", 1024, above), ("din", "r", 1024, above),
+        ("din", "l", 1, WAYS), ("din", "l", 64, WAYS), ("din", "r", 64, WAYS),
+        ("log", "l", 1024, below), ("log", "l", 1024, above),
+        ("csim", "l", 2**20, 1), ("csim", "l", 1024, below), ("csim", "l", 1024, above),
+        ("csim", "l", 1, WAYS), ("csim", "l", 64, WAYS),
     ):
         name = f"{command} with S = {sets} and A = {ways}, replacement {policy}"
-        small = cache(command, 16, 1)
-        limits.takes(name, cache(command, sets, ways, policy), small, told, least=least)
+        limits.takes(name, cache(command, sets, ways, policy), cache(command, 16, 1), told)
 
 
 def bytes_of_buffers(limits, large):

@@ -3,8 +3,8 @@
 It keeps lists of few, of some and of many blocks in different ways, a sweep also those of up to
 4,096 sets and of more, and it feeds the profiles of a sweep some thousands of references at a time.
 A place is a command and one of these sizes. The sets of a case are filled, so that blocks are
-evicted from lists of that size. At some places, din and log have an index of blocks, and the blocks
-of a set are all on one of its chains, so that most are not found by a walk along it.
+evicted from lists of that size. At some places, csim, din and log have an index of blocks, and the
+blocks of a set are all on one of its chains, so that most are not found by a walk along it.
 """
 
 import collections
@@ -12,7 +12,7 @@ import re
 
 import model
 
-WAYS = 11, 12, 16, 17, 31, 32, 63, 64, 127, 128, 255, 256, 257
+WAYS = 11, 12, 16, 17, 31, 32, 63, 64, 127, 128, 255, 256
 SETS = 4096, 8192
 # with more than 4,096 of them a sweep keeps lists of 32 to 255 ways in another way again
 OF_MANY = "ways of 8,192 sets"
@@ -25,7 +25,7 @@ PLACES = [
     *((command, "ways", ways) for ways in WAYS for command in COMMANDS),
     *((command, "sets", sets) for sets in SETS for command in COMMANDS),
     *(("sweep", OF_MANY, ways) for ways in (31, 32)),
-    *((command, OF_CHAIN, ways) for ways in (128, 257) for command in ("din", "log")),
+    *((command, OF_CHAIN, ways) for ways in (128, 257) for command in ("csim", "din", "log")),
     *(("sweep", "references", count) for count in REFERENCES for _ in range(2)),
 ]
 # between two blocks: neighbours, powers of two, and distances at which sixteen blocks of a list in
@@ -261,18 +261,16 @@ def places_of(arguments, text, out):
     if command == "sweep":
         return places_of_sweep(job, text, out)
     if command == "csim":
-        shapes = [(job["s"], job["E"])] if re.search("eviction(?!s:0$)", out, re.M) else []
+        cache = {"s": job["s"], "b": job["b"], "ways": job["E"]}
+        caches = [cache] if re.search("eviction(?!s:0$)", out, re.M) else []
     else:
         evicted = r"^{} (?:.* evictions=[1-9]|.* miss eviction )"
-        shapes = [(it["s"], it["ways"]) for name, it in job["caches"].items()
+        caches = [it for name, it in job["caches"].items()
                   if re.search(evicted.format(name), out, re.M)]
-    found = {(command, "ways", ways) for _, ways in shapes}
-    found |= {(command, "sets", 2**bits) for bits, _ in shapes}
-    if command != "csim":
-        caches = job["caches"].values()
-        entries = model.read(job["format"], text)[0]
-        found |= {(command, OF_CHAIN, it["ways"]) for it in caches
-                  if (it["s"], it["ways"]) in shapes and is_on_one_chain(entries, it)}
+    entries = model.read(job.get("format", "l"), text)[0]
+    found = {(command, "ways", it["ways"]) for it in caches}
+    found |= {(command, "sets", 2 ** it["s"]) for it in caches}
+    found |= {(command, OF_CHAIN, it["ways"]) for it in caches if is_on_one_chain(entries, it)}
     return found & set(PLACES)
 
 

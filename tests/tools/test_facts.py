@@ -216,8 +216,7 @@ class Thresholds(unittest.TestCase):
             ("profile_core", "long_lists.rt", "ROW", "sweep", "ways", (-1, 0)),
             ("profile_core", "long_lists.rt", "DEEP", "sweep", "ways", (-1, 0)),
             ("sweep_core", "batch.rt", "BATCH", "sweep", "references", (-1, 0, 1)),
-            ("cache_core", "lru_sets.rt", "NEAR_WAYS", "csim", "ways", (0, 1)),
-            ("cache_core", "lru_sets.rt", "SEARCHED_WAYS", "csim", "ways", (0, 1)),
+            ("cache_core", "chosen_cache.rt", "INDEXED_WAYS", "csim", "ways", (-1, 0)),
             ("cache_core", "chosen_cache.rt", "INDEXED_WAYS", "din", "ways", (-1, 0)),
             ("cache_core", "chosen_cache.rt", "INDEXED_WAYS", "log", "ways", (-1, 0)),
         ):
