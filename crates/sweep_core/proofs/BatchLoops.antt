@@ -8,8 +8,8 @@ use Rattle.std.proofs.lemmas.List.Edits.{map_over_more}
 use Rattle.profile_core.specs.internal.State.{ProfileState}
 use Rattle.profile_core.specs.internal.Fronts.{after_batch, fed_of_batch}
 use Rattle.sweep_core.specs.declared.profiles.PairProfile.{PairProfile}
-use Rattle.sweep_core.specs.internal.Batches.{pair_after_batch, AlwaysLeads, AreAlwaysLed}
-use Rattle.sweep_core.specs.internal.Batches.{IsFedToTwo, IsGiven}
+use Rattle.sweep_core.specs.internal.Feeding.{pair_after_batch, AlwaysLeads, AreAlwaysLed}
+use Rattle.sweep_core.specs.internal.Feeding.{IsFedToTwo, IsGiven}
 use Rattle.std.proofs.lemmas.List.{length-take, get_or-set_other, drop_at, length-map}
 use Rattle.std.proofs.lemmas.List.{length-take-le, get_or-drop}
 use Rattle.cache_core.specs.Geometry.{block_of}
@@ -35,21 +35,6 @@ pub record IsFedUpTo (at count led_count end : ℕ) (batch addrs led : List ℕ)
   pub most : count ≤ length batch
   pub led_most : led_count ≤ length batch
   pub same_length : length addrs ≡ length batch
-
-pub fed_to_none : (batch led : List ℕ) (old : List PairProfile) →
-    take (length batch) batch ≡ batch → IsFedUpTo 0 (length batch) 0 0 batch batch led old old
-fed_to_none batch led old whole = record {
-  fed = refl;
-  serves = all old;
-  led_serves = tt;
-  most = omega arith;
-  led_most = omega arith;
-  same_length = refl;
-}
-  where
-    all : (xs : List PairProfile) → Each (Serves (take (length batch) batch) batch) xs
-    all [] = tt
-    all (x ∷ xs) = (ap (λ l. pair_after_batch l x) whole, all xs)
 
 -- the same of equal values
 pub of_equal : {at count led_count end : ℕ} {batch addrs led : List ℕ} {old now : List PairProfile}
@@ -87,16 +72,16 @@ each_less P (suc m) zero (x ∷ xs) le h = absurd (omega (arith, le))
 each_less P (suc m) (suc n) (x ∷ xs) le h = (h.0, each_less P m n xs (omega (arith, le)) h.1)
 
 pub led-at : (xs : List PairProfile) (i : ℕ) (d : PairProfile) → i < length xs → AreAlwaysLed xs
-    → (i + 1 + (get_or xs i d).implied ≤ length xs) ×
+    → (i + 1 + (get_or xs i d).followers ≤ length xs) ×
     Each (λ y. AlwaysLeads (get_or xs i d).profile y.profile)
-    (take (get_or xs i d).implied (drop (i + 1) xs))
+    (take (get_or xs i d).followers (drop (i + 1) xs))
 led-at [] i d inside led = absurd (omega (arith, inside))
 led-at (x ∷ xs) zero d inside led = (omega (arith, led.0), led.1)
 led-at (x ∷ xs) (suc i) d inside led =
     let rest = led-at xs i d (omega (arith, inside)) led.2 in (
       omega (arith, rest.0),
       subst (λ n. Each (λ y. AlwaysLeads (get_or xs i d).profile y.profile)
-          (take (get_or xs i d).implied (drop n (x ∷ xs)))) {x = suc (i + 1)} {y = suc i + 1}
+          (take (get_or xs i d).followers (drop n (x ∷ xs)))) {x = suc (i + 1)} {y = suc i + 1}
           (omega arith) rest.1,
     )
 
@@ -110,12 +95,12 @@ module _ {at count led_count end : ℕ} {batch addrs led : List ℕ} {old now : 
   here : x ≡ get_or old at d
   here = ap (λ ys. get_or ys at d) so_far.fed ∙ unreached (pair_after_batch batch) old at d inside
 
-  pub implied-within : at + 1 + x.implied ≤ length old
-  implied-within = omega (arith, (led-at old at d inside always).0, ap (λ y. y.implied) here)
+  pub followers-within : at + 1 + x.followers ≤ length old
+  followers-within = omega (arith, (led-at old at d inside always).0, ap (λ y. y.followers) here)
 
-  leads : Each (λ y. AlwaysLeads x.profile y.profile) (take x.implied (drop (at + 1) old))
+  leads : Each (λ y. AlwaysLeads x.profile y.profile) (take x.followers (drop (at + 1) old))
   leads = subst (λ z. Each (λ y. AlwaysLeads z.profile y.profile)
-      (take z.implied (drop (at + 1) old))) (sym here) (led-at old at d inside always).1
+      (take z.followers (drop (at + 1) old))) (sym here) (led-at old at d inside always).1
 
   -- The profile at the index is fed some addresses, of which `left` are left in front of others.
   module _ (given : List ℕ) (serves_here : Serves given batch (get_or old at d)) (p : ProfileState)
@@ -142,7 +127,7 @@ module _ {at count led_count end : ℕ} {batch addrs led : List ℕ} {old now : 
         (fed-past x.profile y.profile given leads_it) ∙ serves) zs led_by served)
 
     -- up to the profile `until`, of those that the addresses served for
-    pub serves_led : (until : ℕ) → until ≤ at + 1 + x.implied
+    pub serves_led : (until : ℕ) → until ≤ at + 1 + x.followers
         → Each (Serves given batch) (take (until - (at + 1)) (drop (at + 1) old))
         → IsFedUpTo (at + 1) count left until batch addrs (items ++ rest) old
         (set now at (record x { profile = p }))
@@ -150,7 +135,7 @@ module _ {at count led_count end : ℕ} {batch addrs led : List ℕ} {old now : 
       fed = now_fed;
       serves = (each_drop (Serves (take count addrs) batch) old at d inside so_far.serves).1;
       led_serves = serve_more (take (until - (at + 1)) (drop (at + 1) old))
-          (each_less (λ y. AlwaysLeads x.profile y.profile) (until - (at + 1)) x.implied
+          (each_less (λ y. AlwaysLeads x.profile y.profile) (until - (at + 1)) x.followers
           (drop (at + 1) old) (omega (arith, most)) leads) served;
       most = so_far.most;
       led_most = small;
@@ -158,7 +143,7 @@ module _ {at count led_count end : ℕ} {batch addrs led : List ℕ} {old now : 
     }
 
     -- for all that are to come
-    pub serves_all : end ≤ at → x.implied ≡ length old - at - 1 →
+    pub serves_all : end ≤ at → x.followers ≡ length old - at - 1 →
         length (items ++ rest) ≡ length batch
         → Each (Serves given batch) (drop (at + 1) old)
         → IsFedUpTo (at + 1) left led_count end batch (items ++ rest) led old
@@ -167,7 +152,7 @@ module _ {at count led_count end : ℕ} {batch addrs led : List ℕ} {old now : 
       fed = now_fed;
       serves = serve_more (drop (at + 1) old)
           (subst (Each (λ y. AlwaysLeads x.profile y.profile))
-          (take_all x.implied (drop (at + 1) old)
+          (take_all x.followers (drop (at + 1) old)
           (omega (arith, all, length-drop (at + 1) old))) leads) served;
       led_serves = subst (λ n. Each (Serves (take led_count led) batch)
           (take n (drop (at + 1) old))) {x = 0} {y = end - (at + 1)} (omega (arith, over)) tt;
@@ -177,11 +162,11 @@ module _ {at count led_count end : ℕ} {batch addrs led : List ℕ} {old now : 
     }
 
 -- The references given to the profile at the index are also enough for the profiles up to `until`.
-pub given_serves : {at count led_count end implied given until : ℕ} {batch addrs led led' : List ℕ}
+pub given_serves : {at count led_count end followers given until : ℕ} {batch addrs led led' : List ℕ}
     {old now : List PairProfile} → IsFedUpTo at count led_count end batch addrs led old now →
-    IsGiven at implied led_count end (take count addrs) led led' given until →
+    IsGiven at followers led_count end (take count addrs) led led' given until →
     IsFedUpTo at count given until batch addrs led' old now
-given_serves {at} {count} {led_count} {end} {implied} {given} {until} {batch} {addrs} {led} {led'}
+given_serves {at} {count} {led_count} {end} {followers} {given} {until} {batch} {addrs} {led} {led'}
     {old} so_far is =
     let serving : Each (Serves (take given led') batch) (take (until - at) (drop at old)) ×
     (given ≤ length batch) =
@@ -213,16 +198,16 @@ given_serves {at} {count} {led_count} {end} {implied} {given} {until} {batch} {a
       same_length = so_far.same_length;
     }
 
-pub given_within : {at implied led_count end given until : ℕ} {addrs led led' : List ℕ} →
-    IsGiven at implied led_count end addrs led led' given until → until ≤ at + 1 + implied
-given_within {at} {implied} {led_count} {end} is = elim (cases_lt at end) [
+pub given_within : {at followers led_count end given until : ℕ} {addrs led led' : List ℕ} →
+    IsGiven at followers led_count end addrs led led' given until → until ≤ at + 1 + followers
+given_within {at} {followers} {led_count} {end} is = elim (cases_lt at end) [
   | inl before ↦ omega (arith, (is.kept before).1)
   | inr past ↦ omega (arith, (is.all past).1)
 ]
 
-pub given_reaches : {at implied led_count end given until : ℕ} {addrs led led' : List ℕ} →
-    IsGiven at implied led_count end addrs led led' given until → at < until
-given_reaches {at} {implied} {led_count} {end} is = elim (cases_lt at end) [
+pub given_reaches : {at followers led_count end given until : ℕ} {addrs led led' : List ℕ} →
+    IsGiven at followers led_count end addrs led led' given until → at < until
+given_reaches {at} {followers} {led_count} {end} is = elim (cases_lt at end) [
   | inl before ↦ omega (arith, before, (is.kept before).1)
   | inr past ↦ omega (arith, (is.all past).1)
 ]
@@ -286,9 +271,9 @@ module _ {at count led_count end : ℕ} {batch addrs led : List ℕ} {old now : 
   given_short = omega (arith, length-take led_count led, so_far.led_most)
 
   module _ (until next_until : ℕ) (before : at < end) (within_end : until ≤ end)
-      (within_first : until ≤ at + 1 + first.implied) (next : at + 1 < until)
+      (within_first : until ≤ at + 1 + first.followers) (next : at + 1 < until)
       (within_until : next_until ≤ until)
-      (within_second : next_until ≤ at + 1 + 1 + t.second.implied)
+      (within_second : next_until ≤ at + 1 + 1 + t.second.followers)
       (items rest : List ℕ) (left : ℕ) (are_left : take left items ≡ left_list)
       (within : left ≤ length items) (same : length items ≤ length given) where
     served : Serves given batch (get_or old at t.first) ×
@@ -325,7 +310,7 @@ module _ {at count led_count end : ℕ} {batch addrs led : List ℕ} {old now : 
         ∙ ap (λ y. fed_of_batch y.profile (fed_of_batch t.first.profile given)) (sym second_is)
         ∙ ap (fed_of_batch second.profile) (sym passed_is ∙ sym given1_is))
         within (omega (arith, within, same, given_short)) next_until
-        (omega (arith, within_second, ap (λ y. y.implied) second_is))
+        (omega (arith, within_second, ap (λ y. y.followers) second_is))
         (each_less (Serves given1 batch) (next_until - (at + 1 + 1)) (until - (at + 1 + 1))
         (drop (at + 1 + 1) old) (omega (arith, within_until)) served1.1) in
         let is : after ≡ set now1 (at + 1) (pair_after_batch given1 second) =
@@ -346,12 +331,12 @@ module _ {at count led_count end : ℕ} {batch addrs led : List ℕ} {old now : 
       (length-map (take at old) (pair_after_batch batch) ∙ length-take-le at old le)
 
   pub next-within : (d : PairProfile) → at + 1 < length old → AreAlwaysLed old →
-      at + 1 + 1 + (get_or now (at + 1) d).implied ≤ length old
+      at + 1 + 1 + (get_or now (at + 1) d).followers ≤ length old
   next-within d inside always =
       let same : get_or now (at + 1) d ≡ get_or old (at + 1) d =
       sym (get_or-drop at now 1 d) ∙ ap (λ l. get_or l 1 d) (unfed (omega (arith, inside))) ∙
       get_or-drop at old 1 d in
-      omega (arith, (led-at old (at + 1) d inside always).0, ap (λ y. y.implied) same)
+      omega (arith, (led-at old (at + 1) d inside always).0, ap (λ y. y.followers) same)
 
 pub each_rest : (P : PairProfile → Type 0) (n : ℕ) (xs : List PairProfile) → Each P xs →
     Each P (drop n xs)

@@ -18,10 +18,11 @@ use Rattle.profile_core.specs.internal.Fronts.{after_unless_front, is_front_of, 
 use Rattle.profile_core.specs.internal.Fronts.{fed_of_batch}
 use Rattle.sweep_core.specs.declared.profiles.PairProfile.{PairProfile}
 use Rattle.sweep_core.specs.internal.Pass.{pair_after_reference, profiles_after, kept_events}
-use Rattle.sweep_core.specs.internal.Implied.{IsLinked, AreLed, IsFresh, pair_unless_front}
-use Rattle.sweep_core.specs.internal.Implied.{profiles_with_fronts, FedAtMost, AreBehind}
-use Rattle.sweep_core.specs.internal.Batches.{pair_after_batch, profiles_after_batch, AlwaysLeads}
-use Rattle.sweep_core.specs.internal.Batches.{AreAlwaysLed, AreAlwaysBehind, AreWaiting}
+use Rattle.sweep_core.specs.internal.Feeding.{HaveFollowers, AreLed, IsFresh, pair_unless_front}
+use Rattle.sweep_core.specs.internal.Feeding.{profiles_with_fronts, FedAtMost, AreBehind}
+use Rattle.sweep_core.specs.internal.Feeding.{pair_after_batch, profiles_after_batch, AlwaysLeads}
+use Rattle.sweep_core.specs.internal.Feeding.{AreAlwaysLed, AreAlwaysBehind}
+use Rattle.sweep_core.specs.internal.Waiting.{AreWaiting}
 use Rattle.sweep_core.proofs.Lists.{Each-weaker}
 use Rattle.sweep_core.proofs.Passes.{all_after-append}
 use Rattle.sweep_core.proofs.Catching.{behind-after, caught-reference, few-reference, kept-caught}
@@ -50,19 +51,19 @@ one-more : ℕ → Event
 one-more a = event.Reference (record { access = access.Read; addr = a })
 
 pub always-behind : (later : List ℕ) (n : ℕ) (es : List Event) (old xs : List PairProfile) →
-    Each IsFresh old → IsLinked old → profiles_with_fronts n xs ≡ profiles_after es old →
+    Each IsFresh old → HaveFollowers old → profiles_with_fronts n xs ≡ profiles_after es old →
     FedAtMost n xs → AreBehind (n + length later) (profiles_after_batch later xs)
 unfolding one-more
-always-behind [] n es old xs fresh links caught fed =
+always-behind [] n es old xs fresh refined caught fed =
     subst (λ m. AreBehind m (profiles_after_batch [] xs)) {x = n} {y = n + 0} (omega arith)
-    (subst (AreBehind n) (sym (fed-nil xs)) (behind-after n es old xs fresh links caught fed))
-always-behind (a ∷ later) n es old xs fresh links caught fed =
-    let now = behind-after n es old xs fresh links caught fed in
+    (subst (AreBehind n) (sym (fed-nil xs)) (behind-after n es old xs fresh refined caught fed))
+always-behind (a ∷ later) n es old xs fresh refined caught fed =
+    let now = behind-after n es old xs fresh refined caught fed in
     let next = map (pair_unless_front a) xs in
     let after : profiles_with_fronts (n + 1) next ≡ profiles_after (es ++ one-more a ∷ []) old =
     caught-reference n a xs now.fed now.fit ∙ ap (map (pair_after_reference a)) caught ∙
     sym (all_after-append es (one-more a ∷ []) old) in
-    let rest = always-behind later (n + 1) (es ++ one-more a ∷ []) old next fresh links after
+    let rest = always-behind later (n + 1) (es ++ one-more a ∷ []) old next fresh refined after
     (few-reference n a xs now.fed now.fit) in
     subst (λ m. AreBehind m (profiles_after_batch (a ∷ later) xs)) {x = n + 1 + length later}
     {y = n + length (a ∷ later)} (omega arith)
@@ -82,8 +83,8 @@ led-all : (xs : List PairProfile) → ((addrs : List ℕ) → AreLed (profiles_a
     AreAlwaysLed xs
 led-all [] h = tt
 led-all (x ∷ xs) h = (
-  subst (λ (n : ℕ). x.implied ≤ n) (length-map xs (pair_after_batch [])) (h []).0,
-  led-each x x.implied xs (λ addrs. (h addrs).1),
+  subst (λ (n : ℕ). x.followers ≤ n) (length-map xs (pair_after_batch [])) (h []).0,
+  led-each x x.followers xs (λ addrs. (h addrs).1),
   led-all xs (λ addrs. (h addrs).2),
 )
 
@@ -132,12 +133,12 @@ module _ (n : ℕ) (addrs : List ℕ) (xs : List PairProfile) (h : AreWaiting n 
       (fed-append addrs (r.addr ∷ []) xs ∙ fed-one r.addr ys)).0
 
 pub waiting-none : (n : ℕ) (es : List Event) (old xs : List PairProfile) → Each IsFresh old →
-    IsLinked old → profiles_with_fronts n xs ≡ profiles_after es old → FedAtMost n xs →
+    HaveFollowers old → profiles_with_fronts n xs ≡ profiles_after es old → FedAtMost n xs →
     AreWaiting n [] xs
-waiting-none n es old xs fresh links caught fed = record {
+waiting-none n es old xs fresh refined caught fed = record {
   waiting = omega arith;
   behind = λ later. subst (λ m. AreBehind (m + length later) (profiles_after_batch later xs)) {x =
-      n} {y = n - 0} (omega arith) (always-behind later n es old xs fresh links caught fed);
+      n} {y = n - 0} (omega arith) (always-behind later n es old xs fresh refined caught fed);
 }
 
 -- A profile that is led need not be fed what the other finds in front.

@@ -15,6 +15,7 @@ pub mod Making
 pub mod Serving
 pub mod Writing
 pub mod Sweeping
+pub mod Followers
 pub mod Catching
 pub mod Batching
 pub mod BatchLoops

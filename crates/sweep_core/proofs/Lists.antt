@@ -164,11 +164,6 @@ pub filter-all : {A : Type 0} (p : A → Bool) (xs : List A) → Each (λ x. p x
 filter-all p [] h = refl
 filter-all p (x ∷ xs) h = cond-true _ _ _ h.0 ∙ ap (λ l. x ∷ l) (filter-all p xs h.1)
 
-pub filter-agree : {A : Type 0} (p q : A → Bool) (xs : List A) → Each (λ x. p x ≡ q x) xs →
-    filter p xs ≡ filter q xs
-filter-agree p q [] h = refl
-filter-agree p q (x ∷ xs) h = rw h.0 (ap (λ l. cond (q x) (x ∷ l) l) (filter-agree p q xs h.1))
-
 pub filter-none : {A B : Type 0} (p : A → Bool) (f : B → A) → ((x : B) → p (f x) ≡ false) →
     (xs : List B) → filter p (map f xs) ≡ []
 filter-none p f h [] = refl

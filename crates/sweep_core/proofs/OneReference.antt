@@ -9,8 +9,8 @@ use Rattle.cache_core.specs.Geometry.{block_of}
 use Rattle.profile_core.specs.internal.State.{ProfileState, after_reference}
 use Rattle.profile_core.specs.internal.Fronts.{after_unless_front, is_front_of}
 use Rattle.sweep_core.specs.declared.profiles.PairProfile.{PairProfile}
-use Rattle.sweep_core.specs.internal.Batches.{pair_after_batch, AlwaysLeads}
-use Rattle.sweep_core.specs.internal.Batches.{AreAlwaysLed}
+use Rattle.sweep_core.specs.internal.Feeding.{pair_after_batch, AlwaysLeads}
+use Rattle.sweep_core.specs.internal.Feeding.{AreAlwaysLed}
 use Rattle.sweep_core.proofs.Lists.{Each-weaker}
 use Rattle.sweep_core.proofs.Passes.{unreached}
 use Rattle.sweep_core.proofs.BatchLoops.{led-at}
@@ -64,23 +64,23 @@ module _ (addr i : ℕ) (old now : List PairProfile) (x : PairProfile)
 
   -- and those that its front implies
   module _ (led : AreAlwaysLed old) where
-    pub implied-within : i + 1 + (get_or now i x).implied ≤ length old
-    implied-within = omega (arith, (led-at old i x inside led).0, ap (λ y. y.implied) at-index)
+    pub followers-within : i + 1 + (get_or now i x).followers ≤ length old
+    followers-within = omega (arith, (led-at old i x inside led).0, ap (λ y. y.followers) at-index)
 
     pub skip-next : (p : ProfileState) → x ≡ get_or now i x
         → p ≡ after_unless_front (get_or now i x).profile
         (block_of (get_or now i x).profile.geometry addr)
         → is_front_of (get_or now i x).profile
         (block_of (get_or now i x).profile.geometry addr) ≡ true
-        → FedSoFar addr (i + 1 + (get_or now i x).implied) old
+        → FedSoFar addr (i + 1 + (get_or now i x).followers) old
         (set now i (record (get_or now i x) { profile = p }))
     skip-next p is fed front =
         let after = pair_after_batch (addr ∷ []) in
         let here = sym (ap (λ y. is_front_of y.profile (block_of y.profile.geometry addr))
         at-index) ∙ front in
         fed-next p is fed
-        ∙ skip after (i + 1) (get_or old i x).implied (i + 1 + (get_or now i x).implied) old
-        (omega (arith, ap (λ y. y.implied) at-index))
+        ∙ skip after (i + 1) (get_or old i x).followers (i + 1 + (get_or now i x).followers) old
+        (omega (arith, ap (λ y. y.followers) at-index))
         (Each-weaker (λ y. AlwaysLeads (get_or old i x).profile y.profile) (λ y. after y ≡ y)
         (λ y leads. stays addr y (leads [] addr here))
-        (take (get_or old i x).implied (drop (i + 1) old)) (led-at old i x inside led).1)
+        (take (get_or old i x).followers (drop (i + 1) old)) (led-at old i x inside led).1)

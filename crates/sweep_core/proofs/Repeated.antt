@@ -15,9 +15,10 @@ use Rattle.profile_core.specs.internal.Fronts.{after_unless_front, is_front_of, 
 use Rattle.profile_core.proofs.Fronts.{front_again}
 use Rattle.sweep_core.specs.declared.profiles.PairProfile.{PairProfile}
 use Rattle.sweep_core.specs.internal.Pass.{pair_after_flush}
-use Rattle.sweep_core.specs.internal.Batches.{pair_after_batch, profiles_after_batch, AreWaiting}
-use Rattle.sweep_core.specs.internal.Batches.{AreNoFiner, finest_bits, is_in_last_block}
-use Rattle.sweep_core.specs.internal.Batches.{with_waiting}
+use Rattle.sweep_core.specs.internal.Feeding.{pair_after_batch, profiles_after_batch}
+use Rattle.sweep_core.specs.internal.Waiting.{AreWaiting}
+use Rattle.sweep_core.specs.internal.Waiting.{AreNoFiner, finest_bits, is_in_last_block}
+use Rattle.sweep_core.specs.internal.Waiting.{with_waiting}
 use Rattle.sweep_core.proofs.Lists.{Each-weaker, Each-map}
 use Rattle.sweep_core.proofs.Batching.{fed-append, waiting-more}
 

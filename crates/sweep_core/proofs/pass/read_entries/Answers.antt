@@ -7,8 +7,9 @@ use Rattle.trace_core.specs.Task.{entries_of}
 use Rattle.trace_core.proofs.WholeTraces.{holds-less, reads-end, reads-fault, reads-more}
 use Rattle.trace_core.proofs.WholeTraces.{reads-none}
 use Rattle.sweep_core.specs.internal.Pass.{profiles_after, pair_after_flush}
-use Rattle.sweep_core.specs.internal.Implied.{profiles_with_fronts, FedAtMost}
-use Rattle.sweep_core.specs.internal.Batches.{AreWaiting, AreNoFiner, profiles_after_batch}
+use Rattle.sweep_core.specs.internal.Feeding.{profiles_with_fronts, FedAtMost}
+use Rattle.sweep_core.specs.internal.Feeding.{profiles_after_batch}
+use Rattle.sweep_core.specs.internal.Waiting.{AreWaiting, AreNoFiner}
 use Rattle.sweep_core.proofs.Passes.{all_after-nil, fed-both, fed-more, fed-one}
 use Rattle.sweep_core.proofs.Catching.{fresh-few, caught-none, caught-flush}
 use Rattle.sweep_core.proofs.Catching.{few-flush}
@@ -27,7 +28,7 @@ loop-entry-init g c =
         ap (λ l. profiles_with_fronts c.args.fed.now (profiles_after_batch l xs)) c.requires.empty ∙
             ap (profiles_with_fronts c.args.fed.now) (fed-nil xs) ∙ caught,
         subst (λ l. AreWaiting c.args.fed.now l xs) (sym c.requires.empty)
-            (waiting-none c.args.fed.now [] xs xs c.requires.fresh c.requires.linked caught few),
+            (waiting-none c.args.fed.now [] xs xs c.requires.fresh c.requires.followers caught few),
         omega (arith, c.requires.none),
       ),
       omega (arith, ap (λ p. p.lines) c.requires.begun),
@@ -130,7 +131,7 @@ loop-entry-preserved g c =
             caught,
         subst (λ l. AreWaiting n l c.flush.new.profiles) (sym c.feed.ensures.none)
             (waiting-none n (flat_map (events_of c.args.kind) (es ++ c.in-Some.entry ∷ []))
-            c.args.profiles.now c.flush.new.profiles c.requires.fresh c.requires.linked caught few),
+            c.args.profiles.now c.flush.new.profiles c.requires.fresh c.requires.followers caught few),
         omega (arith, so_far.holds.2, length-append es (c.in-Some.entry ∷ [])),
       ),
       omega (arith, c.next.ensures.within, c.next.ensures.limited),

@@ -4,9 +4,9 @@ use Rattle.std.proofs.lemmas.List.{get_or-take, get_or-drop}
 use Rattle.profile_core.specs.internal.State.{ProfileState}
 use Rattle.profile_core.specs.internal.Fronts.{after_batch, fed_of_batch}
 use Rattle.sweep_core.specs.declared.profiles.PairProfile.{PairProfile}
-use Rattle.sweep_core.specs.internal.Batches.{pair_after_batch}
+use Rattle.sweep_core.specs.internal.Feeding.{pair_after_batch}
 use Rattle.sweep_core.proofs.BatchLoops.{set_neighbours}
-use Rattle.sweep_core.proofs.batch.feed_two.Goals as goal
+use Rattle.sweep_core.proofs.feeding.feed_two.Goals as goal
 
 abbrev with_state : PairProfile → ProfileState → PairProfile
 with_state x v = record x { profile = v }

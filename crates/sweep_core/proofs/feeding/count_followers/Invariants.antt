@@ -2,7 +2,7 @@
 use Rattle.std.proofs.Common.{◌≡◌, ◌<◌, ℕ, true, get_or}
 use Rattle.profile_core.specs.internal.Fronts.{is_refined}
 use Rattle.sweep_core.specs.declared.profiles.PairProfile.{PairProfile}
-use Rattle.sweep_core.proofs.profiles.implied_by.Given as goal
+use Rattle.sweep_core.proofs.feeding.count_followers.Given as goal
 
 abbrev pub invariant-loop-other : goal.invariant-loop-other
 invariant-loop-other l =

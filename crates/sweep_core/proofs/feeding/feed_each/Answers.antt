@@ -7,32 +7,32 @@ use Rattle.std.proofs.lemmas.List.{length-take, length-drop, get_or_default}
 use Rattle.sweep_core.specs.declared.profiles.PairProfile.{PairProfile}
 use Rattle.profile_core.specs.declared.profile.TheConstants.{MAX_REFERENCES}
 use Rattle.profile_core.specs.internal.State.{fed_of}
-use Rattle.sweep_core.proofs.BatchLoops.{Serves, implied-within, each_drop, each_take}
+use Rattle.sweep_core.proofs.BatchLoops.{Serves, followers-within, each_drop, each_take}
 use Rattle.sweep_core.proofs.BatchLoops.{serves_led, serves_all, of_equal, fed_both}
 use Rattle.sweep_core.proofs.BatchLoops.{unfed, IsFedUpTo, each_rest, next-within}
 use Rattle.sweep_core.proofs.BatchLoops.{given_serves, given_within, given_reaches}
 use Rattle.sweep_core.proofs.Lists.{Each-weaker}
-use Rattle.sweep_core.proofs.batch.feed_each.Goals as goal
-use Rattle.sweep_core.proofs.batch.feed_each.Goals.{
-  then-at-end+then-implied-later+then-not-is_followed,
+use Rattle.sweep_core.proofs.feeding.feed_each.Goals as goal
+use Rattle.sweep_core.proofs.feeding.feed_each.Goals.{
+  then-at-end+then-followers-later+then-not-next_leads_rest,
   else-at-end+then-at-until,
   else-at-end+else-at-until,
 }
 
 -- how many the profile at the index implies, whatever stands for one that is not there
-implied_is : (xs : List PairProfile) (at : ℕ) (d e : PairProfile) → at < length xs →
-    (get_or xs at d).implied ≡ (get_or xs at e).implied
-implied_is xs at d e lt = ap (λ y. y.implied) (get_or_default xs at d e lt)
+followers_is : (xs : List PairProfile) (at : ℕ) (d e : PairProfile) → at < length xs →
+    (get_or xs at d).followers ≡ (get_or xs at e).followers
+followers_is xs at d e lt = ap (λ y. y.followers) (get_or_default xs at d e lt)
 
 pub give-given-requires-clause-small : goal.give-given-requires-clause-small
 give-given-requires-clause-small c =
-    let within = implied-within c.loop-at.invariant.1 (omega arith) c.requires.led
+    let within = followers-within c.loop-at.invariant.1 (omega arith) c.requires.led
     c.index-profiles-at.result c.index-profiles-at.is in
     omega (arith, within)
 
 pub bounds-profiles-at-then-at-until : goal.bounds-profiles-at-then-at-until
 bounds-profiles-at-then-at-until c =
-    let within = implied-within c.loop-at.invariant.1 (omega arith) c.requires.led
+    let within = followers-within c.loop-at.invariant.1 (omega arith) c.requires.led
     c.index-profiles-at.result c.index-profiles-at.is in
     omega (
       arith,
@@ -44,7 +44,7 @@ bounds-profiles-at-then-at-until c =
 
 pub bounds-profiles-at-then-at-until-2 : goal.bounds-profiles-at-then-at-until-2
 bounds-profiles-at-then-at-until-2 c =
-    let within = implied-within c.loop-at.invariant.1 (omega arith) c.requires.led
+    let within = followers-within c.loop-at.invariant.1 (omega arith) c.requires.led
     c.index-profiles-at.result c.index-profiles-at.is in
     omega (
       arith,
@@ -56,7 +56,7 @@ bounds-profiles-at-then-at-until-2 c =
 
 pub overflow_add-at-then-at-until-3 : goal.overflow_add-at-then-at-until-3
 overflow_add-at-then-at-until-3 c =
-    let within = implied-within c.loop-at.invariant.1 (omega arith) c.requires.led
+    let within = followers-within c.loop-at.invariant.1 (omega arith) c.requires.led
     c.index-profiles-at.result c.index-profiles-at.is in
     let inside : c.loop-at.at + 1 < length c.args.profiles.now =
     omega (arith, within, given_within c.give-given.ensures, c.if-at-until.true) in
@@ -68,7 +68,7 @@ overflow_add-at-then-at-until-3 c =
 
 pub feed_two-led_count-requires-clause-within : goal.feed_two-led_count-requires-clause-within
 feed_two-led_count-requires-clause-within c =
-    let within = implied-within c.loop-at.invariant.1 (omega arith) c.requires.led
+    let within = followers-within c.loop-at.invariant.1 (omega arith) c.requires.led
     c.index-profiles-at.result c.index-profiles-at.is in
     omega (
       arith,
@@ -106,12 +106,12 @@ loop-at-preserved c =
           let t = fed.ensures.fed in
           let given = w.give-given.result.0 in
           let led = given_serves so_far w.give-given.ensures in
-          let within = implied-within so_far inside c.requires.led
+          let within = followers-within so_far inside c.requires.led
           c.index-profiles-at.result c.index-profiles-at.is in
           let until = given_within w.give-given.ensures in
           let ends : at + 1 < length old = omega (arith, within, until, w.if-at-until.true) in
           let there : at + 1 < length now = omega (arith, ends, c.loop-at.auto.profiles) in
-          let second = ap (λ y. y.implied) t.second_is ∙ implied_is now (at + 1) t.second
+          let second = ap (λ y. y.followers) t.second_is ∙ followers_is now (at + 1) t.second
           w.index-profiles-at-then-at-until.result there in (
             omega (arith, w.at-is, ends),
             subst (λ n. IsFedUpTo (n + 1) c.if-at-end.count c.if-at-end.led_count c.if-at-end.end
@@ -121,12 +121,12 @@ loop-at-preserved c =
                 (fed_both led ends c.requires.led fed.new.profiles (take fed.result
                 fed.new.addrs) t w.give-given.result.1
                 (min w.give-given.result.1 (at + 1 + 1 + (get_or now (at + 1)
-                w.index-profiles-at-then-at-until.result).implied))
+                w.index-profiles-at-then-at-until.result).followers))
                 (omega (arith, w.if-at-until.true)) (omega arith)
                 (omega (
                   arith,
                   until,
-                  implied_is now at t.first c.index-profiles-at.result here,
+                  followers_is now at t.first c.index-profiles-at.result here,
                 )) (omega (arith, w.if-at-until.true)) (omega arith) (omega (arith, second))
                 fed.new.addrs (drop given w.give-given.new.led) fed.result refl
                 fed.ensures.within (omega (arith, fed.ensures.length)))),
@@ -158,12 +158,12 @@ loop-at-preserved c =
                 (omega (
                   arith,
                   given_within w.give-given.ensures,
-                  implied_is now at d c.index-profiles-at.result here,
+                  followers_is now at d c.index-profiles-at.result here,
                 ))
                 served.1)),
           )
-      | then-at-end+then-implied-later+then-not-is_followed w ↦
-          let d = w.index-profiles-at-then-not-is_followed.result in
+      | then-at-end+then-followers-later+then-not-next_leads_rest w ↦
+          let d = w.index-profiles-at-then-not-next_leads_rest.result in
           let given = take c.loop-at.count c.loop-at.addrs in
           let fed = w.feed_batch-count in
           let rest = drop c.loop-at.count c.loop-at.addrs in
@@ -174,7 +174,7 @@ loop-at-preserved c =
                 batch c.if-at-end.addrs c.if-at-end.led old c.if-at-end.profiles) (sym w.at-is)
                 (of_equal w.count-is w.led_count-is w.end-is w.addrs-is w.led-is w.profiles-is
                 (serves_all so_far inside c.requires.led d
-                w.index-profiles-at-then-not-is_followed.is given served.0
+                w.index-profiles-at-then-not-next_leads_rest.is given served.0
                 fed.new.self
                 fed.ensures.step fed.new.addrs rest fed.result
                 fed.ensures.fed fed.ensures.within
@@ -182,9 +182,9 @@ loop-at-preserved c =
                 (omega (arith, w.if-at-end.true))
                 (omega (
                   arith,
-                  w.if-implied-later.true,
+                  w.if-followers-later.true,
                   c.loop-at.auto.profiles,
-                  implied_is now at d c.index-profiles-at.result here,
+                  followers_is now at d c.index-profiles-at.result here,
                 ))
                 (omega (
                   arith,

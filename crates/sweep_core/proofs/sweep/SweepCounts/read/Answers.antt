@@ -7,13 +7,13 @@ use Rattle.trace_core.specs.declared.state.ReaderState.{ReaderState}
 use Rattle.trace_core.proofs.Runs.{Reached-from}
 use Rattle.sweep_core.specs.internal.Pass.{SweepStandsFor}
 use Rattle.sweep_core.specs.Rows.{ReadsTo, events_read}
-use Rattle.sweep_core.specs.internal.Implied.{IsFresh, IsLinked}
+use Rattle.sweep_core.specs.internal.Feeding.{IsFresh, HaveFollowers}
 use Rattle.sweep_core.proofs.Catching.{fresh-sweep}
 use Rattle.sweep_core.proofs.Serving.{swept-serve}
 use Rattle.sweep_core.proofs.Sweeping.{swept-after, counted-is, counts-known, faultless-known}
-use Rattle.sweep_core.proofs.rows.SweepCounts.read.Given as given
-use Rattle.sweep_core.proofs.rows.SweepCounts.read.Goals as goal
-use Rattle.sweep_core.proofs.rows.SweepCounts.read.Goals.{After-read_trace}
+use Rattle.sweep_core.proofs.sweep.SweepCounts.read.Given as given
+use Rattle.sweep_core.proofs.sweep.SweepCounts.read.Goals as goal
+use Rattle.sweep_core.proofs.sweep.SweepCounts.read.Goals.{After-read_trace}
 
 -- the profiles are those of what was read
 swept : (g : given.Over) (c : After-read_trace g)
@@ -41,9 +41,9 @@ read_trace-requires-clause-fresh g c =
     (fresh-sweep c.args.request.now c.in_ok-profiles.profiles.items
     c.in_ok-profiles.ensures.stands.fed)
 
-pub read_trace-requires-clause-linked : goal.read_trace-requires-clause-linked
-read_trace-requires-clause-linked g c =
-    subst IsLinked (sym c.deref_mut.ensures.value) c.in_ok-profiles.ensures.linked
+pub read_trace-requires-clause-followers : goal.read_trace-requires-clause-followers
+read_trace-requires-clause-followers g c =
+    subst HaveFollowers (sym c.deref_mut.ensures.value) c.in_ok-profiles.ensures.followers
 
 pub invariant_of-result : goal.invariant_of-result
 invariant_of-result g c = swept-serve c.args.request.now _ _

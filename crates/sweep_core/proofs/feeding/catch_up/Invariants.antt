@@ -1,7 +1,7 @@
 -- The profiles so far were caught up.
 use Rattle.std.proofs.Common.{◌≡◌, ◌++◌, map, take, drop}
-use Rattle.sweep_core.specs.internal.Implied.{pair_with_fronts}
-use Rattle.sweep_core.proofs.pass.catch_up.Given as goal
+use Rattle.sweep_core.specs.internal.Feeding.{pair_with_fronts}
+use Rattle.sweep_core.proofs.feeding.catch_up.Given as goal
 
 abbrev pub invariant-loop-pair : goal.invariant-loop-pair
 invariant-loop-pair l = l.profiles ≡ map (pair_with_fronts l.fed)
