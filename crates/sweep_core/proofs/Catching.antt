@@ -1,22 +1,16 @@
 -- Profiles that are not fed what they find in front, and catch up.
-use Rattle.std.proofs.Common.{◌≡◌, ℕ, zero, suc, ◌+◌, ◌-◌, ◌<◌, ◌≤◌, Bool, true, false, not, cond}
-use Rattle.std.proofs.Common.{List, [], ◌∷◌, ◌++◌, map, take, drop, length, fold, get_or, refl, sym}
-use Rattle.std.proofs.Common.{ap, ◌∙◌, subst, arith}
+use Rattle.std.proofs.Common.{◌≡◌, ℕ, zero, suc, ◌+◌, ◌-◌, ◌≤◌, true, false, cond, List, [], ◌∷◌}
+use Rattle.std.proofs.Common.{map, take, fold, refl, sym, ap, ◌∙◌, subst, arith}
 use Rattle.std.specs.List.{AllByRecursion as Each}
-use Rattle.std.specs.Prelude.{flat_map}
-use Rattle.std.proofs.Math.ListN.{set}
-use Rattle.std.proofs.lemmas.List.{length-map, length-drop, get_or_read, take_at, take_all}
-use Rattle.std.proofs.lemmas.List.Sums.{position_or_len_is}
+use Rattle.std.proofs.lemmas.List.{length-map}
 use Rattle.trace_core.specs.declared.events.Ref.{Ref}
 use Rattle.trace_core.specs.declared.events.Event.{Event}
 use Rattle.trace_core.specs.declared.events.Event.TheVariants as event
 use Rattle.trace_core.specs.declared.events.Kind.{Kind}
 use Rattle.trace_core.specs.Events.{is_kept}
-use Rattle.cache_core.specs.Geometry.{GeometryValue, IsGeometry, block_of}
-use Rattle.cache_core.proofs.Lists.{cases}
+use Rattle.cache_core.specs.Geometry.{IsGeometry, block_of}
 use Rattle.profile_core.specs.internal.State.{empty, fed_of, after_event}
-use Rattle.profile_core.specs.internal.Fronts.{after_fronts}
-use Rattle.profile_core.specs.internal.Fronts.{profile_with_fronts, is_refined, IsFit}
+use Rattle.profile_core.specs.internal.Fronts.{after_fronts, profile_with_fronts, is_refined, IsFit}
 use Rattle.profile_core.specs.internal.Fronts.{Leads}
 use Rattle.profile_core.proofs.Fronts.{fronts_none, fit_of, fit_behind, leads_after, caught_more}
 use Rattle.profile_core.proofs.Fronts.{fed_more as profile-fed_more}
@@ -24,13 +18,10 @@ use Rattle.profile_core.proofs.Runs.{stands_after}
 use Rattle.sweep_core.specs.declared.profiles.PairProfile.{PairProfile}
 use Rattle.sweep_core.specs.declared.request.Request.{Request}
 use Rattle.sweep_core.specs.internal.Pass.{pair_after_reference, pair_after_flush, profiles_after}
-use Rattle.sweep_core.specs.internal.Pass.{kept_events, SweepStandsFor, WasFed}
-use Rattle.sweep_core.specs.internal.Feeding.{follower_count, with_followers, HaveFollowers, AreLed}
-use Rattle.sweep_core.specs.internal.Feeding.{IsFresh}
-use Rattle.sweep_core.specs.internal.Feeding.{pair_unless_front, pair_with_fronts}
-use Rattle.sweep_core.specs.internal.Feeding.{profiles_with_fronts, FedAtMost, AreBehind}
-use Rattle.sweep_core.specs.Work.{pair_of}
-use Rattle.sweep_core.specs.internal.Runs.{rows_of_profile}
+use Rattle.sweep_core.specs.internal.Pass.{kept_events, WasFed}
+use Rattle.sweep_core.specs.internal.Feeding.{HaveFollowers, AreLed, IsFresh, pair_unless_front}
+use Rattle.sweep_core.specs.internal.Feeding.{pair_with_fronts, profiles_with_fronts, FedAtMost}
+use Rattle.sweep_core.specs.internal.Feeding.{AreBehind}
 use Rattle.sweep_core.specs.SweepText.{configs_of}
 use Rattle.sweep_core.proofs.Passes.{all_after-nil}
 use Rattle.sweep_core.proofs.Sweeping.{empty-fed}

@@ -1,39 +1,22 @@
 -- The followers of each profile.
 use Rattle.std.proofs.Common.{◌≡◌, ℕ, zero, suc, ◌+◌, ◌-◌, ◌<◌, ◌≤◌, Bool, true, false, not, cond}
-use Rattle.std.proofs.Common.{List, [], ◌∷◌, ◌++◌, map, take, drop, length, fold, get_or, refl, sym}
-use Rattle.std.proofs.Common.{ap, ◌∙◌, subst, arith}
-use Rattle.std.specs.List.{AllByRecursion as Each}
+use Rattle.std.proofs.Common.{List, [], ◌∷◌, ◌++◌, map, take, drop, length, get_or, refl, sym, ap}
+use Rattle.std.proofs.Common.{◌∙◌, subst, arith}
 use Rattle.std.specs.Prelude.{flat_map}
+use Rattle.std.specs.List.{AllByRecursion as Each}
 use Rattle.std.proofs.Math.ListN.{set}
-use Rattle.std.proofs.lemmas.List.{length-map, length-drop, get_or_read, take_at, take_all}
+use Rattle.std.proofs.lemmas.List.{length-drop, get_or_read, take_at, take_all}
 use Rattle.std.proofs.lemmas.List.Sums.{position_or_len_is}
-use Rattle.trace_core.specs.declared.events.Ref.{Ref}
-use Rattle.trace_core.specs.declared.events.Event.{Event}
-use Rattle.trace_core.specs.declared.events.Event.TheVariants as event
-use Rattle.trace_core.specs.declared.events.Kind.{Kind}
-use Rattle.trace_core.specs.Events.{is_kept}
-use Rattle.cache_core.specs.Geometry.{GeometryValue, IsGeometry, block_of}
+use Rattle.cache_core.specs.Geometry.{GeometryValue}
 use Rattle.cache_core.proofs.Lists.{cases}
-use Rattle.profile_core.specs.internal.State.{empty, fed_of, after_event}
-use Rattle.profile_core.specs.internal.Fronts.{after_fronts}
-use Rattle.profile_core.specs.internal.Fronts.{profile_with_fronts, is_refined, IsFit}
-use Rattle.profile_core.specs.internal.Fronts.{Leads}
-use Rattle.profile_core.proofs.Fronts.{fronts_none, fit_of, fit_behind, leads_after, caught_more}
-use Rattle.profile_core.proofs.Fronts.{fed_more as profile-fed_more}
-use Rattle.profile_core.proofs.Runs.{stands_after}
+use Rattle.profile_core.specs.internal.Fronts.{is_refined}
 use Rattle.sweep_core.specs.declared.profiles.PairProfile.{PairProfile}
 use Rattle.sweep_core.specs.declared.request.Request.{Request}
-use Rattle.sweep_core.specs.internal.Pass.{pair_after_reference, pair_after_flush, profiles_after}
-use Rattle.sweep_core.specs.internal.Pass.{kept_events, SweepStandsFor, WasFed}
-use Rattle.sweep_core.specs.internal.Feeding.{follower_count, with_followers, HaveFollowers, AreLed}
-use Rattle.sweep_core.specs.internal.Feeding.{IsFresh}
-use Rattle.sweep_core.specs.internal.Feeding.{pair_unless_front, pair_with_fronts}
-use Rattle.sweep_core.specs.internal.Feeding.{profiles_with_fronts, FedAtMost, AreBehind}
+use Rattle.sweep_core.specs.internal.Pass.{SweepStandsFor, WasFed}
+use Rattle.sweep_core.specs.internal.Feeding.{follower_count, with_followers, HaveFollowers}
 use Rattle.sweep_core.specs.Work.{pair_of}
 use Rattle.sweep_core.specs.internal.Runs.{rows_of_profile}
 use Rattle.sweep_core.specs.SweepText.{configs_of}
-use Rattle.sweep_core.proofs.Passes.{all_after-nil}
-use Rattle.sweep_core.proofs.Sweeping.{empty-fed}
 
 refined-each : (g : GeometryValue) (xs : List PairProfile) →
     Each (λ y. is_refined g y.profile.geometry ≡ true)
@@ -68,8 +51,8 @@ followers-is g (x ∷ xs) i le first stop =
     (λ k lt. ap not (first k x lt)) (λ lt. ap not (stop x lt)))
 
 -- the first that does not refine it
-pub followers-at : (g : GeometryValue) (xs : List PairProfile) (i : ℕ) (x : PairProfile) (b : Bool) →
-    i < length xs
+pub followers-at : (g : GeometryValue) (xs : List PairProfile) (i : ℕ) (x : PairProfile)
+    (b : Bool) → i < length xs
     → ((k : ℕ) (d : PairProfile) → k < i → is_refined g (get_or xs k d).profile.geometry ≡ true)
     → x ≡ get_or xs i x → b ≡ is_refined g x.profile.geometry → b ≡ false → i ≡ follower_count g xs
 followers-at g xs i x b inside first is refines fails =
@@ -138,8 +121,8 @@ followers-next xs now i n d so_far inside is =
     ∙ followers-here xs i n d inside
     (is ∙ ap (λ (ys : List PairProfile). follower_count (get_or ys i d).profile.geometry
     (drop (i + 1) ys)) so_far
-    ∙ ap (λ k. follower_count (get_or all i d).profile.geometry (drop k all)) {x = i + 1} {y = suc i}
-    (omega arith))
+    ∙ ap (λ k. follower_count (get_or all i d).profile.geometry (drop k all)) {x = i + 1}
+    {y = suc i} (omega arith))
     ∙ ap (λ k. take k (with_followers xs) ++ drop k xs) {x = suc i} {y = i + 1} (omega arith)
 
 -- they change nothing else

@@ -17,9 +17,9 @@ pub mod Writing
 pub mod Sweeping
 pub mod Followers
 pub mod Catching
-pub mod Batching
-pub mod BatchLoops
-pub mod OneReference
+pub mod Waiting
+pub mod FeedingEach
+pub mod FeedingOne
 pub mod Repeated
 pub mod WorkLaws
 mod Examples

@@ -1,6 +1,6 @@
 -- Lists: what is true of each element, what is a member, what a filter keeps, the greatest number
 -- and sums.
-use Rattle.std.proofs.Common.{◌≡◌, ℕ, suc, zero, ◌+◌, ◌*◌, ◌<◌, ◌≤◌, max, Bool, true, false, cond}
+use Rattle.std.proofs.Common.{◌≡◌, ℕ, suc, zero, ◌+◌, ◌*◌, ◌<◌, ◌≤◌, max, Bool, true, false}
 use Rattle.std.proofs.Common.{List, [], ◌∷◌, ◌++◌, map, take, length, fold, get_or, refl, sym, ap}
 use Rattle.std.proofs.Common.{◌∙◌, inl, inr, arith, subst, mul-add}
 use Rattle.std.specs.Prelude.{◌⊎◌, filter, flat_map, Contains, sum_by}

@@ -10,6 +10,7 @@ use Rattle.trace_core.specs.declared.events.Event.{Event}
 use Rattle.cache_core.specs.declared.outcome.Counts.{Counts}
 use Rattle.cache_core.specs.Geometry.{geometry_value}
 use Rattle.cache_core.specs.Windows.{counts}
+use Rattle.cache_core.specs.Powers.{log2}
 use Rattle.profile_core.specs.internal.State.{ProfileState, hit_sums_at, counts_at}
 use Rattle.profile_core.proofs.Counting.{counts_are}
 use Rattle.sweep_core.specs.declared.space.Config.{Config}
@@ -19,16 +20,13 @@ use Rattle.sweep_core.specs.declared.rows.PairWalk.{PairWalk}
 use Rattle.sweep_core.specs.Space.{space_fault, most_ways, HasSize}
 use Rattle.sweep_core.specs.SweepText.{row_counts, configs_of, rows_of}
 use Rattle.sweep_core.specs.Rows.{counted_rows}
-use Rattle.cache_core.specs.Powers.{log2}
 use Rattle.sweep_core.specs.Work.{pair_of, depth}
-use Rattle.sweep_core.specs.internal.Runs.{run_of, rows_of_profile, counted_run}
-use Rattle.sweep_core.specs.internal.Runs.{counted_profiles, rows_by_pair, Serves, ServesRows}
-use Rattle.sweep_core.specs.internal.Runs.{IsWalk, rows_to_come}
+use Rattle.sweep_core.specs.internal.Runs.{run_of, rows_of_profile, counted_run, counted_profiles}
+use Rattle.sweep_core.specs.internal.Runs.{rows_by_pair, Serves, ServesRows, IsWalk, rows_to_come}
 use Rattle.sweep_core.specs.internal.Pass.{SweepStandsFor, WasFed}
 use Rattle.sweep_core.proofs.Lists.{Each-self, Each-both, Each-split, Each-append}
 use Rattle.sweep_core.proofs.Validity.{IsLimited, space-limited, valid_of, products}
 use Rattle.sweep_core.proofs.Depths.{depth-above}
-use Rattle.sweep_core.proofs.Ways.{next-more}
 use Rattle.sweep_core.proofs.Runs.{next, run-first, run-pair}
 use Rattle.sweep_core.proofs.Making.{Belongs, rows-belong, first-each}
 use Rattle.sweep_core.proofs.Standing.{stands, geometry-kept}
@@ -151,15 +149,16 @@ walk-start {powers = powers} {x = x} {w = w} rows same begun first all =
 -- the rows that it has are those of the profile
 pub walk-rows : (powers : Bool) (x : PairProfile) (w : PairWalk) → w.profile.now ≡ x.profile →
     w.next ≡ x.first → w.left ≡ x.row_count
-    → counted_run powers w.profile.now w.next w.left ≡ counted_run powers x.profile x.first x.row_count
+    → counted_run powers w.profile.now w.next w.left
+    ≡ counted_run powers x.profile x.first x.row_count
 walk-rows powers x w same first all =
     ap (λ v. counted_run powers v w.next w.left) same ∙
     ap (λ c. counted_run powers x.profile c w.left) first
     ∙ ap (counted_run powers x.profile x.first) all
 
 -- It goes on.
-pub walk-more : (powers : Bool) (w after : PairWalk) → 1 ≤ w.left → after.profile.now ≡ w.profile.now →
-    after.next ≡ next powers w.next → after.left ≡ w.left - 1
+pub walk-more : (powers : Bool) (w after : PairWalk) → 1 ≤ w.left →
+    after.profile.now ≡ w.profile.now → after.next ≡ next powers w.next → after.left ≡ w.left - 1
     → counted_run powers w.profile.now w.next w.left
     ≡ (w.next, counts_at w.profile.now w.next.assoc) ∷ counted_run powers after.profile.now
     after.next after.left

@@ -15,7 +15,7 @@ use std::marker::Model;
 pub(crate) const BATCH: usize = 4096;
 
 /// The addresses of references that wait to be fed: the first `len` of `addrs`. `led` has room for
-/// those of them that are passed to the followers of a profile only.
+/// those of them that are given to the followers of a profile only.
 #[derive(Drop)]
 pub(crate) struct Batch {
     addrs: Vec<u64>,

@@ -1,13 +1,14 @@
 //! Which profile decides for which, and how all of them are fed.
 //!
-//! Profiles are fed one after the other, in the order of the table. A reference that finds its block
-//! in front of a list changes no list, and it finds it in front too in each profile that refines
-//! this one: with the same block size and more sets, or, if this one has a single set, with larger
-//! blocks. So where a profile finds a block in front it decides for its followers, the profiles
-//! right behind it that refine it: they are passed only the other references, and the profiles
-//! behind them are passed all again. For the same reason a reference to the block of the one before
-//! it, at the smallest block size, is passed to none. No count changes, since each reference that a
-//! profile was not fed has distance 0 there, and the profile counts as many at the end.
+//! Profiles are fed one after the other, in the order of the table. A reference that finds its
+//! block in front of its set's list changes no list, and it does so too in each profile that
+//! refines this one: with the same block size and more sets, or, if this one has a single set, with
+//! larger blocks. So where a profile finds a block in front it decides for its followers, the
+//! profiles right behind it that refine it: they are given only the other references, and the
+//! profiles behind them are given all again. For the same reason a reference to the block of the
+//! one before it, at the smallest block size, is given to none. No count changes, since each
+//! reference that a profile was not fed has distance 0 there, and the profile counts as many at the
+//! end.
 ghost use Rattle.std.specs.Prelude.{◌≡◌, ◌+◌, ◌^◌, ◌<◌, ◌≤◌, ◌∷◌, [], length, take, drop};
 ghost use Rattle.std.specs.List.{AllByRecursion};
 ghost use Rattle.profile_core.specs.internal.State.{fed_of};
@@ -99,7 +100,7 @@ fn feed_at_once(profiles: &mut [PairProfile], addr: u64)
 }
 
 /// Feeds references to each profile, except those that find their block in front there. A reference
-/// that does so in one profile is not passed to its followers. So `addrs` has the references that
+/// that does so in one profile is not given to its followers. So `addrs` has the references that
 /// are left for all later profiles, and `led` those that are left for the profiles before `end`. If
 /// the next profile is before `end`, both are fed together. If all later profiles are followers of
 /// a profile, references are removed from `addrs` itself; but if they are followers of the next one

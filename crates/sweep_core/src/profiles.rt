@@ -20,7 +20,7 @@ pub(crate) struct PairProfile {
     pub(crate) first: Config,
     /// How many rows there are; each has the next associativity.
     pub(crate) row_count: u64,
-    /// How many of the next profiles find a block in front wherever this one does.
+    /// How many of the next profiles find a block in front wherever this one does: its followers.
     pub(crate) followers: usize,
     pub(crate) profile: Profile,
 }

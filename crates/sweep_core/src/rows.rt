@@ -4,10 +4,10 @@ ghost use Rattle.std.specs.List.{AllByRecursion};
 ghost use Rattle.profile_core.specs.internal.State.{counts_at, hit_sums_at};
 ghost use Rattle.sweep_core.specs.internal.Runs.{IsWalk, next_ways};
 
-pub use crate::sweep::SweepCounts;
-
+// Callers know it by this path too.
 use crate::profiles::PairProfile;
 use crate::space::{Config, Space};
+pub use crate::sweep::SweepCounts;
 use cache_core::Counts;
 use profile_core::Profile;
 use profile_core::profile::HitSums;

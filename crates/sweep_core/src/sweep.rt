@@ -36,7 +36,7 @@ pub type SweepFault = RunFault;
 /// those that must find their block in front there because they do in another one.
 ///
 /// It returns the number of comparisons of a block with an entry of a recency list. The number
-/// depends only on the trace and the space: it counts as if each profile looked for each
+/// depends only on the trace and the request: it counts as if each profile looked for each
 /// reference's block from the most recent entry on, which takes at most as many comparisons as the
 /// profile is deep. This is the cost of the stack algorithm, by which spaces can be compared. The
 /// sweep makes as many comparisons with such entries or fewer, though no contract says so: one look

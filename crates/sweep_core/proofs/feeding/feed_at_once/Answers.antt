@@ -1,7 +1,7 @@
--- The next profile is fed the reference, unless it finds its block in front: then those that it
--- implies do so too.
+-- The next profile is fed the reference, unless it finds its block in front: then its followers do
+-- so too.
 use Rattle.std.proofs.Common.{◌+◌, ◌≤◌, ◌∙◌, sym, arith, length, get_or}
-use Rattle.sweep_core.proofs.OneReference.{fed-next, skip-next, followers-within}
+use Rattle.sweep_core.proofs.FeedingOne.{fed-next, skip-next, followers-within}
 use Rattle.sweep_core.proofs.feeding.feed_at_once.Goals as goal
 
 pub overflow_add-next-then-feed_unless_front : goal.overflow_add-next-then-feed_unless_front

@@ -1,6 +1,6 @@
 -- The profiles so far were fed the reference, where they do not find its block in front.
 use Rattle.std.proofs.Common.{◌-◌, ◌≤◌, length}
-use Rattle.sweep_core.proofs.OneReference.{FedSoFar}
+use Rattle.sweep_core.proofs.FeedingOne.{FedSoFar}
 use Rattle.sweep_core.proofs.feeding.feed_at_once.Given as goal
 
 abbrev pub invariant-loop-next : goal.invariant-loop-next

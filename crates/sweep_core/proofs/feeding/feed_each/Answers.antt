@@ -1,16 +1,15 @@
 -- Each profile in turn is fed what serves for it, two together where the first leads the second.
-use Rattle.std.proofs.Common.{◌≡◌, ◌+◌, ◌<◌, ◌≤◌, ◌∙◌, sym, subst, ap, arith, length}
-use Rattle.std.proofs.Common.{get_or, take, drop, min, length-append, ℕ}
+use Rattle.std.proofs.Common.{◌≡◌, ◌+◌, ◌<◌, ◌≤◌, ◌∙◌, sym, subst, ap, arith, length, get_or, take}
+use Rattle.std.proofs.Common.{drop, min, length-append, ℕ, List, refl}
 use Rattle.std.specs.List.{AllByRecursion as Each}
-use Rattle.std.proofs.Common.{List, refl}
 use Rattle.std.proofs.lemmas.List.{length-take, length-drop, get_or_default}
-use Rattle.sweep_core.specs.declared.profiles.PairProfile.{PairProfile}
 use Rattle.profile_core.specs.declared.profile.TheConstants.{MAX_REFERENCES}
 use Rattle.profile_core.specs.internal.State.{fed_of}
-use Rattle.sweep_core.proofs.BatchLoops.{Serves, followers-within, each_drop, each_take}
-use Rattle.sweep_core.proofs.BatchLoops.{serves_led, serves_all, of_equal, fed_both}
-use Rattle.sweep_core.proofs.BatchLoops.{unfed, IsFedUpTo, each_rest, next-within}
-use Rattle.sweep_core.proofs.BatchLoops.{given_serves, given_within, given_reaches}
+use Rattle.sweep_core.specs.declared.profiles.PairProfile.{PairProfile}
+use Rattle.sweep_core.proofs.FeedingEach.{Serves, followers-within, each_drop, each_take}
+use Rattle.sweep_core.proofs.FeedingEach.{serves_led, serves_all, of_equal, fed_both, unfed}
+use Rattle.sweep_core.proofs.FeedingEach.{IsFedUpTo, each_rest, next-within, given_serves}
+use Rattle.sweep_core.proofs.FeedingEach.{given_within, given_reaches}
 use Rattle.sweep_core.proofs.Lists.{Each-weaker}
 use Rattle.sweep_core.proofs.feeding.feed_each.Goals as goal
 use Rattle.sweep_core.proofs.feeding.feed_each.Goals.{
@@ -19,7 +18,7 @@ use Rattle.sweep_core.proofs.feeding.feed_each.Goals.{
   else-at-end+else-at-until,
 }
 
--- how many the profile at the index implies, whatever stands for one that is not there
+-- how many followers the profile at the index has, whatever stands for one that is not there
 followers_is : (xs : List PairProfile) (at : ℕ) (d e : PairProfile) → at < length xs →
     (get_or xs at d).followers ≡ (get_or xs at e).followers
 followers_is xs at d e lt = ap (λ y. y.followers) (get_or_default xs at d e lt)

@@ -1,6 +1,6 @@
 -- The profiles so far were fed the batch.
 use Rattle.std.proofs.Common.{◌≤◌, ◌-◌, length}
-use Rattle.sweep_core.proofs.BatchLoops.{IsFedUpTo}
+use Rattle.sweep_core.proofs.FeedingEach.{IsFedUpTo}
 use Rattle.sweep_core.proofs.feeding.feed_each.Given as goal
 
 abbrev pub invariant-loop-at : goal.invariant-loop-at

@@ -5,7 +5,7 @@ use Rattle.profile_core.specs.internal.State.{ProfileState}
 use Rattle.profile_core.specs.internal.Fronts.{after_batch, fed_of_batch}
 use Rattle.sweep_core.specs.declared.profiles.PairProfile.{PairProfile}
 use Rattle.sweep_core.specs.internal.Feeding.{pair_after_batch}
-use Rattle.sweep_core.proofs.BatchLoops.{set_neighbours}
+use Rattle.sweep_core.proofs.FeedingEach.{set_neighbours}
 use Rattle.sweep_core.proofs.feeding.feed_two.Goals as goal
 
 abbrev with_state : PairProfile → ProfileState → PairProfile

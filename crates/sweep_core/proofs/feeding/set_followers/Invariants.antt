@@ -1,4 +1,4 @@
--- The profiles so far say how many their fronts imply.
+-- The profiles so far say how many followers they have.
 use Rattle.std.proofs.Common.{◌≡◌, ◌++◌, take, drop}
 use Rattle.sweep_core.specs.internal.Feeding.{with_followers}
 use Rattle.sweep_core.proofs.feeding.set_followers.Given as goal

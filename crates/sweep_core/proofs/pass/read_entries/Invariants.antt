@@ -6,8 +6,7 @@ use Rattle.trace_core.specs.Events.{events_of}
 use Rattle.trace_core.specs.declared.limits.TheConstants.{MAX_LINES}
 use Rattle.trace_core.proofs.WholeTraces.{Reads}
 use Rattle.sweep_core.specs.internal.Pass.{profiles_after}
-use Rattle.sweep_core.specs.internal.Feeding.{profiles_with_fronts}
-use Rattle.sweep_core.specs.internal.Feeding.{profiles_after_batch}
+use Rattle.sweep_core.specs.internal.Feeding.{profiles_with_fronts, profiles_after_batch}
 use Rattle.sweep_core.specs.internal.Waiting.{AreWaiting, AreNoFiner}
 use Rattle.sweep_core.proofs.pass.read_entries.Given as goal
 

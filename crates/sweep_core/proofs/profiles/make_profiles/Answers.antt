@@ -1,12 +1,12 @@
 -- A profile is made for the next pair, until no row is left.
 use Rattle.std.proofs.Common.{◌≡◌, ◌++◌, ◌∙◌, [], refl, sym, ap, subst, arith, take, drop, length}
+use Rattle.sweep_core.specs.Table.{first_rows}
+use Rattle.sweep_core.specs.internal.Feeding.{with_followers, HaveFollowers}
 use Rattle.sweep_core.proofs.Validity.{space-limited}
 use Rattle.sweep_core.proofs.Depths.{geometry-of}
 use Rattle.sweep_core.proofs.Runs.{begins-shorter}
 use Rattle.sweep_core.proofs.Making.{Making, new-fed, making-start, making-first, making-more}
 use Rattle.sweep_core.proofs.Making.{making-end}
-use Rattle.sweep_core.specs.Table.{first_rows}
-use Rattle.sweep_core.specs.internal.Feeding.{with_followers, HaveFollowers}
 use Rattle.sweep_core.proofs.Followers.{with_followers-items, with_followers-sweep}
 use Rattle.sweep_core.proofs.Followers.{with_followers-is}
 use Rattle.sweep_core.proofs.profiles.make_profiles.Goals as goal
@@ -38,12 +38,12 @@ loop-rows-preserved c =
     (space-limited r.space c.take_pair.ensures.limits)
     c.bits_of-in-Some.ensures c.bits_of.ensures c.in_ok-new_sparse.ensures))
 
--- what is made is linked
+-- what is made has its followers
 items : (c : After-set_followers) → take c.loop-rows.made.len (c.set_followers.new.profiles ++
     drop (length c.set_followers.new.profiles) c.loop-rows.made.items) ≡ with_followers
     c.loop-rows.made.items
-items c = with_followers-items c.loop-rows.made.items c.set_followers.new.profiles _ c.loop-rows.made.len
-    (omega (arith, c.loop-rows.made.ok))
+items c = with_followers-items c.loop-rows.made.items c.set_followers.new.profiles _
+    c.loop-rows.made.len (omega (arith, c.loop-rows.made.ok))
     (c.set_followers.ensures ∙ ap with_followers c.deref_mut.ensures.value)
 
 pub returns-clause-stands : goal.returns-clause-stands
@@ -54,5 +54,6 @@ returns-clause-stands c =
     (items (goal.at.returns-clause-stands c).After-set_followers)
 
 pub returns-clause-followers : goal.returns-clause-followers
-returns-clause-followers c = subst HaveFollowers (sym (items (goal.at.returns-clause-followers c).After-set_followers))
+returns-clause-followers c = subst HaveFollowers
+    (sym (items (goal.at.returns-clause-followers c).After-set_followers))
     (with_followers-is c.loop-rows.made.items)

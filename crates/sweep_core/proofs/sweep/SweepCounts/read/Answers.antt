@@ -1,8 +1,8 @@
 -- The profiles were fed what was read, and have counted it.
 use Rattle.std.proofs.Common.{◌≡◌, sym, subst, arith}
-use Rattle.std.proofs.lemmas.List.{take_at}
 use Rattle.std.specs.List.{AllByRecursion as Each}
 use Rattle.std.specs.Vec.{with_items}
+use Rattle.std.proofs.lemmas.List.{take_at}
 use Rattle.trace_core.specs.declared.state.ReaderState.{ReaderState}
 use Rattle.trace_core.proofs.Runs.{Reached-from}
 use Rattle.sweep_core.specs.internal.Pass.{SweepStandsFor}

@@ -1,7 +1,6 @@
 -- A reference that waits alone is fed to each profile as it is.
-use Rattle.std.proofs.Common.{◌≡◌, ℕ, zero, suc, ◌+◌, ◌<◌, ◌≤◌, true, cond}
-use Rattle.std.proofs.Common.{List, [], ◌∷◌, ◌++◌, map, take, drop, length, get_or, refl, sym}
-use Rattle.std.proofs.Common.{ap, ◌∙◌, arith}
+use Rattle.std.proofs.Common.{◌≡◌, ℕ, zero, suc, ◌+◌, ◌<◌, ◌≤◌, true, cond, List, [], ◌∷◌, ◌++◌}
+use Rattle.std.proofs.Common.{map, take, drop, length, get_or, refl, sym, ap, ◌∙◌, arith}
 use Rattle.std.specs.List.{AllByRecursion as Each}
 use Rattle.std.proofs.Math.ListN.{set}
 use Rattle.std.proofs.lemmas.List.Edits.{map_over_more}
@@ -9,11 +8,10 @@ use Rattle.cache_core.specs.Geometry.{block_of}
 use Rattle.profile_core.specs.internal.State.{ProfileState, after_reference}
 use Rattle.profile_core.specs.internal.Fronts.{after_unless_front, is_front_of}
 use Rattle.sweep_core.specs.declared.profiles.PairProfile.{PairProfile}
-use Rattle.sweep_core.specs.internal.Feeding.{pair_after_batch, AlwaysLeads}
-use Rattle.sweep_core.specs.internal.Feeding.{AreAlwaysLed}
+use Rattle.sweep_core.specs.internal.Feeding.{pair_after_batch, AlwaysLeads, AreAlwaysLed}
 use Rattle.sweep_core.proofs.Lists.{Each-weaker}
 use Rattle.sweep_core.proofs.Passes.{unreached}
-use Rattle.sweep_core.proofs.BatchLoops.{led-at}
+use Rattle.sweep_core.proofs.FeedingEach.{led-at}
 
 -- The profiles that are skipped stay.
 skip-first : (f : PairProfile → PairProfile) (m : ℕ) (xs : List PairProfile) →
@@ -62,7 +60,7 @@ module _ (addr i : ℕ) (old now : List PairProfile) (x : PairProfile)
       ap (λ y. set now i (after y)) (sym is)
       ∙ map_over_more after old now i x inside so_far is
 
-  -- and those that its front implies
+  -- and its followers
   module _ (led : AreAlwaysLed old) where
     pub followers-within : i + 1 + (get_or now i x).followers ≤ length old
     followers-within = omega (arith, (led-at old i x inside led).0, ap (λ y. y.followers) at-index)

@@ -1,25 +1,24 @@
 -- Each profile in turn is fed a batch.
-use Rattle.std.proofs.Common.{◌≡◌, ℕ, zero, suc, ◌+◌, ◌-◌, ◌<◌, ◌≤◌, List, [], ◌∷◌, ◌++◌, map}
-use Rattle.std.proofs.Common.{take, drop, length, get_or, refl, sym, ap, ◌∙◌, subst, arith}
-use Rattle.std.proofs.Math.ListN.{set}
+use Rattle.std.proofs.Common.{◌≡◌, ℕ, zero, suc, ◌+◌, ◌-◌, ◌<◌, ◌≤◌, List, [], ◌∷◌, ◌++◌, map, take}
+use Rattle.std.proofs.Common.{drop, length, get_or, refl, sym, ap, ◌∙◌, subst, arith, cond, true}
+use Rattle.std.proofs.Common.{false, inl, inr}
 use Rattle.std.specs.List.{AllByRecursion as Each}
-use Rattle.std.proofs.lemmas.List.{drop_more, take_all, length-drop, take-append-le}
+use Rattle.std.proofs.Math.ListN.{set}
+use Rattle.std.proofs.lemmas.List.{drop_more, take_all, length-drop, take-append-le, length-take}
+use Rattle.std.proofs.lemmas.List.{get_or-set_other, drop_at, length-map, length-take-le}
+use Rattle.std.proofs.lemmas.List.{get_or-drop}
 use Rattle.std.proofs.lemmas.List.Edits.{map_over_more}
+use Rattle.std.proofs.lemmas.Bool.{cases_lt}
+use Rattle.cache_core.specs.Geometry.{block_of}
 use Rattle.profile_core.specs.internal.State.{ProfileState}
-use Rattle.profile_core.specs.internal.Fronts.{after_batch, fed_of_batch}
+use Rattle.profile_core.specs.internal.Fronts.{after_batch, fed_of_batch, after_unless_front}
+use Rattle.profile_core.specs.internal.Fronts.{is_front_of}
 use Rattle.sweep_core.specs.declared.profiles.PairProfile.{PairProfile}
 use Rattle.sweep_core.specs.internal.Feeding.{pair_after_batch, AlwaysLeads, AreAlwaysLed}
 use Rattle.sweep_core.specs.internal.Feeding.{IsFedToTwo, IsGiven}
-use Rattle.std.proofs.lemmas.List.{length-take, get_or-set_other, drop_at, length-map}
-use Rattle.std.proofs.lemmas.List.{length-take-le, get_or-drop}
-use Rattle.cache_core.specs.Geometry.{block_of}
-use Rattle.profile_core.specs.internal.Fronts.{after_unless_front, is_front_of}
-use Rattle.std.proofs.Common.{cond, true, false}
-use Rattle.std.proofs.Common.{inl, inr}
-use Rattle.std.proofs.lemmas.Bool.{cases_lt}
 use Rattle.sweep_core.proofs.Lists.{Each-both, Each-take}
 use Rattle.sweep_core.proofs.Passes.{unreached}
-use Rattle.sweep_core.proofs.Batching.{fed-past}
+use Rattle.sweep_core.proofs.Waiting.{fed-past}
 
 -- to feed a profile some addresses is to feed it the batch
 abbrev pub Serves : List ℕ → List ℕ → PairProfile → Type 0
@@ -162,8 +161,9 @@ module _ {at count led_count end : ℕ} {batch addrs led : List ℕ} {old now : 
     }
 
 -- The references given to the profile at the index are also enough for the profiles up to `until`.
-pub given_serves : {at count led_count end followers given until : ℕ} {batch addrs led led' : List ℕ}
-    {old now : List PairProfile} → IsFedUpTo at count led_count end batch addrs led old now →
+pub given_serves : {at count led_count end followers given until : ℕ}
+    {batch addrs led led' : List ℕ} {old now : List PairProfile} →
+    IsFedUpTo at count led_count end batch addrs led old now →
     IsGiven at followers led_count end (take count addrs) led led' given until →
     IsFedUpTo at count given until batch addrs led' old now
 given_serves {at} {count} {led_count} {end} {followers} {given} {until} {batch} {addrs} {led} {led'}

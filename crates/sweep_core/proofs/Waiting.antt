@@ -1,7 +1,7 @@
 -- Profiles that are fed many references at a time.
-use Rattle.std.proofs.Common.{◌≡◌, ℕ, zero, suc, ◌+◌, ◌-◌, ◌≤◌, Bool, true, false, cond}
-use Rattle.std.proofs.Common.{List, [], ◌∷◌, ◌++◌, map, take, length, refl, sym}
-use Rattle.std.proofs.Common.{ap, ◌∙◌, subst, arith, length-append}
+use Rattle.std.proofs.Common.{◌≡◌, ℕ, zero, suc, ◌+◌, ◌-◌, ◌≤◌, Bool, true, false, cond, List, []}
+use Rattle.std.proofs.Common.{◌∷◌, ◌++◌, map, take, length, refl, sym, ap, ◌∙◌, subst, arith}
+use Rattle.std.proofs.Common.{length-append}
 use Rattle.std.specs.List.{AllByRecursion as Each}
 use Rattle.std.proofs.lemmas.List.{length-map}
 use Rattle.std.proofs.lemmas.List.Sums.{fold-append}
@@ -70,7 +70,7 @@ always-behind (a ∷ later) n es old xs fresh refined caught fed =
     (subst (AreBehind (n + 1 + length later)) (ap (profiles_after_batch later)
     (sym (fed-one a xs)) ∙ sym (fed-append (a ∷ []) later xs)) rest)
 
--- so those that its front implies are led by a profile
+-- so a profile leads its followers
 led-each : (x : PairProfile) (m : ℕ) (ys : List PairProfile)
     → ((addrs : List ℕ) → Each (λ y. Leads (after_batch x.profile addrs) y.profile)
     (take m (profiles_after_batch addrs ys)))
