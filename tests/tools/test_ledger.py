@@ -78,7 +78,7 @@ class TheLedger(ToolTest):
         self.copy()
         told = "there is no such function, record or definition"
         for file, old, new, name in (
-            ("src/pass.rt", r"fn catch_up\(", "fn catch_all_up(", "catch_up"),
+            ("src/feeding.rt", r"fn catch_up\(", "fn catch_all_up(", "catch_up"),
             ("src/space/configs.rt", r"fn next\(", "fn following(", "Configs::next"),
             ("specs/SweepText.antt", r"\bsweep_task :", "task_of_sweep :", "sweep_task"),
         ):
@@ -165,7 +165,7 @@ class TheLedger(ToolTest):
             ("crates/cache_core/src/geometry.rt", "/// ", "/// Not "),
             ("crates/cache_core/specs/Geometry.antt", "-- the size in", "-- no size in"),
             ("crates/cache_core/CALLING.md", "16 lines", "15 lines"),
-            ("crates/sweep_core/src/pass.rt", moved, r"\1\3\2"),
+            ("crates/sweep_core/src/feeding.rt", moved, r"\1\3\2"),
             ("crates/sweep_core/src/pass.rt", "fn feed_kept", "fn feed_those_kept"),
             (f"crates/{WORKED}", "fn ", "fn other_"), ("tests/limits", "# ", "# Some "),
             ("tests/cases/din.cases", "== din-lru", "== lru-of-din"),

@@ -1,22 +1,16 @@
 -- Profiles that are not fed what they find in front, and catch up.
-use Rattle.std.proofs.Common.{◌≡◌, ℕ, zero, suc, ◌+◌, ◌-◌, ◌<◌, ◌≤◌, Bool, true, false, not, cond}
-use Rattle.std.proofs.Common.{List, [], ◌∷◌, ◌++◌, map, take, drop, length, fold, get_or, refl, sym}
-use Rattle.std.proofs.Common.{ap, ◌∙◌, subst, arith}
+use Rattle.std.proofs.Common.{◌≡◌, ℕ, zero, suc, ◌+◌, ◌-◌, ◌≤◌, true, false, cond, List, [], ◌∷◌}
+use Rattle.std.proofs.Common.{map, take, fold, refl, sym, ap, ◌∙◌, subst, arith}
 use Rattle.std.specs.List.{AllByRecursion as Each}
-use Rattle.std.specs.Prelude.{flat_map}
-use Rattle.std.proofs.Math.ListN.{set}
-use Rattle.std.proofs.lemmas.List.{length-map, length-drop, get_or_read, take_at, take_all}
-use Rattle.std.proofs.lemmas.List.Sums.{position_or_len_is}
+use Rattle.std.proofs.lemmas.List.{length-map}
 use Rattle.trace_core.specs.declared.events.Ref.{Ref}
 use Rattle.trace_core.specs.declared.events.Event.{Event}
 use Rattle.trace_core.specs.declared.events.Event.TheVariants as event
 use Rattle.trace_core.specs.declared.events.Kind.{Kind}
 use Rattle.trace_core.specs.Events.{is_kept}
-use Rattle.cache_core.specs.Geometry.{GeometryValue, IsGeometry, block_of}
-use Rattle.cache_core.proofs.Lists.{cases}
+use Rattle.cache_core.specs.Geometry.{IsGeometry, block_of}
 use Rattle.profile_core.specs.internal.State.{empty, fed_of, after_event}
-use Rattle.profile_core.specs.internal.Fronts.{after_fronts}
-use Rattle.profile_core.specs.internal.Fronts.{profile_with_fronts, is_refined, IsFit}
+use Rattle.profile_core.specs.internal.Fronts.{after_fronts, profile_with_fronts, is_refined, IsFit}
 use Rattle.profile_core.specs.internal.Fronts.{Leads}
 use Rattle.profile_core.proofs.Fronts.{fronts_none, fit_of, fit_behind, leads_after, caught_more}
 use Rattle.profile_core.proofs.Fronts.{fed_more as profile-fed_more}
@@ -24,13 +18,10 @@ use Rattle.profile_core.proofs.Runs.{stands_after}
 use Rattle.sweep_core.specs.declared.profiles.PairProfile.{PairProfile}
 use Rattle.sweep_core.specs.declared.request.Request.{Request}
 use Rattle.sweep_core.specs.internal.Pass.{pair_after_reference, pair_after_flush, profiles_after}
-use Rattle.sweep_core.specs.internal.Pass.{kept_events, SweepStandsFor, WasFed}
-use Rattle.sweep_core.specs.internal.Implied.{implied_count, linked_profiles, IsLinked, AreLed}
-use Rattle.sweep_core.specs.internal.Implied.{IsFresh}
-use Rattle.sweep_core.specs.internal.Implied.{pair_unless_front, pair_with_fronts}
-use Rattle.sweep_core.specs.internal.Implied.{profiles_with_fronts, FedAtMost, AreBehind}
-use Rattle.sweep_core.specs.Work.{pair_of}
-use Rattle.sweep_core.specs.internal.Runs.{rows_of_profile}
+use Rattle.sweep_core.specs.internal.Pass.{kept_events, WasFed}
+use Rattle.sweep_core.specs.internal.Feeding.{HaveFollowers, AreLed, IsFresh, pair_unless_front}
+use Rattle.sweep_core.specs.internal.Feeding.{pair_with_fronts, profiles_with_fronts, FedAtMost}
+use Rattle.sweep_core.specs.internal.Feeding.{AreBehind}
 use Rattle.sweep_core.specs.SweepText.{configs_of}
 use Rattle.sweep_core.proofs.Passes.{all_after-nil}
 use Rattle.sweep_core.proofs.Sweeping.{empty-fed}
@@ -70,13 +61,13 @@ led-each es x (suc m) (y ∷ ys) one others refined =
     y.profile} (sym others.0.is) this in
     (both, led-each es x m ys one others.1 refined.1)
 
-led-after : (es : List Event) (xs : List PairProfile) → Each IsFresh xs → IsLinked xs →
+led-after : (es : List Event) (xs : List PairProfile) → Each IsFresh xs → HaveFollowers xs →
     AreLed (profiles_after es xs)
-led-after es [] fresh links = tt
-led-after es (x ∷ xs) fresh links = (
-  subst (λ (n : ℕ). x.implied ≤ n) (sym (length-map xs _)) links.0,
-  led-each es x x.implied xs fresh.0 fresh.1 links.1,
-  led-after es xs fresh.1 links.2,
+led-after es [] fresh refined = tt
+led-after es (x ∷ xs) fresh refined = (
+  subst (λ (n : ℕ). x.followers ≤ n) (sym (length-map xs _)) refined.0,
+  led-each es x x.followers xs fresh.0 fresh.1 refined.1,
+  led-after es xs fresh.1 refined.2,
 )
 
 fit-after : (es : List Event) (xs : List PairProfile) → Each IsFresh xs →
@@ -106,18 +97,18 @@ led-some n (suc m) x (y ∷ ys) h = (h.0, led-some n m x ys h.1)
 led-behind : (n : ℕ) (xs : List PairProfile) → AreLed (profiles_with_fronts n xs) → AreLed xs
 led-behind n [] h = tt
 led-behind n (x ∷ xs) h = (
-  subst (λ (k : ℕ). x.implied ≤ k) (length-map xs (pair_with_fronts n)) h.0,
-  led-some n x.implied x xs h.1,
+  subst (λ (k : ℕ). x.followers ≤ k) (length-map xs (pair_with_fronts n)) h.0,
+  led-some n x.followers x xs h.1,
   led-behind n xs h.2,
 )
 
 pub behind-after : (n : ℕ) (es : List Event) (old xs : List PairProfile) → Each IsFresh old →
-    IsLinked old → profiles_with_fronts n xs ≡ profiles_after es old
+    HaveFollowers old → profiles_with_fronts n xs ≡ profiles_after es old
     → FedAtMost n xs → AreBehind n xs
-behind-after n es old xs fresh links caught fed = record {
+behind-after n es old xs fresh refined caught fed = record {
   fed = fed;
   fit = fit-behind n xs (subst (Each (λ x. IsFit x.profile)) (sym caught) (fit-after es old fresh));
-  led = led-behind n xs (subst AreLed (sym caught) (led-after es old fresh links));
+  led = led-behind n xs (subst AreLed (sym caught) (led-after es old fresh refined));
 }
 
 -- one reference more
@@ -174,154 +165,6 @@ pub few-flush : (n : ℕ) (xs : List PairProfile) → FedAtMost n xs →
     FedAtMost n (map pair_after_flush xs)
 few-flush n [] h = tt
 few-flush n (x ∷ xs) h = (h.0, few-flush n xs h.1)
-
--- The links.
-refined-each : (g : GeometryValue) (xs : List PairProfile) →
-    Each (λ y. is_refined g y.profile.geometry ≡ true)
-    (take (implied_count g xs) (linked_profiles xs))
-unfolding linked_profiles
-refined-each g [] = tt
-refined-each g (x ∷ xs) =
-    cases (λ b. is_refined g x.profile.geometry ≡ b →
-    Each (λ y. is_refined g y.profile.geometry ≡ true)
-    (take (cond (not (not b)) (1 + implied_count g xs) 0) (linked_profiles (x ∷ xs))))
-    (is_refined g x.profile.geometry)
-    (λ t is. subst (λ n. Each (λ y. is_refined g y.profile.geometry ≡ true)
-    (take n (linked_profiles (x ∷ xs)))) {x = suc (implied_count g xs)}
-    {y = 1 + implied_count g xs} (omega arith) (is, refined-each g xs))
-    (λ f is. tt)
-    refl
-
-implied-most : (g : GeometryValue) (xs : List PairProfile) → implied_count g xs ≤ length xs
-implied-most g [] = omega arith
-implied-most g (x ∷ xs) =
-    cases (λ b. cond (not (not b)) (1 + implied_count g xs) 0 ≤ length (x ∷ xs))
-    (is_refined g x.profile.geometry)
-    (λ t. omega (arith, implied-most g xs)) (λ f. omega arith)
-
-pub implied-is : (g : GeometryValue) (xs : List PairProfile) (i : ℕ) → i ≤ length xs
-    → ((k : ℕ) (d : PairProfile) → k < i → is_refined g (get_or xs k d).profile.geometry ≡ true)
-    → ((d : PairProfile) → i < length xs → is_refined g (get_or xs i d).profile.geometry ≡ false) →
-    i ≡ implied_count g xs
-implied-is g [] i le first stop = omega (arith, le)
-implied-is g (x ∷ xs) i le first stop =
-    sym (position_or_len_is (λ y. not (is_refined g y.profile.geometry)) (x ∷ xs) i x le
-    (λ k lt. ap not (first k x lt)) (λ lt. ap not (stop x lt)))
-
--- the first that does not refine it
-pub implied-at : (g : GeometryValue) (xs : List PairProfile) (i : ℕ) (x : PairProfile) (b : Bool) →
-    i < length xs
-    → ((k : ℕ) (d : PairProfile) → k < i → is_refined g (get_or xs k d).profile.geometry ≡ true)
-    → x ≡ get_or xs i x → b ≡ is_refined g x.profile.geometry → b ≡ false → i ≡ implied_count g xs
-implied-at g xs i x b inside first is refines fails =
-    implied-is g xs i (omega (arith, inside)) first
-    (λ d lt. ap (λ y. is_refined g y.profile.geometry) (sym (get_or_read xs i x inside is d)) ∙
-    sym refines ∙ fails)
-
-length-linked_profiles : (xs : List PairProfile) → length (linked_profiles xs) ≡ length xs
-unfolding linked_profiles
-length-linked_profiles [] = refl
-length-linked_profiles (x ∷ xs) = ap suc (length-linked_profiles xs)
-
-pub linked_profiles-is : (xs : List PairProfile) → IsLinked (linked_profiles xs)
-unfolding linked_profiles
-linked_profiles-is [] = tt
-linked_profiles-is (x ∷ xs) = (
-  omega (arith, implied-most x.profile.geometry xs, length-linked_profiles xs),
-  refined-each x.profile.geometry xs,
-  linked_profiles-is xs,
-)
-
-link-here : (xs : List PairProfile) (i n : ℕ) (d : PairProfile) → i < length xs
-    → n ≡ implied_count (get_or (take i (linked_profiles xs) ++ drop i xs) i d).profile.geometry
-    (drop (suc i) (take i (linked_profiles xs) ++ drop i xs))
-    → set (take i (linked_profiles xs) ++ drop i xs) i
-    (record (get_or (take i (linked_profiles xs) ++ drop i xs) i d)
-    { implied = n }) ≡ take (suc i) (linked_profiles xs) ++ drop
-    (suc i) xs
-unfolding linked_profiles
-link-here [] i n d inside is = absurd (omega (arith, inside))
-link-here (x ∷ xs) zero n d inside is = ap (λ m. record x { implied = m } ∷ xs) is
-link-here (x ∷ xs) (suc i) n d inside is =
-    ap (λ l. record x { implied = implied_count x.profile.geometry xs } ∷ l)
-    (link-here xs i n d (omega (arith, inside)) is)
-
-pub linked_profiles-whole : (xs : List PairProfile) (i : ℕ) → length xs ≤ i →
-    take i (linked_profiles xs) ++ drop i xs ≡ linked_profiles xs
-unfolding linked_profiles
-linked_profiles-whole [] zero all = refl
-linked_profiles-whole [] (suc i) all = refl
-linked_profiles-whole (x ∷ xs) zero all = absurd (omega (arith, all))
-linked_profiles-whole (x ∷ xs) (suc i) all =
-    ap (λ l. record x { implied = implied_count x.profile.geometry xs } ∷ l)
-    (linked_profiles-whole xs i (omega (arith, all)))
-
--- what is counted over the rest of the profiles
-pub rest-implied : (now : List PairProfile) (i n : ℕ) (x d : PairProfile) → i < length now →
-    x ≡ get_or now i x
-    → n ≡ implied_count (get_or now i x).profile.geometry
-    (take (length now - (i + 1)) (drop (i + 1) now))
-    → n ≡ implied_count (get_or now i d).profile.geometry (drop (i + 1) now)
-rest-implied now i n x d inside read is =
-    is ∙ ap (implied_count (get_or now i x).profile.geometry) (take_all (length now - (i + 1))
-    (drop (i + 1) now) (omega (arith, length-drop (i + 1) now)))
-    ∙ ap (λ y. implied_count y.profile.geometry (drop (i + 1) now)) (sym read ∙
-    get_or_read now i x inside read d)
-
-pub link-next : (xs now : List PairProfile) (i n : ℕ) (d : PairProfile) →
-    now ≡ take i (linked_profiles xs) ++ drop i xs → i < length xs
-    → n ≡ implied_count (get_or now i d).profile.geometry (drop (i + 1) now)
-    → set now i (record (get_or now i d) { implied = n }) ≡ take (i + 1) (linked_profiles xs) ++
-    drop (i + 1) xs
-link-next xs now i n d so_far inside is =
-    let all = take i (linked_profiles xs) ++ drop i xs in
-    ap (λ (ys : List PairProfile). set ys i (record (get_or ys i d) { implied = n })) so_far
-    ∙ link-here xs i n d inside
-    (is ∙ ap (λ (ys : List PairProfile). implied_count (get_or ys i d).profile.geometry
-    (drop (i + 1) ys)) so_far
-    ∙ ap (λ k. implied_count (get_or all i d).profile.geometry (drop k all)) {x = i + 1} {y = suc i}
-    (omega arith))
-    ∙ ap (λ k. take k (linked_profiles xs) ++ drop k xs) {x = suc i} {y = i + 1} (omega arith)
-
--- they change nothing else
-linked_profiles-stands : (r : Request) (xs : List PairProfile) → SweepStandsFor r [] xs →
-    SweepStandsFor r [] (linked_profiles xs)
-unfolding linked_profiles
-linked_profiles-stands r xs h = record {
-  space = h.space;
-  pairs = pairs-kept xs ∙ h.pairs;
-  rows = rows-kept xs ∙ h.rows;
-  fed = fed-kept xs h.fed;
-}
-  where
-    pairs-kept : (ys : List PairProfile) → map (λ x. pair_of x.first) (linked_profiles ys) ≡ map
-        (λ x. pair_of x.first) ys
-    pairs-kept [] = refl
-    pairs-kept (y ∷ ys) = ap (λ l. pair_of y.first ∷ l) (pairs-kept ys)
-
-    rows-kept : (ys : List PairProfile) → flat_map (rows_of_profile r.space.powers)
-        (linked_profiles ys) ≡ flat_map (rows_of_profile r.space.powers) ys
-    rows-kept [] = refl
-    rows-kept (y ∷ ys) = ap (λ l. rows_of_profile r.space.powers y ++ l) (rows-kept ys)
-
-    fed-kept : (ys : List PairProfile) → Each (WasFed (configs_of r) []) ys →
-        Each (WasFed (configs_of r) []) (linked_profiles ys)
-    fed-kept [] h = tt
-    fed-kept (y ∷ ys) h = (
-      record { some = h.0.some; sound = h.0.sound; is = h.0.is },
-      fed-kept ys h.1,
-    )
-
-pub linked_profiles-items : (made now rest : List PairProfile) (n : ℕ) → n ≡ length made →
-    now ≡ linked_profiles made → take n (now ++ rest) ≡ linked_profiles made
-linked_profiles-items made now rest n len is =
-    take_at now rest n (ap length is ∙ length-linked_profiles made ∙
-    sym len) ∙ is
-
-pub linked_profiles-sweep : (r : Request) (made now : List PairProfile) → SweepStandsFor r [] made →
-    now ≡ linked_profiles made → SweepStandsFor r [] now
-linked_profiles-sweep r made now stands is = subst (SweepStandsFor r []) (sym is)
-    (linked_profiles-stands r made stands)
 
 pub fresh-sweep : (r : Request) (xs : List PairProfile) → Each (WasFed (configs_of r) []) xs →
     Each IsFresh xs

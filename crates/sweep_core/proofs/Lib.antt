@@ -15,10 +15,11 @@ pub mod Making
 pub mod Serving
 pub mod Writing
 pub mod Sweeping
+pub mod Followers
 pub mod Catching
-pub mod Batching
-pub mod BatchLoops
-pub mod OneReference
+pub mod Waiting
+pub mod FeedingEach
+pub mod FeedingOne
 pub mod Repeated
 pub mod WorkLaws
 mod Examples

@@ -1,6 +1,6 @@
 -- Lists: what is true of each element, what is a member, what a filter keeps, the greatest number
 -- and sums.
-use Rattle.std.proofs.Common.{◌≡◌, ℕ, suc, zero, ◌+◌, ◌*◌, ◌<◌, ◌≤◌, max, Bool, true, false, cond}
+use Rattle.std.proofs.Common.{◌≡◌, ℕ, suc, zero, ◌+◌, ◌*◌, ◌<◌, ◌≤◌, max, Bool, true, false}
 use Rattle.std.proofs.Common.{List, [], ◌∷◌, ◌++◌, map, take, length, fold, get_or, refl, sym, ap}
 use Rattle.std.proofs.Common.{◌∙◌, inl, inr, arith, subst, mul-add}
 use Rattle.std.specs.Prelude.{◌⊎◌, filter, flat_map, Contains, sum_by}
@@ -163,11 +163,6 @@ pub filter-all : {A : Type 0} (p : A → Bool) (xs : List A) → Each (λ x. p x
     filter p xs ≡ xs
 filter-all p [] h = refl
 filter-all p (x ∷ xs) h = cond-true _ _ _ h.0 ∙ ap (λ l. x ∷ l) (filter-all p xs h.1)
-
-pub filter-agree : {A : Type 0} (p q : A → Bool) (xs : List A) → Each (λ x. p x ≡ q x) xs →
-    filter p xs ≡ filter q xs
-filter-agree p q [] h = refl
-filter-agree p q (x ∷ xs) h = rw h.0 (ap (λ l. cond (q x) (x ∷ l) l) (filter-agree p q xs h.1))
 
 pub filter-none : {A B : Type 0} (p : A → Bool) (f : B → A) → ((x : B) → p (f x) ≡ false) →
     (xs : List B) → filter p (map f xs) ≡ []

@@ -70,7 +70,7 @@ pub making-start : (r : Request) → Making r [] (rows_of r)
 making-start r = record { pairs = refl; rows = refl; fed = tt; belong = rows-belong r }
 
 -- a new profile of a pair, as deep as the pair
-pub new-fed : (r : Request) (x : PairProfile) {depth s b : ℕ} → 1 ≤ x.rows →
+pub new-fed : (r : Request) (x : PairProfile) {depth s b : ℕ} → 1 ≤ x.row_count →
     HasDepth r.space x.first depth → is_after r.after x.first ≡ true → IsLimited r.space
     → s ≡ log2 x.first.sets → b ≡ log2 x.first.bsize →
     x.profile ≡ empty (geometry_value s depth b) → WasFed (configs_of r) [] x
@@ -95,7 +95,7 @@ module _ (r : Request) {made : List PairProfile} {left later : List Config} {run
   making-first = (subst (Each (Belongs r)) whole m.belong).0
 
   -- the next pair, with its profile
-  pub making-more : (x : PairProfile) → x.first ≡ run.0 → x.rows ≡ run.1 →
+  pub making-more : (x : PairProfile) → x.first ≡ run.0 → x.row_count ≡ run.1 →
       WasFed (configs_of r) [] x → Making r (made ++ x ∷ []) later
   making-more x first rows fed =
       let pair : PairProfile → ℕ × ℕ = λ y. pair_of y.first in

@@ -1,7 +1,7 @@
 -- A reference to the block of the one before finds it in front in each profile.
-use Rattle.std.proofs.Common.{◌≡◌, ℕ, ◌+◌, ◌-◌, ◌<◌, ◌≤◌, ◌/◌, ◌^◌, Bool, true, false, cond}
-use Rattle.std.proofs.Common.{List, [], ◌∷◌, ◌++◌, map, take, length, get_or, fold, refl, sym}
-use Rattle.std.proofs.Common.{ap, ◌∙◌, arith}
+use Rattle.std.proofs.Common.{◌≡◌, ℕ, ◌+◌, ◌-◌, ◌<◌, ◌≤◌, ◌/◌, ◌^◌, Bool, true, false, cond, List}
+use Rattle.std.proofs.Common.{[], ◌∷◌, ◌++◌, map, take, length, get_or, fold, refl, sym, ap, ◌∙◌}
+use Rattle.std.proofs.Common.{arith}
 use Rattle.std.specs.Prelude.{min}
 use Rattle.std.specs.List.{AllByRecursion as Each}
 use Rattle.std.proofs.Math.Nat.{div-div-eq-div-mul}
@@ -15,11 +15,11 @@ use Rattle.profile_core.specs.internal.Fronts.{after_unless_front, is_front_of, 
 use Rattle.profile_core.proofs.Fronts.{front_again}
 use Rattle.sweep_core.specs.declared.profiles.PairProfile.{PairProfile}
 use Rattle.sweep_core.specs.internal.Pass.{pair_after_flush}
-use Rattle.sweep_core.specs.internal.Batches.{pair_after_batch, profiles_after_batch, AreWaiting}
-use Rattle.sweep_core.specs.internal.Batches.{AreNoFiner, finest_bits, is_in_last_block}
-use Rattle.sweep_core.specs.internal.Batches.{with_waiting}
+use Rattle.sweep_core.specs.internal.Feeding.{pair_after_batch, profiles_after_batch}
+use Rattle.sweep_core.specs.internal.Waiting.{AreWaiting, AreNoFiner, finest_bits, is_in_last_block}
+use Rattle.sweep_core.specs.internal.Waiting.{with_waiting}
 use Rattle.sweep_core.proofs.Lists.{Each-weaker, Each-map}
-use Rattle.sweep_core.proofs.Batching.{fed-append, waiting-more}
+use Rattle.sweep_core.proofs.Waiting.{fed-append, waiting-more}
 
 -- the smallest block of some profiles is no larger than that of each
 finest-most : (bits : ℕ) (xs : List PairProfile) →

@@ -16,10 +16,6 @@ use Rattle.sweep_core.proofs.Lists.{Each-take}
 abbrev pub next : Bool → Config → Config
 next powers c = record c { assoc = next_ways powers c.assoc }
 
--- the configuration of the pair with another associativity
-abbrev pub of_ways : Config → ℕ → Config
-of_ways c n = record c { assoc = n }
-
 length-run : (powers : Bool) (c : Config) (n : ℕ) → length (run_of powers c n) ≡ n
 length-run powers c zero = refl
 length-run powers c (suc n) = omega (arith, length-run powers (next powers c) n)

@@ -10,6 +10,7 @@ use Rattle.trace_core.specs.declared.events.Event.{Event}
 use Rattle.cache_core.specs.declared.outcome.Counts.{Counts}
 use Rattle.cache_core.specs.Geometry.{geometry_value}
 use Rattle.cache_core.specs.Windows.{counts}
+use Rattle.cache_core.specs.Powers.{log2}
 use Rattle.profile_core.specs.internal.State.{ProfileState, hit_sums_at, counts_at}
 use Rattle.profile_core.proofs.Counting.{counts_are}
 use Rattle.sweep_core.specs.declared.space.Config.{Config}
@@ -19,16 +20,13 @@ use Rattle.sweep_core.specs.declared.rows.PairWalk.{PairWalk}
 use Rattle.sweep_core.specs.Space.{space_fault, most_ways, HasSize}
 use Rattle.sweep_core.specs.SweepText.{row_counts, configs_of, rows_of}
 use Rattle.sweep_core.specs.Rows.{counted_rows}
-use Rattle.cache_core.specs.Powers.{log2}
 use Rattle.sweep_core.specs.Work.{pair_of, depth}
-use Rattle.sweep_core.specs.internal.Runs.{run_of, rows_of_profile, counted_run}
-use Rattle.sweep_core.specs.internal.Runs.{counted_profiles, rows_by_pair, Serves, ServesRows}
-use Rattle.sweep_core.specs.internal.Runs.{IsWalk, rows_to_come}
+use Rattle.sweep_core.specs.internal.Runs.{run_of, rows_of_profile, counted_run, counted_profiles}
+use Rattle.sweep_core.specs.internal.Runs.{rows_by_pair, Serves, ServesRows, IsWalk, rows_to_come}
 use Rattle.sweep_core.specs.internal.Pass.{SweepStandsFor, WasFed}
 use Rattle.sweep_core.proofs.Lists.{Each-self, Each-both, Each-split, Each-append}
 use Rattle.sweep_core.proofs.Validity.{IsLimited, space-limited, valid_of, products}
 use Rattle.sweep_core.proofs.Depths.{depth-above}
-use Rattle.sweep_core.proofs.Ways.{next-more}
 use Rattle.sweep_core.proofs.Runs.{next, run-first, run-pair}
 use Rattle.sweep_core.proofs.Making.{Belongs, rows-belong, first-each}
 use Rattle.sweep_core.proofs.Standing.{stands, geometry-kept}
@@ -76,7 +74,7 @@ module _ (r : Request) (es : List Event) where
               few = s.few;
               fits = s.fits;
             })
-            (rows_of_profile r.space.powers x) sized (run-pair r.space.powers x.first x.rows);
+            (rows_of_profile r.space.powers x) sized (run-pair r.space.powers x.first x.row_count);
       }
 
   -- its counts of a row are those of a separate cache
@@ -120,7 +118,7 @@ module _ (r : Request) (es : List Event) where
   all-counted [] fed serve = refl
   all-counted (x ∷ xs) fed serve =
       ap₂ (λ l k. l ++ k) (counted-each x fed.0 (rows_of_profile r.space.powers x) serve.0.rows
-      (run-pair r.space.powers x.first x.rows))
+      (run-pair r.space.powers x.first x.row_count))
       (all-counted xs fed.1 serve.1)
       ∙ sym (map-append (λ c. (c, row_counts es c)) (rows_of_profile r.space.powers x)
       (flat_map (rows_of_profile r.space.powers) xs))
@@ -134,7 +132,7 @@ module _ (r : Request) (es : List Event) where
 -- A walk over the rows of a pair begins.
 pub walk-start : {powers : Bool} {x : PairProfile} {w : PairWalk} → ServesRows powers x →
     w.profile.now ≡ x.profile
-    → w.sums ≡ hit_sums_at x.profile 0 → w.next ≡ x.first → w.left ≡ x.rows → IsWalk powers w
+    → w.sums ≡ hit_sums_at x.profile 0 → w.next ≡ x.first → w.left ≡ x.row_count → IsWalk powers w
 walk-start {powers = powers} {x = x} {w = w} rows same begun first all =
     let none : w.sums.ways ≡ 0 = ap (λ t. t.ways) begun in
     record {
@@ -150,59 +148,27 @@ walk-start {powers = powers} {x = x} {w = w} rows same begun first all =
 
 -- the rows that it has are those of the profile
 pub walk-rows : (powers : Bool) (x : PairProfile) (w : PairWalk) → w.profile.now ≡ x.profile →
-    w.next ≡ x.first → w.left ≡ x.rows
-    → counted_run powers w.profile.now w.next w.left ≡ counted_run powers x.profile x.first x.rows
+    w.next ≡ x.first → w.left ≡ x.row_count
+    → counted_run powers w.profile.now w.next w.left
+    ≡ counted_run powers x.profile x.first x.row_count
 walk-rows powers x w same first all =
     ap (λ v. counted_run powers v w.next w.left) same ∙
     ap (λ c. counted_run powers x.profile c w.left) first
     ∙ ap (counted_run powers x.profile x.first) all
 
 -- It goes on.
-module _ {powers : Bool} {w : PairWalk} (is_walk : IsWalk powers w) (some : 1 ≤ w.left) where
-  first-and-rest : Each (Serves w.profile.now) (w.next ∷ run_of powers (next powers w.next)
-      (w.left - 1))
-  first-and-rest =
-      subst (Each (Serves w.profile.now)) (run-first powers w.next w.left (w.left - 1)
-      (omega (arith, some))) is_walk.serves
-
-  pub walk-first : Serves w.profile.now w.next
-  walk-first = first-and-rest.0
-
-  -- after the next row
-  pub walk-next : {after : PairWalk} → after.profile.now ≡ w.profile.now →
-      after.sums ≡ hit_sums_at w.profile.now w.next.assoc
-      → after.next ≡ next powers w.next → after.left ≡ w.left - 1 → IsWalk powers after
-  walk-next {after = after} same added is one =
-      let ways : after.sums.ways ≡ w.next.assoc = ap (λ t. t.ways) added in
-      record {
-        summed = added ∙ ap (hit_sums_at w.profile.now) (sym ways) ∙
-            ap (λ v. hit_sums_at v after.sums.ways) (sym same);
-        rising = omega (
-          arith,
-          ways,
-          ap (λ c. c.assoc) is,
-          next-more powers w.next.assoc walk-first.some,
-        );
-        serves = subst (λ (v : ProfileState). Each (Serves v) (run_of powers after.next after.left))
-            (sym same)
-            (subst (λ (c : Config). Each (Serves w.profile.now) (run_of powers c after.left))
-            (sym is)
-            (subst (λ (n : ℕ). Each (Serves w.profile.now) (run_of powers (next powers w.next) n))
-            (sym one) first-and-rest.1));
-      }
-
-  pub walk-more : (after : PairWalk) → after.profile.now ≡ w.profile.now →
-      after.next ≡ next powers w.next → after.left ≡ w.left - 1
-      → counted_run powers w.profile.now w.next w.left
-      ≡ (w.next, counts_at w.profile.now w.next.assoc) ∷ counted_run powers after.profile.now
-      after.next after.left
-  walk-more after same is one =
-      ap (map (λ d. (d, counts_at w.profile.now d.assoc))) (run-first powers w.next w.left
-      (w.left - 1) (omega (arith, some)))
-      ∙ ap (λ l. (w.next, counts_at w.profile.now w.next.assoc) ∷ l)
-      (ap (λ v. counted_run powers v (next powers w.next) (w.left - 1)) (sym same)
-      ∙ ap (λ c. counted_run powers after.profile.now c (w.left - 1)) (sym is)
-      ∙ ap (counted_run powers after.profile.now after.next) (sym one))
+pub walk-more : (powers : Bool) (w after : PairWalk) → 1 ≤ w.left →
+    after.profile.now ≡ w.profile.now → after.next ≡ next powers w.next → after.left ≡ w.left - 1
+    → counted_run powers w.profile.now w.next w.left
+    ≡ (w.next, counts_at w.profile.now w.next.assoc) ∷ counted_run powers after.profile.now
+    after.next after.left
+walk-more powers w after some same is one =
+    ap (map (λ d. (d, counts_at w.profile.now d.assoc))) (run-first powers w.next w.left
+    (w.left - 1) (omega (arith, some)))
+    ∙ ap (λ l. (w.next, counts_at w.profile.now w.next.assoc) ∷ l)
+    (ap (λ v. counted_run powers v (next powers w.next) (w.left - 1)) (sym same)
+    ∙ ap (λ c. counted_run powers after.profile.now c (w.left - 1)) (sym is)
+    ∙ ap (counted_run powers after.profile.now after.next) (sym one))
 
 -- The next row of a walk comes first of all that are left, where the walk stays as long as it has a
 -- row.
@@ -238,7 +204,7 @@ pub all-sizes : (powers : Bool) (xs : List PairProfile) → Each (ServesRows pow
     → Each (λ (row : Config × Counts). HasSize row.0) (counted_profiles powers xs)
 all-sizes powers [] serve = tt
 all-sizes powers (x ∷ xs) serve =
-    Each-append _ (counted_run powers x.profile x.first x.rows) (counted_profiles powers xs)
+    Each-append _ (counted_run powers x.profile x.first x.row_count) (counted_profiles powers xs)
     (run-sizes x.profile (rows_of_profile powers x) serve.0.rows) (all-sizes powers xs serve.1)
 
 -- so do those by pairs, which are the same rows
@@ -253,5 +219,5 @@ pairs-sizes powers (x ∷ xs) serve = (
 pub pairs-rows : (powers : Bool) (xs : List PairProfile) →
     flat_map (λ rows. rows) (rows_by_pair powers xs) ≡ counted_profiles powers xs
 pairs-rows powers [] = refl
-pairs-rows powers (x ∷ xs) = ap (λ l. counted_run powers x.profile x.first x.rows ++ l)
+pairs-rows powers (x ∷ xs) = ap (λ l. counted_run powers x.profile x.first x.row_count ++ l)
     (pairs-rows powers xs)

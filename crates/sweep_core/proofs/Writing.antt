@@ -82,9 +82,3 @@ module _ {rows left : List (Config × Counts)} (pair rest : List (Config × Coun
       ∙ ap (λ l. csv_rows w.front ++ l) (csv-append pair rest) ∙
       sym (append_assoc (csv_rows w.front) (csv_rows pair) (csv_rows rest))))
       (WrotePart-more (csv_rows rest) (WrotePart-after w.wrote part))
-
-pub rows-written : {rows left : List (Config × Counts)} {a b : SinkView} →
-    WroteBefore rows a b left → left ≡ [] → Wrote a b (csv_rows rows)
-rows-written {a = a} {b = b} w none =
-    subst (λ l. Wrote a b (csv_rows l)) (sym (w.whole ∙ ap (λ l. w.front ++ l) none ∙
-    append-nil w.front)) w.wrote

@@ -1,5 +1,5 @@
 pub mod Walk
 pub mod Runs
 pub mod Pass
-pub mod Implied
-pub mod Batches
+pub mod Feeding
+pub mod Waiting

@@ -2,6 +2,7 @@
 #![tactic(auto)]
 
 mod batch;
+mod feeding;
 pub mod laws;
 mod pass;
 mod profiles;
@@ -13,7 +14,7 @@ pub mod sweep;
 mod table;
 
 pub use request::Request;
-pub use rows::{Rows, SweepCounts};
+pub use rows::Rows;
 pub use space::configs::Configs;
 pub use space::{Cause, Config, Space, SpaceFault, Which};
-pub use sweep::SweepFault;
+pub use sweep::{SweepCounts, SweepFault};

@@ -4,12 +4,12 @@ ghost use Rattle.std.specs.List.{AllByRecursion};
 ghost use Rattle.trace_core.specs.Reader.{new_progress};
 ghost use Rattle.sweep_core.specs.internal.Pass.{pair_after_flush};
 ghost use Rattle.sweep_core.specs.internal.Pass.{kept_events, profiles_after, state_after, Feeds};
-ghost use Rattle.sweep_core.specs.internal.Implied.{IsLinked, IsFresh};
-ghost use Rattle.sweep_core.specs.internal.Implied.{FedAtMost, profiles_with_fronts};
-ghost use Rattle.sweep_core.specs.internal.Batches.{AreWaiting, AreNoFiner, finest_bits};
-ghost use Rattle.sweep_core.specs.internal.Batches.{profiles_after_batch};
+ghost use Rattle.sweep_core.specs.internal.Feeding.{HaveFollowers, IsFresh};
+ghost use Rattle.sweep_core.specs.internal.Feeding.{profiles_after_batch, profiles_with_fronts};
+ghost use Rattle.sweep_core.specs.internal.Waiting.{AreWaiting, AreNoFiner};
 
 use crate::batch::Batch;
+use crate::feeding::{catch_up, finest_bits};
 use crate::profiles::PairProfile;
 use cache_core::MAX_BITS;
 use profile_core::MAX_REFERENCES;
@@ -28,7 +28,7 @@ pub(crate) fn read_trace<S: Source>(
     requires begun { lines.old ≡ new_progress lines.old.format lines.old.limit }
     requires empty { batch.old ≡ [] }
     requires fresh { AllByRecursion IsFresh profiles.old }
-    requires linked { IsLinked profiles.old }
+    requires followers { HaveFollowers profiles.old }
     ensures fed { Feeds kind lines.old.format lines.old.limit
         (S.view source.old) (S.view source.new) lines.new profiles.old profiles.new }
     ensures reports { lines.new.state ≡ state_after result }
@@ -54,7 +54,7 @@ fn read_entries<S: Source>(
     requires empty { batch.old ≡ [] }
     requires begun { lines.old ≡ new_progress lines.old.format lines.old.limit }
     requires fresh { AllByRecursion IsFresh profiles.old }
-    requires linked { IsLinked profiles.old }
+    requires followers { HaveFollowers profiles.old }
     ensures fed { Feeds kind lines.old.format lines.old.limit (S.view source.old)
         (S.view source.new) lines.new profiles.old
         (profiles_with_fronts fed.new (profiles_after_batch batch.new profiles.new)) }
@@ -79,30 +79,6 @@ fn read_entries<S: Source>(
         }
     }
     Ok(())
-}
-
-/// Counts in each profile those of `fed` references that it was not fed: they found their block in
-/// front.
-fn catch_up(profiles: &mut [PairProfile], fed: u64)
-    requires behind { FedAtMost fed profiles.old }
-    requires few { fed ≤ MAX_REFERENCES }
-    ensures { profiles.new ≡ profiles_with_fronts fed profiles.old }
-{
-    for pair in profiles.iter_mut() {
-        let behind = pair.profile.fed();
-        pair.profile.count_fronts(fed - behind);
-    }
-}
-
-/// The block bits of the smallest blocks that some profiles have.
-fn finest_bits(profiles: &[PairProfile]) -> u64
-    ensures { result ≡ finest_bits profiles.now }
-{
-    let mut bits = MAX_BITS;
-    for pair in profiles {
-        bits = bits.min(pair.profile.block_bits());
-    }
-    bits
 }
 
 /// If a reference is of a kind, adds it to the batch, and to the count `fed`. If the batch is full,

@@ -1,11 +1,12 @@
 //! The profiles of a sweep: one for each pair of block size and set count that has a row.
-ghost use Rattle.std.specs.Prelude.{◌≡◌, [], None, IfOk, IfSome, MatchOption, length, sum_by};
+ghost use Rattle.std.specs.Prelude.{◌≡◌, [], None, IfOk, IfSome, MatchOption, sum_by};
 ghost use Rattle.sweep_core.specs.Space.{space_fault};
 ghost use Rattle.sweep_core.specs.internal.Runs.{BeginsWith};
 ghost use Rattle.sweep_core.specs.internal.Walk.{HasDepth, rows_left};
 ghost use Rattle.sweep_core.specs.internal.Pass.{SweepStandsFor};
-ghost use Rattle.sweep_core.specs.internal.Implied.{IsLinked, linked_profiles, implied_count};
+ghost use Rattle.sweep_core.specs.internal.Feeding.{HaveFollowers};
 
+use crate::feeding::set_followers;
 use crate::request::Request;
 use crate::space::Config;
 use crate::space::configs::{PairRows, bits_of};
@@ -18,9 +19,9 @@ pub(crate) struct PairProfile {
     /// The row with the fewest lines per set.
     pub(crate) first: Config,
     /// How many rows there are; each has the next associativity.
-    pub(crate) rows: u64,
-    /// How many of the next profiles find a block in front wherever this one does.
-    pub(crate) implied: usize,
+    pub(crate) row_count: u64,
+    /// How many of the next profiles find a block in front wherever this one does: its followers.
+    pub(crate) followers: usize,
     pub(crate) profile: Profile,
 }
 
@@ -31,7 +32,7 @@ pub(crate) fn make_profiles(
     request: &Request,
 ) -> Result<Vec<PairProfile>, AllocError>
     ensures stands { IfOk result (λ made. SweepStandsFor request.now [] made.items) }
-    ensures linked { IfOk result (λ made. IsLinked made.items) }
+    ensures followers { IfOk result (λ made. HaveFollowers made.items) }
 {
     let mut made = Vec::new(alloc);
     let mut pair = request.space.first_pair(request.after);
@@ -44,39 +45,13 @@ pub(crate) fn make_profiles(
         } = rows;
         made.push(PairProfile {
             first,
-            rows: count,
-            implied: 0,
+            row_count: count,
+            followers: 0,
             profile: Profile::new_sparse(alloc, bits_of(first.bsize), bits_of(first.sets), depth)?,
         })?;
     }
-    link(&mut made);
+    set_followers(&mut made);
     Ok(made)
-}
-
-/// Sets `implied` in each profile: how many of the next ones find a block in front wherever it
-/// does.
-fn link(profiles: &mut [PairProfile])
-    ensures { profiles.new ≡ linked_profiles profiles.old }
-{
-    for at in 0..profiles.len() {
-        let all = &profiles[..];
-        let implied = implied_by(&all[at].profile, &all[at + 1..]);
-        profiles[at].implied = implied;
-    }
-}
-
-/// How many of `others` refine a profile, counted from the first up to one that doesn't.
-fn implied_by(profile: &Profile, others: &[PairProfile]) -> usize
-    ensures { result ≡ implied_count profile.now.geometry others.now }
-{
-    let mut count = 0;
-    for other in others {
-        if !profile.is_refined_by(&other.profile) {
-            return count;
-        }
-        count += 1;
-    }
-    count
 }
 
 /// Takes the next pair that has a row, from the pair with the index `pair` on, and returns its

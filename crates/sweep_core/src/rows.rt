@@ -1,112 +1,17 @@
-//! The rows of a sweep as values: each configuration with its counts.
-ghost use Rattle.std.specs.Prelude.{◌≡◌, ◌-◌, ◌≤◌, Err, IfOk, IfSome, flat_map};
-ghost use Rattle.trace_core.specs.Reading.{events, first_fault};
-ghost use Rattle.trace_core.specs.declared.fault.RunFault.TheVariants as fault;
-ghost use Rattle.std.specs.Prelude.{None};
+//! The rows of a sweep: each configuration with its counts.
+ghost use Rattle.std.specs.Prelude.{◌≡◌, ◌-◌, ◌≤◌};
 ghost use Rattle.std.specs.List.{AllByRecursion};
 ghost use Rattle.profile_core.specs.internal.State.{counts_at, hit_sums_at};
-ghost use Rattle.sweep_core.specs.Space.{HasSize};
-ghost use Rattle.sweep_core.specs.Rows.{counted_sweep, ReadsCounts};
 ghost use Rattle.sweep_core.specs.internal.Runs.{IsWalk, next_ways};
 
-use crate::batch::Batch;
-use crate::pass::read_trace;
-use crate::profiles::{PairProfile, make_profiles, total_probes};
-use crate::request::Request;
+// Callers know it by this path too.
+use crate::profiles::PairProfile;
 use crate::space::{Config, Space};
-use crate::sweep::SweepFault;
+pub use crate::sweep::SweepCounts;
 use cache_core::Counts;
 use profile_core::Profile;
 use profile_core::profile::HitSums;
-use std::alloc::Global;
 use std::marker::Model;
-use trace_core::{Lines, MAX_LINES, Source};
-
-/// The counts of a sweep that has read its trace.
-#[derive(Drop)]
-pub struct SweepCounts {
-    space: Space,
-    profiles: Vec<PairProfile>,
-}
-
-impl Model for SweepCounts {
-    ghost use Rattle.std.specs.Prelude.{sum_by};
-    ghost use Rattle.std.specs.List.{AllByRecursion};
-    ghost use Rattle.sweep_core.specs.Rows.{CountedSweep};
-    ghost use Rattle.sweep_core.specs.internal.Runs.{counted_profiles, ServesRows};
-
-    ghost Value = { CountedSweep };
-
-    ghost view = { λ s. record {
-      rows = counted_profiles s.space.powers s.profiles.items;
-      comparisons = sum_by (λ x. x.profile.probes) s.profiles.items;
-    } };
-
-    ghost invariant = { λ s. AllByRecursion (ServesRows s.space.powers) s.profiles.items };
-}
-
-impl SweepCounts {
-    /// Reads a whole trace, of at most `max_lines` lines, 1 to `MAX_LINES`, and counts for each row
-    /// of a request. It takes all its memory before it reads; its rows take none later.
-    ///
-    /// Errors: `Memory`, with nothing read; `Trace` if the trace has a fault or the source failed;
-    /// never `Write`.
-    pub fn read<S: Source>(
-        alloc: Global,
-        request: &Request,
-        source: &mut S,
-    ) -> Result<SweepCounts, SweepFault>
-        requires some { 1 ≤ request.now.max_lines }
-        requires most { request.now.max_lines ≤ MAX_LINES }
-        ensures reads { ReadsCounts request.now (S.view source.old) (S.view source.new) result }
-        ensures memory { result ≡ Err fault.Memory → source.new ≡ source.old }
-        ensures counts { IfOk result (λ counts. IfSome (S.view source.old).remaining (λ text.
-            counts ≡ counted_sweep request.now
-            (events request.now.format request.now.kind text))) }
-        ensures faultless { IfOk result (λ _. IfSome (S.view source.old).remaining (λ text.
-            first_fault request.now.format request.now.max_lines text ≡ None)) }
-    {
-        let mut lines = Lines::new(alloc, request.format, request.max_lines)?;
-        let mut profiles = make_profiles(alloc, request)?;
-        let mut batch = Batch::new(alloc)?;
-        read_trace(&mut lines, request.kind, source, &mut profiles, &mut batch)?;
-        Ok(SweepCounts {
-            space: request.space,
-            profiles,
-        })
-    }
-
-    /// The rows, in the order of the table, each configuration with its counts. The size of each
-    /// fits, so `Config::bytes` can be asked for it.
-    pub fn rows(&self) -> Rows<'_>
-        ensures rows { result ≡ self.now.rows }
-        ensures sizes { AllByRecursion (λ row. HasSize row.0) result }
-    {
-        Rows {
-            space: &self.space,
-            pair: None,
-            later: &self.profiles,
-        }
-    }
-
-    /// The rows in groups, one for each pair of block size and set count.
-    pub(crate) fn pairs(&self) -> Pairs<'_>
-        ensures rows { flat_map (λ rows. rows) result ≡ self.now.rows }
-        ensures sizes { AllByRecursion (AllByRecursion (λ row. HasSize row.0)) result }
-    {
-        Pairs {
-            space: &self.space,
-            later: &self.profiles,
-        }
-    }
-
-    /// The number of comparisons that the sweep counted, as `sweep` returns it.
-    pub fn comparisons(&self) -> u128
-        ensures { result ≡ self.now.comparisons }
-    {
-        total_probes(&self.profiles)
-    }
-}
 
 /// An iterator over the rows of a sweep, in the order of the table. It goes through a pair's
 /// histograms once.
@@ -129,6 +34,22 @@ impl<'a> Model for Rows<'a> {
     ghost view = { λ r. rows_to_come r.space.now.powers r.pair r.later.now };
 
     ghost invariant = { λ r. MayCome r.space.now.powers r.pair r.later.now };
+}
+
+impl<'a> Rows<'a> {
+    ghost use Rattle.sweep_core.specs.internal.Runs.{counted_profiles, ServesRows};
+
+    /// The rows of the profiles of a space.
+    pub(crate) fn new(space: &'a Space, profiles: &'a [PairProfile]) -> Rows<'a>
+        requires { AllByRecursion (ServesRows space.now.powers) profiles.now }
+        ensures { result ≡ counted_profiles space.now.powers profiles.now }
+    {
+        Rows {
+            space,
+            pair: None,
+            later: profiles,
+        }
+    }
 }
 
 impl<'a> Iterator for Rows<'a> {
@@ -177,6 +98,21 @@ impl<'a> Model for Pairs<'a> {
     ghost invariant = { λ p. AllByRecursion (ServesRows p.space.now.powers) p.later.now };
 }
 
+impl<'a> Pairs<'a> {
+    ghost use Rattle.sweep_core.specs.internal.Runs.{rows_by_pair, ServesRows};
+
+    /// The rows of the profiles of a space, profile by profile.
+    pub(crate) fn new(space: &'a Space, profiles: &'a [PairProfile]) -> Pairs<'a>
+        requires { AllByRecursion (ServesRows space.now.powers) profiles.now }
+        ensures { result ≡ rows_by_pair space.now.powers profiles.now }
+    {
+        Pairs {
+            space,
+            later: profiles,
+        }
+    }
+}
+
 impl<'a> Iterator for Pairs<'a> {
     ghost use Rattle.std.specs.Iterator.{YieldsFirst, item_count};
 
@@ -213,13 +149,13 @@ impl<'a> PairWalk<'a> {
         ensures profile { result.profile.now ≡ pair.now.profile }
         ensures sums { result.sums ≡ hit_sums_at pair.now.profile 0 }
         ensures first { result.next ≡ pair.now.first }
-        ensures rows { result.left ≡ pair.now.rows }
+        ensures left { result.left ≡ pair.now.row_count }
     {
         PairWalk {
             profile: &pair.profile,
             sums: pair.profile.begin_sums(),
             next: pair.first,
-            left: pair.rows,
+            left: pair.row_count,
         }
     }
 

@@ -6,8 +6,9 @@ ghost use Rattle.sweep_core.specs.Space.{HasSize};
 ghost use Rattle.sweep_core.specs.SweepText.{header_of, csv_rows};
 
 use crate::row_text::RowText;
-use crate::rows::{Pairs, Rows, SweepCounts};
+use crate::rows::{Pairs, Rows};
 use crate::space::Config;
+use crate::sweep::SweepCounts;
 use trace_core::{DeviceFault, Sink, write_all};
 
 /// The first line of a sweep that begins at the first configuration.

@@ -102,10 +102,6 @@ pub nibbles_small : (k n : ℕ) → AllBelowBase 16 (nibbles k n)
 nibbles_small zero n = tt
 nibbles_small (suc k) n = (omega arith, nibbles_small k n)
 
-pub length-nibbles : (k n : ℕ) → length (nibbles k n) ≡ k
-length-nibbles zero n = refl
-length-nibbles (suc k) n = ap suc (length-nibbles k n)
-
 -- the lanes of a table that are named
 abbrev pub table : List ℕ
 table = 48 ∷ 49 ∷ 50 ∷ 51 ∷ 52 ∷ 53 ∷ 54 ∷ 55 ∷ 56 ∷ 57 ∷ 97 ∷ 98 ∷ 99 ∷ 100 ∷ 101 ∷ 102 ∷ []

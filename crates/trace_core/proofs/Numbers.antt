@@ -33,14 +33,6 @@ at_most c = by_case (known c)
     by_case (inl digit) = omega (arith, digit.0, digit.1)
     by_case (inr other) = omega (arith, other.0)
 
--- a byte with another entry than `NO_DIGIT` is a digit
-pub digit-known : (c : ℕ) → entry c < NO_DIGIT → (entry c ≡ digit_value c) × (digit_value c < 16)
-digit-known c below = by_case (known c)
-  where
-    by_case : Known c → (entry c ≡ digit_value c) × (digit_value c < 16)
-    by_case (inl digit) = digit
-    by_case (inr other) = absurd (omega (arith, other.0, below))
-
 -- a byte whose entry is below a radix is a digit in it
 pub digit-below : (c radix : ℕ) → radix ≤ 16 → entry c < radix → (entry c ≡ digit_value c) ×
     (digit_value c < radix)

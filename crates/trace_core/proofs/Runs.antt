@@ -200,12 +200,6 @@ module _ (f : Format) (limit : ℕ) where
       )
       by_state (state.Failed x) is = absurd (well x is)
 
--- a reader that was just begun has read nothing
-pub Reached-begun : {p : Progress} (v : SourceView) → p ≡ new_progress p.format p.limit →
-    Reached p.format p.limit v v [] p
-Reached-begun {p} v is = subst (λ (q : Progress). Reached p.format p.limit v v [] q) (sym is)
-    (Reached-start p.format p.limit v)
-
 -- a reader that was begun with this format and limit
 pub Reached-from : {f : Format} {limit : ℕ} {start now : SourceView} {first p : Progress}
     {xs : List (ℕ × Entry)} → first ≡ new_progress f limit

@@ -49,7 +49,7 @@ profiles_after es xs = map (pair_after_events es) xs
 -- a profile was made for the rows of its pair, within the limits and as deep as the greatest
 -- associativity of the pair in all, and was fed some events
 pub record WasFed (all : List Config) (es : List Event) (x : PairProfile) : Type 0 where
-  pub some : 1 ≤ x.rows
+  pub some : 1 ≤ x.row_count
   pub sound : IsGeometry (geometry_of_pair all (pair_of x.first))
   pub is : x.profile ≡ fold after_event (empty (geometry_of_pair all (pair_of x.first))) es
 

@@ -27,7 +27,7 @@ run_of powers c (suc n) = c ∷ run_of powers (record c { assoc = next_ways powe
 
 -- the rows of a profile
 abbrev pub rows_of_profile : Bool → PairProfile → List Config
-rows_of_profile powers x = run_of powers x.first x.rows
+rows_of_profile powers x = run_of powers x.first x.row_count
 
 -- Some rows begin with a run of a pair, of at least one row, and none of the others is of that
 -- pair.
@@ -43,11 +43,11 @@ counted_run powers v c n = map (λ d. (d, counts_at v d.assoc)) (run_of powers c
 
 -- the rows of some profiles, each with its counts
 abbrev pub counted_profiles : Bool → List PairProfile → List (Config × Counts)
-counted_profiles powers xs = flat_map (λ x. counted_run powers x.profile x.first x.rows) xs
+counted_profiles powers xs = flat_map (λ x. counted_run powers x.profile x.first x.row_count) xs
 
 -- the rows of some profiles, each with its counts, in one list for each profile
 abbrev pub rows_by_pair : Bool → List PairProfile → List (List (Config × Counts))
-rows_by_pair powers xs = map (λ x. counted_run powers x.profile x.first x.rows) xs
+rows_by_pair powers xs = map (λ x. counted_run powers x.profile x.first x.row_count) xs
 
 -- a profile has the counts of a row, whose size fits
 pub record Serves (v : ProfileState) (c : Config) : Type 0 where
@@ -58,7 +58,7 @@ pub record Serves (v : ProfileState) (c : Config) : Type 0 where
 
 -- a profile serves its rows, of which there is one at least
 pub record ServesRows (powers : Bool) (x : PairProfile) : Type 0 where
-  pub some : 1 ≤ x.rows
+  pub some : 1 ≤ x.row_count
   pub rows : AllByRecursion (Serves x.profile) (rows_of_profile powers x)
 
 -- a walk over the rows of a pair serves those that are left, from the associativity to which its

@@ -185,10 +185,10 @@ impl Space {
         ensures few { result.1 < 2 ^ 17 }
     {
         let most = self.assoc.1.min(MAX_CACHE_LINES / sets);
-        let pair = bsize * sets;
+        let way_bytes = bsize * sets;
         (
-            self.assoc.0.max(self.size.0.div_ceil(pair)),
-            most.min(self.size.1 / pair),
+            self.assoc.0.max(self.size.0.div_ceil(way_bytes)),
+            most.min(self.size.1 / way_bytes),
         )
     }
 

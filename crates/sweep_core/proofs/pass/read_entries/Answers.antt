@@ -1,19 +1,17 @@
 -- Each entry that is read is fed, and the pass ends as the reader does.
-use Rattle.std.proofs.Common.{◌≡◌, map, ◌∷◌, ◌++◌, [], length-append, sym}
-use Rattle.std.proofs.Common.{ap, ◌∙◌, subst, arith}
+use Rattle.std.proofs.Common.{◌≡◌, map, ◌∷◌, ◌++◌, [], length-append, sym, ap, ◌∙◌, subst, arith}
 use Rattle.std.specs.List.{flat_map}
 use Rattle.trace_core.specs.Events.{events_of}
 use Rattle.trace_core.specs.Task.{entries_of}
 use Rattle.trace_core.proofs.WholeTraces.{holds-less, reads-end, reads-fault, reads-more}
 use Rattle.trace_core.proofs.WholeTraces.{reads-none}
 use Rattle.sweep_core.specs.internal.Pass.{profiles_after, pair_after_flush}
-use Rattle.sweep_core.specs.internal.Implied.{profiles_with_fronts, FedAtMost}
-use Rattle.sweep_core.specs.internal.Batches.{AreWaiting, AreNoFiner, profiles_after_batch}
+use Rattle.sweep_core.specs.internal.Feeding.{profiles_with_fronts, FedAtMost, profiles_after_batch}
+use Rattle.sweep_core.specs.internal.Waiting.{AreWaiting, AreNoFiner}
 use Rattle.sweep_core.proofs.Passes.{all_after-nil, fed-both, fed-more, fed-one}
-use Rattle.sweep_core.proofs.Catching.{fresh-few, caught-none, caught-flush}
-use Rattle.sweep_core.proofs.Catching.{few-flush}
-use Rattle.sweep_core.proofs.Batching.{fed-nil, waiting-none, waiting-behind}
-use Rattle.sweep_core.proofs.Batching.{waiting-few, waiting-led}
+use Rattle.sweep_core.proofs.Catching.{fresh-few, caught-none, caught-flush, few-flush}
+use Rattle.sweep_core.proofs.Waiting.{fed-nil, waiting-none, waiting-behind, waiting-few}
+use Rattle.sweep_core.proofs.Waiting.{waiting-led}
 use Rattle.sweep_core.proofs.Repeated.{finest-small, finest-finer, no-finer-fed, no-finer-flushed}
 use Rattle.sweep_core.proofs.pass.read_entries.Goals as goal
 
@@ -27,7 +25,7 @@ loop-entry-init g c =
         ap (λ l. profiles_with_fronts c.args.fed.now (profiles_after_batch l xs)) c.requires.empty ∙
             ap (profiles_with_fronts c.args.fed.now) (fed-nil xs) ∙ caught,
         subst (λ l. AreWaiting c.args.fed.now l xs) (sym c.requires.empty)
-            (waiting-none c.args.fed.now [] xs xs c.requires.fresh c.requires.linked caught few),
+            (waiting-none c.args.fed.now [] xs xs c.requires.fresh c.requires.followers caught few),
         omega (arith, c.requires.none),
       ),
       omega (arith, ap (λ p. p.lines) c.requires.begun),
@@ -130,7 +128,8 @@ loop-entry-preserved g c =
             caught,
         subst (λ l. AreWaiting n l c.flush.new.profiles) (sym c.feed.ensures.none)
             (waiting-none n (flat_map (events_of c.args.kind) (es ++ c.in-Some.entry ∷ []))
-            c.args.profiles.now c.flush.new.profiles c.requires.fresh c.requires.linked caught few),
+            c.args.profiles.now c.flush.new.profiles c.requires.fresh c.requires.followers caught
+            few),
         omega (arith, so_far.holds.2, length-append es (c.in-Some.entry ∷ [])),
       ),
       omega (arith, c.next.ensures.within, c.next.ensures.limited),

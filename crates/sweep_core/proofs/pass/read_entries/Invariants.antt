@@ -6,8 +6,8 @@ use Rattle.trace_core.specs.Events.{events_of}
 use Rattle.trace_core.specs.declared.limits.TheConstants.{MAX_LINES}
 use Rattle.trace_core.proofs.WholeTraces.{Reads}
 use Rattle.sweep_core.specs.internal.Pass.{profiles_after}
-use Rattle.sweep_core.specs.internal.Implied.{profiles_with_fronts}
-use Rattle.sweep_core.specs.internal.Batches.{AreWaiting, AreNoFiner, profiles_after_batch}
+use Rattle.sweep_core.specs.internal.Feeding.{profiles_with_fronts, profiles_after_batch}
+use Rattle.sweep_core.specs.internal.Waiting.{AreWaiting, AreNoFiner}
 use Rattle.sweep_core.proofs.pass.read_entries.Given as goal
 
 -- the entries that were read were fed or wait, at most two references each

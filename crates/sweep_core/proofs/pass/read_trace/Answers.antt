@@ -1,5 +1,5 @@
 -- What still waits is fed, and then each profile catches up.
-use Rattle.sweep_core.proofs.Batching.{waiting-few, waiting-led}
+use Rattle.sweep_core.proofs.Waiting.{waiting-few, waiting-led}
 use Rattle.sweep_core.proofs.pass.read_trace.Goals as goal
 
 pub feed-requires-clause-few : goal.feed-requires-clause-few

@@ -1,16 +1,16 @@
 -- A profile is made for the next pair, until no row is left.
 use Rattle.std.proofs.Common.{◌≡◌, ◌++◌, ◌∙◌, [], refl, sym, ap, subst, arith, take, drop, length}
+use Rattle.sweep_core.specs.Table.{first_rows}
+use Rattle.sweep_core.specs.internal.Feeding.{with_followers, HaveFollowers}
 use Rattle.sweep_core.proofs.Validity.{space-limited}
 use Rattle.sweep_core.proofs.Depths.{geometry-of}
 use Rattle.sweep_core.proofs.Runs.{begins-shorter}
 use Rattle.sweep_core.proofs.Making.{Making, new-fed, making-start, making-first, making-more}
 use Rattle.sweep_core.proofs.Making.{making-end}
-use Rattle.sweep_core.specs.Table.{first_rows}
-use Rattle.sweep_core.specs.internal.Implied.{linked_profiles, IsLinked}
-use Rattle.sweep_core.proofs.Catching.{linked_profiles-items, linked_profiles-sweep}
-use Rattle.sweep_core.proofs.Catching.{linked_profiles-is}
+use Rattle.sweep_core.proofs.Followers.{with_followers-items, with_followers-sweep}
+use Rattle.sweep_core.proofs.Followers.{with_followers-is}
 use Rattle.sweep_core.proofs.profiles.make_profiles.Goals as goal
-use Rattle.sweep_core.proofs.profiles.make_profiles.Goals.{After-link}
+use Rattle.sweep_core.proofs.profiles.make_profiles.Goals.{After-set_followers}
 
 pub loop-rows-init : goal.loop-rows-init
 loop-rows-init c =
@@ -38,21 +38,22 @@ loop-rows-preserved c =
     (space-limited r.space c.take_pair.ensures.limits)
     c.bits_of-in-Some.ensures c.bits_of.ensures c.in_ok-new_sparse.ensures))
 
--- what is made is linked
-items : (c : After-link) → take c.loop-rows.made.len (c.link.new.profiles ++
-    drop (length c.link.new.profiles) c.loop-rows.made.items) ≡ linked_profiles
+-- what is made has its followers
+items : (c : After-set_followers) → take c.loop-rows.made.len (c.set_followers.new.profiles ++
+    drop (length c.set_followers.new.profiles) c.loop-rows.made.items) ≡ with_followers
     c.loop-rows.made.items
-items c = linked_profiles-items c.loop-rows.made.items c.link.new.profiles _ c.loop-rows.made.len
-    (omega (arith, c.loop-rows.made.ok))
-    (c.link.ensures ∙ ap linked_profiles c.deref_mut.ensures.value)
+items c = with_followers-items c.loop-rows.made.items c.set_followers.new.profiles _
+    c.loop-rows.made.len (omega (arith, c.loop-rows.made.ok))
+    (c.set_followers.ensures ∙ ap with_followers c.deref_mut.ensures.value)
 
 pub returns-clause-stands : goal.returns-clause-stands
 returns-clause-stands c =
-    linked_profiles-sweep c.args.request.now c.loop-rows.made.items _
+    with_followers-sweep c.args.request.now c.loop-rows.made.items _
     (making-end c.args.request.now c.loop-rows.made.items _ c.take_pair.ensures.limits
     c.loop-rows.invariant c.in_default.ensures.rows)
-    (items (goal.at.returns-clause-stands c).After-link)
+    (items (goal.at.returns-clause-stands c).After-set_followers)
 
-pub returns-clause-linked : goal.returns-clause-linked
-returns-clause-linked c = subst IsLinked (sym (items (goal.at.returns-clause-linked c).After-link))
-    (linked_profiles-is c.loop-rows.made.items)
+pub returns-clause-followers : goal.returns-clause-followers
+returns-clause-followers c = subst HaveFollowers
+    (sym (items (goal.at.returns-clause-followers c).After-set_followers))
+    (with_followers-is c.loop-rows.made.items)

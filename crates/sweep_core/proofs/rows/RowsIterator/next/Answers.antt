@@ -30,14 +30,14 @@ walks c =
           let is : was.later.now ≡ first ∷ later = w.in_ok-first-in-None.ensures.cases.0 in
           let serve = rw is at c.self.invariant.serve in
           rw (w.self-inside-is, w.pair-is) (
-            rw made.rows serve.0.some,
-            walk-start serve.0 made.profile made.sums made.first made.rows,
+            rw made.left serve.0.some,
+            walk-start serve.0 made.profile made.sums made.first made.left,
             sym c.self.view_is ∙ ap (λ o. rows_to_come powers o was.later.now)
                 (sym c.take.ensures.value ∙ w.in-None.is)
                 ∙ ap (counted_profiles powers) is
                 ∙ ap (λ l. l ++ counted_profiles powers later)
                 (sym (walk-rows powers first w.new-pair.result made.profile
-                made.first made.rows)),
+                made.first made.left)),
           )
     ]
 
@@ -52,7 +52,7 @@ steps c =
     let powers = c.match-take.self-inside.space.now.powers in
     comes-first powers c.args.self.now c.match-take.pair after c.match-take.self-inside.later.now
     c.next_row-row.result c.then_some-self-inside.result w.2
-    (walk-more w.1 w.0 after row.profile row.next row.left ∙
+    (walk-more powers c.match-take.pair after w.0 row.profile row.next row.left ∙
     ap (λ r. r ∷ counted_run powers after.profile.now after.next after.left) (sym row.row))
     c.then_some-self-inside.ensures
 

@@ -5,8 +5,8 @@ use Rattle.cache_core.specs.Powers.{is_power}
 use Rattle.sweep_core.proofs.Ways.{of_space, pair_some, pair_fits, ways-valid, few_ways}
 use Rattle.sweep_core.proofs.space.Space.ways_of.Goals as goal
 
-pub overflow_mul-pair : goal.overflow_mul-pair
-overflow_mul-pair c =
+pub overflow_mul-way_bytes : goal.overflow_mul-way_bytes
+overflow_mul-way_bytes c =
     omega (
       arith,
       pair_fits (of_space c.self.view_is c.self.invariant c.requires.block

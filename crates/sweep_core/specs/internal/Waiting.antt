@@ -1,0 +1,31 @@
+-- References that wait to be fed.
+use Rattle.std.specs.Prelude.{ℕ, Bool, ◌==◌, ◌&&◌, nat_lt, ◌≤◌, ◌-◌, ◌/◌, ◌^◌, min, fold}
+use Rattle.std.specs.Prelude.{List, [], ◌∷◌, ◌++◌, length, if◌then◌else◌, slice_index_or}
+use Rattle.std.specs.List.{AllByRecursion}
+use Rattle.sweep_core.specs.declared.profiles.PairProfile.{PairProfile}
+use Rattle.sweep_core.specs.internal.Feeding.{AreAlwaysBehind}
+
+-- whether an address lies in the same block of 2^bits bytes as the last of some others
+abbrev pub is_in_last_block : ℕ → List ℕ → ℕ → Bool
+is_in_last_block bits addrs addr =
+    nat_lt 0 (length addrs) && slice_index_or addrs (length addrs - 1) 0 / 2 ^ bits
+    == addr / 2 ^ bits
+
+-- the addresses that wait, and one more, unless it lies in the same block as the last
+abbrev pub with_waiting : ℕ → List ℕ → ℕ → List ℕ
+with_waiting bits addrs addr =
+    if is_in_last_block bits addrs addr then addrs else addrs ++ addr ∷ []
+
+-- no block of some profiles is smaller than 2^bits bytes
+abbrev pub AreNoFiner : ℕ → List PairProfile → Type 0
+AreNoFiner bits xs = AllByRecursion (λ x. bits ≤ x.profile.geometry.b) xs
+
+-- the block bits of the smallest blocks that some profiles have
+abbrev pub finest_bits : List PairProfile → ℕ
+finest_bits xs = fold (λ bits x. min bits x.profile.geometry.b) 20 xs
+
+-- Of n references the last ones wait. All others were fed, except some that found their block in
+-- front.
+pub record AreWaiting (n : ℕ) (addrs : List ℕ) (xs : List PairProfile) : Type 0 where
+  pub waiting : length addrs ≤ n
+  pub behind : AreAlwaysBehind (n - length addrs) xs
