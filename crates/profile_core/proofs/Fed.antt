@@ -13,7 +13,7 @@ use Rattle.profile_core.specs.internal.Moves.{is_front, move_to_front, touch_of}
 use Rattle.profile_core.specs.internal.Lists.{Lists, lists_after_touch}
 use Rattle.profile_core.specs.internal.State.{ProfileState, IsSound, IsNext, list_of, fed_of}
 use Rattle.profile_core.specs.internal.State.{after_reference, compared_behind, distances_of}
-use Rattle.profile_core.specs.internal.State.{most_references, profile_of, MayBeFed}
+use Rattle.profile_core.specs.internal.State.{most_references, profile_of, AreSound}
 use Rattle.profile_core.proofs.Feeding.{FoundAt, FoundNowhere, behind_front, first-raised}
 use Rattle.profile_core.proofs.Feeding.{raised_behind, sum-distances, after_fed, found_step}
 use Rattle.profile_core.proofs.Feeding.{nowhere_step, found_behind, found_nowhere}
@@ -93,11 +93,11 @@ pub record IsMoved (g : GeometryValue) (was now : Lists) (behind missed : List �
   pub next : IsNext v k x
   pub moved : now ≡ lists_after_touch was k x
 
-pub moved_of : {g : GeometryValue} {was now : Lists} {h : Histograms} {k x : ℕ} →
-    MayBeFed g was h k x → now ≡ lists_after_touch was k x →
-    IsMoved g was now h.behind.items h.misses_by_occupancy.items h.probes x k (profile_of g was h)
-moved_of ready moved =
-    record { sound = ready.sound; view_is = refl; next = ready.next; moved = moved }
+pub moved_of : {g : GeometryValue} {was now : Lists} {k x : ℕ} {v : ProfileState} (h : Histograms) →
+    AreSound g was h → profile_of g was h ≡ v → IsNext v k x → now ≡ lists_after_touch was k x →
+    IsMoved g was now h.behind.items h.misses_by_occupancy.items h.probes x k v
+moved_of h sound view_is next moved =
+    record { sound = sound; view_is = view_is; next = next; moved = moved }
 
 module _ {g : GeometryValue} {was now : Lists} {behind missed : List ℕ} {probes x k : ℕ}
     {v : ProfileState}
@@ -108,7 +108,7 @@ module _ {g : GeometryValue} {was now : Lists} {behind missed : List ℕ} {probe
   of_set : k ≡ set_of_block g x
   of_set = m.next.of_set ∙ ap (λ w. set_of_block w.geometry x) (sym m.view_is)
 
-  other : is_front x list ≡ false
+  pub other : is_front x list ≡ false
   other = ap (λ w. is_front x (list_of w k)) m.view_is ∙ m.next.behind
 
   fed : sum (distances_of probes behind missed) + sum missed < most_references

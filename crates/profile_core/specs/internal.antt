@@ -1,5 +1,5 @@
 pub mod Fronts
-pub mod KeptLists
+pub mod KeptProfile
 pub mod Lists
 pub mod LongLists
 pub mod Moves

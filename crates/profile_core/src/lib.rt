@@ -2,10 +2,9 @@
 //! and Traiger 1970).
 #![tactic(auto)]
 
-mod feed;
 mod histograms;
 mod hit_sums;
-mod kept_lists;
+mod kept_profile;
 pub mod laws;
 mod long_lists;
 mod plain_rows;
@@ -18,5 +17,6 @@ mod set_lists;
 mod slotted_rests;
 mod sparse_rests;
 mod split_rows;
+mod stack_profile;
 
 pub use profile::{MAX_REFERENCES, Profile};

@@ -2,20 +2,18 @@
 ghost use Rattle.std.specs.Prelude.{◌≡◌, ◌+◌, ◌-◌, ◌*◌, ◌^◌, ◌<◌, ◌≤◌, List, IfOk, true, false};
 ghost use Rattle.std.specs.Prelude.{length, take, drop, sum, replicate, []};
 ghost use Rattle.trace_core.specs.declared.events.Event.{Event};
-ghost use Rattle.cache_core.specs.Geometry.{IsGeometry, geometry_value, block_of};
+ghost use Rattle.cache_core.specs.Geometry.{IsGeometry, geometry_value, block_of, set_of_block};
 ghost use Rattle.cache_core.specs.Windows.{occurrences, counts, probes, held};
 ghost use Rattle.profile_core.specs.internal.State.{empty, after_reference, after_flush};
 ghost use Rattle.profile_core.specs.internal.State.{fed_of, held_of, counts_at, hit_sums_at};
-ghost use Rattle.profile_core.specs.internal.State.{weighed};
-ghost use Rattle.profile_core.specs.internal.KeptLists.{lists_of};
+ghost use Rattle.profile_core.specs.internal.State.{weighed, list_of, IsNext, AreHistogramsOf};
 ghost use Rattle.profile_core.specs.internal.Fronts.{is_front_of, after_unless_front, after_fronts};
-ghost use Rattle.profile_core.specs.internal.Fronts.{is_refined, after_batch, fed_of_batch};
+ghost use Rattle.profile_core.specs.internal.Fronts.{is_refined, after_batch, fed_of_batch, IsFit};
 ghost use Rattle.profile_core.specs.internal.ProfileStandsFor.{ProfileStandsFor};
 
-use crate::feed::{feed_each, feed_each_to_two, feed_one};
 use crate::histograms::Histograms;
 pub use crate::hit_sums::HitSums;
-use crate::kept_lists::KeptLists;
+use crate::kept_profile::KeptProfile;
 use cache_core::{Counts, Geometry};
 use std::alloc::{AllocError, Global};
 use std::marker::Model;
@@ -26,22 +24,36 @@ use trace_core::MAX_LINES;
 pub const MAX_REFERENCES: u64 = 2 * MAX_LINES;
 
 /// The recency lists of all sets (LRU stacks, Mattson 1970), and the numbers counted.
-#[derive(Drop)]
 pub struct Profile {
-    geometry: Geometry,
-    lists: KeptLists,
-    histograms: Histograms,
+    kept: KeptProfile,
+}
+
+/// Written out, so that a proof of what drops a profile need not tell the ways apart.
+impl Drop for Profile {
+    fn drop(self) {
+        let Profile { kept: _ } = self;
+    }
 }
 
 impl Model for Profile {
-    ghost use Rattle.profile_core.specs.internal.State.{ProfileState, profile_of, AreSound};
-    ghost use Rattle.profile_core.specs.internal.KeptLists.{lists_of};
+    ghost use Rattle.profile_core.specs.internal.State.{ProfileState};
+    ghost use Rattle.profile_core.specs.internal.KeptProfile.{profile_kept};
 
     ghost Value = { ProfileState };
 
-    ghost view = { λ p. profile_of p.geometry (lists_of p.lists) p.histograms };
+    ghost view = { λ p. profile_kept p.kept };
+}
 
-    ghost invariant = { λ p. AreSound p.geometry (lists_of p.lists) p.histograms };
+/// An expression over the profile that is kept, in whatever way its lists are.
+macro_rules! in_any_way {
+    ($kept:expr, $profile:ident => $result:expr) => {
+        match $kept {
+            KeptProfile::InRows($profile) => $result,
+            KeptProfile::InSlots($profile) => $result,
+            KeptProfile::InSparseRows($profile) => $result,
+            KeptProfile::Long($profile) => $result,
+        }
+    };
 }
 
 impl Profile {
@@ -53,8 +65,8 @@ impl Profile {
         requires { IsGeometry (geometry_value s depth b) }
         ensures { IfOk result (λ profile. profile ≡ empty (geometry_value s depth b)) }
     {
-        let lists = KeptLists::new(alloc, 1 << s, depth as usize)?;
-        Profile::with_lists(alloc, b, s, depth, lists)
+        let kept = KeptProfile::new(alloc, known_geometry(b, s, depth))?;
+        Ok(Profile { kept })
     }
 
     /// A profile as `new` makes it, to be fed in batches, as a sweep does. With a depth of 12 to 16
@@ -67,42 +79,15 @@ impl Profile {
         requires { IsGeometry (geometry_value s depth b) }
         ensures { IfOk result (λ profile. profile ≡ empty (geometry_value s depth b)) }
     {
-        let lists = KeptLists::sparse(alloc, 1 << s, depth as usize)?;
-        Profile::with_lists(alloc, b, s, depth, lists)
-    }
-
-    /// A profile with these lists, which are empty.
-    fn with_lists(
-        alloc: Global,
-        b: u64,
-        s: u64,
-        depth: u64,
-        lists: KeptLists,
-    ) -> Result<Profile, AllocError>
-        requires geometry { IsGeometry (geometry_value s depth b) }
-        requires none { lists_of lists ≡ record { depth = depth; lists = replicate (2 ^ s) [] } }
-        ensures { IfOk result (λ profile. profile ≡ empty (geometry_value s depth b)) }
-    {
-        let Some(geometry) = Geometry::new(s, depth, b) else {
-            unreachable!()
-        };
-        let depth = depth as usize;
-        Ok(Profile {
-            geometry,
-            lists,
-            histograms: Histograms {
-                probes: 0,
-                behind: vec![in alloc; 0; depth]?,
-                misses_by_occupancy: vec![in alloc; 0; depth + 1]?,
-            },
-        })
+        let kept = KeptProfile::sparse(alloc, known_geometry(b, s, depth))?;
+        Ok(Profile { kept })
     }
 
     /// The number of block bits: its caches have blocks of `2^b` bytes.
     pub fn block_bits(&self) -> u64
         ensures { result ≡ self.now.geometry.b }
     {
-        self.geometry.b()
+        self.geometry().b()
     }
 
     /// Feeds one reference by its address; whether it reads or writes is ignored. Takes no
@@ -113,7 +98,7 @@ impl Profile {
         ensures step { self.new ≡ after_reference self.old (block_of self.old.geometry addr) }
         ensures one_more { fed_of self.new ≡ fed_of self.old + 1 }
     {
-        let block = self.geometry.block_of(addr);
+        let block = self.geometry().block_of(addr);
         if self.feed_block_unless_front(block) {
             self.count_fronts(1);
         }
@@ -128,7 +113,7 @@ impl Profile {
         ensures front { result ≡ is_front_of self.old (block_of self.old.geometry addr) }
         ensures step { self.new ≡ after_unless_front self.old (block_of self.old.geometry addr) }
     {
-        let block = self.geometry.block_of(addr);
+        let block = self.geometry().block_of(addr);
         self.feed_block_unless_front(block)
     }
 
@@ -144,13 +129,7 @@ impl Profile {
         ensures within { result ≤ length addrs.new }
         ensures length { length addrs.new ≡ length addrs.old }
     {
-        let (geometry, histograms) = (&self.geometry, &mut self.histograms);
-        match &mut self.lists {
-            KeptLists::InRows(lists) => feed_each(geometry, lists, histograms, addrs),
-            KeptLists::InSlots(lists) => feed_each(geometry, lists, histograms, addrs),
-            KeptLists::InSparseRows(lists) => feed_each(geometry, lists, histograms, addrs),
-            KeptLists::Long(lists) => feed_each(geometry, lists, histograms, addrs),
-        }
+        in_any_way!(&mut self.kept, profile => profile.feed_each(addrs))
     }
 
     /// Feeds references to this profile as `feed_batch` does, and to `next` only those that do not
@@ -170,44 +149,15 @@ impl Profile {
     {
         // The loops stand in the program in the order of these arms. In this one that of plain rows
         // begins where the processor takes 5 % less time for it (docs/PERF.md).
-        match (&mut self.lists, &mut next.lists) {
-            (KeptLists::InSparseRows(lists), KeptLists::InSparseRows(next_lists)) =>
-                feed_each_to_two(
-                    &self.geometry,
-                    lists,
-                    &mut self.histograms,
-                    &next.geometry,
-                    next_lists,
-                    &mut next.histograms,
-                    addrs,
-                ),
-            (KeptLists::InRows(lists), KeptLists::InRows(next_lists)) => feed_each_to_two(
-                &self.geometry,
-                lists,
-                &mut self.histograms,
-                &next.geometry,
-                next_lists,
-                &mut next.histograms,
-                addrs,
-            ),
-            (KeptLists::InSlots(lists), KeptLists::InSlots(next_lists)) => feed_each_to_two(
-                &self.geometry,
-                lists,
-                &mut self.histograms,
-                &next.geometry,
-                next_lists,
-                &mut next.histograms,
-                addrs,
-            ),
-            (KeptLists::Long(lists), KeptLists::Long(next_lists)) => feed_each_to_two(
-                &self.geometry,
-                lists,
-                &mut self.histograms,
-                &next.geometry,
-                next_lists,
-                &mut next.histograms,
-                addrs,
-            ),
+        match (&mut self.kept, &mut next.kept) {
+            (KeptProfile::InSparseRows(first), KeptProfile::InSparseRows(second)) =>
+                first.feed_each_to_two(second, addrs),
+            (KeptProfile::InRows(first), KeptProfile::InRows(second)) =>
+                first.feed_each_to_two(second, addrs),
+            (KeptProfile::InSlots(first), KeptProfile::InSlots(second)) =>
+                first.feed_each_to_two(second, addrs),
+            (KeptProfile::Long(first), KeptProfile::Long(second)) =>
+                first.feed_each_to_two(second, addrs),
             _ => {
                 let left = self.feed_batch(addrs);
                 next.feed_batch(&mut addrs[..left])
@@ -222,8 +172,36 @@ impl Profile {
         ensures front { result ≡ is_front_of self.old block }
         ensures step { self.new ≡ after_unless_front self.old block }
     {
-        let (lists, histograms) = (&mut self.lists, &mut self.histograms);
-        feed_one(self.geometry, lists, histograms, block)
+        let set = self.geometry().set_of_block(block) as usize;
+        if self.is_front(set, block) {
+            return true;
+        }
+        self.feed_behind(set, block);
+        false
+    }
+
+    /// Whether a block is in front of the list of its set. Only block 0 needs a look at the way in
+    /// which the lists are kept. Any other block is compared with the fronts alone, which are at
+    /// the same place in each way.
+    #[inline(always)]
+    fn is_front(&self, set: usize, block: u64) -> bool
+        requires { set ≡ set_of_block self.now.geometry block }
+        ensures { result ≡ is_front_of self.now block }
+    {
+        let front = in_any_way!(&self.kept, profile => profile.front(set));
+        front == block
+            && (block != 0 || in_any_way!(&self.kept, profile => profile.is_front(set, block)))
+    }
+
+    /// Feeds a reference to a block that is behind the front of its set's list, or not in the list.
+    /// Most references find their block in front: it is not inlined, so that the path of most stays
+    /// short.
+    #[inline(never)]
+    fn feed_behind(&mut self, set: usize, block: u64)
+        requires { IsNext self.old set block }
+        ensures { self.new ≡ after_reference self.old block }
+    {
+        in_any_way!(&mut self.kept, profile => profile.feed_behind_apart(set, block))
     }
 
     /// Counts this many references that find their block in front, and one comparison for each.
@@ -232,7 +210,7 @@ impl Profile {
         requires { fed_of self.old + count ≤ MAX_REFERENCES }
         ensures { self.new ≡ after_fronts count self.old }
     {
-        self.histograms.probes += count;
+        in_any_way!(&mut self.kept, profile => profile.count_fronts(count))
     }
 
     /// Whether a block that is in front in this profile is always in front in `finer` too, if both
@@ -241,8 +219,9 @@ impl Profile {
     pub fn is_refined_by(&self, finer: &Profile) -> bool
         ensures { result ≡ is_refined self.now.geometry finer.now.geometry }
     {
-        let (s, b) = (self.geometry.s(), self.geometry.b());
-        let (finer_s, finer_b) = (finer.geometry.s(), finer.geometry.b());
+        let (geometry, finer) = (self.geometry(), finer.geometry());
+        let (s, b) = (geometry.s(), geometry.b());
+        let (finer_s, finer_b) = (finer.s(), finer.b());
         b == finer_b && s <= finer_s || s == 0 && b <= finer_b
     }
 
@@ -250,7 +229,7 @@ impl Profile {
     pub fn flush(&mut self)
         ensures { self.new ≡ after_flush self.old }
     {
-        self.lists.clear();
+        in_any_way!(&mut self.kept, profile => profile.flush())
     }
 
     /// How many references were fed. It goes over the histograms, `3 * depth` numbers, so it should
@@ -260,7 +239,7 @@ impl Profile {
         ensures trace { (es : List Event) → ProfileStandsFor es self.now
             → result ≡ length (occurrences self.now.geometry es) }
     {
-        self.hits() + total(&self.histograms.misses_by_occupancy)
+        self.hits() + total(&self.histograms().misses_by_occupancy)
     }
 
     /// How many references found their block: the comparisons, less `d` for each reference found at
@@ -268,7 +247,7 @@ impl Profile {
     fn hits(&self) -> u64
         ensures { result ≡ sum self.now.distances }
     {
-        let histograms = &self.histograms;
+        let histograms = self.histograms();
         histograms.probes - weighed(&histograms.behind) - weighed(&histograms.misses_by_occupancy)
     }
 
@@ -280,9 +259,9 @@ impl Profile {
         ensures { result ≡ sum (take (to - from) (drop from self.now.distances)) }
     {
         if from == 0 {
-            self.hits() - total(&self.histograms.behind[to..])
+            self.hits() - total(&self.histograms().behind[to..])
         } else {
-            total(&self.histograms.behind[from..to])
+            total(&self.histograms().behind[from..to])
         }
     }
 
@@ -298,17 +277,18 @@ impl Profile {
             → result ≡ probes self.now.geometry es }
         ensures at_most { result ≤ fed_of self.now * self.now.geometry.e }
     {
-        self.histograms.probes
+        self.histograms().probes
     }
 
     /// How many blocks the lists hold.
+    #[tactic(auto, using(crate::proofs::Counting::held_is))]
     pub fn held(&self) -> u64
         ensures value { result ≡ held_of self.now }
         ensures trace { (es : List Event) → ProfileStandsFor es self.now
             → result ≡ held self.now.geometry es }
         ensures at_most { result ≤ self.now.geometry.e * 2 ^ self.now.geometry.s }
     {
-        self.lists.held()
+        in_any_way!(&self.kept, profile => profile.held())
     }
 
     /// The counts of an LRU cache of `e` lines per set, over all references fed. It goes over both
@@ -355,7 +335,7 @@ impl Profile {
         let from = sums.ways;
         let to = e as usize;
         let hits = self.hits_between(from, to);
-        let free = total(&self.histograms.misses_by_occupancy[from..to]);
+        let free = total(&self.histograms().misses_by_occupancy[from..to]);
         sums.ways = to;
         sums.hits += hits;
         sums.free_misses += free;
@@ -366,6 +346,34 @@ impl Profile {
             evictions: misses - sums.free_misses,
         }
     }
+
+    /// The geometry of its deepest caches.
+    #[inline(always)]
+    fn geometry(&self) -> Geometry
+        ensures value { result ≡ self.now.geometry }
+        ensures fit { IsFit self.now }
+    {
+        in_any_way!(&self.kept, profile => profile.geometry())
+    }
+
+    /// The numbers counted.
+    #[inline(always)]
+    fn histograms(&self) -> &Histograms
+        ensures { AreHistogramsOf result.now self.now }
+    {
+        in_any_way!(&self.kept, profile => profile.histograms())
+    }
+}
+
+/// A geometry of which it is known that it is one.
+fn known_geometry(b: u64, s: u64, e: u64) -> Geometry
+    requires { IsGeometry (geometry_value s e b) }
+    ensures { result ≡ geometry_value s e b }
+{
+    let Some(geometry) = Geometry::new(s, e, b) else {
+        unreachable!()
+    };
+    geometry
 }
 
 /// The sum of a part of a histogram.

@@ -149,14 +149,8 @@ profile_of g lists h = record {
 abbrev pub AreSound : GeometryValue → Lists → Histograms → Type 0
 AreSound g lists h = IsSound g lists h.behind.items h.misses_by_occupancy.items h.probes
 
--- Lists and histograms that may be fed one more reference, to block x, which is not the front of
--- its set k's list.
-pub record MayBeFed (g : GeometryValue) (lists : Lists) (h : Histograms) (k x : ℕ) : Type 0 where
-  pub sound : AreSound g lists h
-  pub next : IsNext (profile_of g lists h) k x
-
--- lists and histograms after they were fed a reference to block x
-pub record FeedsBlock (g : GeometryValue) (lists : Lists) (h : Histograms) (x : ℕ) (lists' : Lists)
-    (h' : Histograms) : Type 0 where
-  pub sound : AreSound g lists' h'
-  pub step : profile_of g lists' h' ≡ after_reference (profile_of g lists h) x
+-- the histograms of a profile: with some lists they stand for it
+pub record AreHistogramsOf (h : Histograms) (v : ProfileState) : Type 0 where
+  pub lists : Lists
+  pub sound : AreSound v.geometry lists h
+  pub whole : profile_of v.geometry lists h ≡ v

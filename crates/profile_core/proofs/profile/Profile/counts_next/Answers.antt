@@ -18,19 +18,19 @@ step c =
     c.total-free.result c.sums.view_is c.requires.of_this c.requires.rising
     c.hits_between-hits.ensures
     (c.total-free.ensures ∙ ap (λ ns. sum (take (c.args.e - from) (drop from ns)))
-    (c.deref.ensures.value ∙ ap (λ v. v.misses_by_occupancy) c.self.view_is))
+    (c.deref.ensures.value ∙ ap (λ v. v.misses_by_occupancy) c.histograms.ensures.whole))
 
 -- all sums are within the references fed, which are few
 few : (c : After-total-free) → c.sums.inside.fed ≤ 2 ^ 41
-few c = omega (arith, (step c).fed_is, c.self.invariant.fed, ap fed_of c.self.view_is)
+few c = omega (arith, (step c).fed_is, c.histograms.ensures.sound.fed, ap fed_of c.histograms.ensures.whole)
 
 pub total-free-requires : goal.total-free-requires
 total-free-requires c =
     omega (
       arith,
-      part-le c.deref.result.now c.self.inside.histograms.misses_by_occupancy.items
+      part-le c.deref.result.now c.histograms.result.now.misses_by_occupancy.items
           (c.args.e - c.sums.inside.ways) c.sums.inside.ways c.deref.ensures.value,
-      c.self.invariant.fed,
+      c.histograms.ensures.sound.fed,
     )
 
 pub overflow_add-sums : goal.overflow_add-sums

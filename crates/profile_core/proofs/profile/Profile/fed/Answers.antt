@@ -11,7 +11,7 @@ all_fed c = omega (
   c.hits.ensures,
   c.total.ensures,
   ap sum c.deref.ensures.value,
-  ap (λ v. sum v.misses_by_occupancy) c.self.view_is,
+  ap (λ v. sum v.misses_by_occupancy) c.histograms.ensures.whole,
 )
 
 pub returns-clause-trace : goal.returns-clause-trace

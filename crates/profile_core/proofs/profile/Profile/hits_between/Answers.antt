@@ -1,38 +1,32 @@
 -- The numbers of a part of the distances: all hits without those further away, or those of the
 -- histogram.
 use Rattle.std.proofs.Common.{◌≡◌, ◌+◌, ◌-◌, ◌∙◌, length, sum, take, drop, ap, arith}
+use Rattle.profile_core.specs.declared.histograms.Histograms.{Histograms}
+use Rattle.profile_core.specs.internal.State.{ProfileState, AreHistogramsOf}
 use Rattle.profile_core.specs.internal.State.{distances_of, compared_behind}
 use Rattle.profile_core.proofs.Feeding.{sum-distances}
 use Rattle.profile_core.proofs.HitSums.{part-le, sum-rest}
 use Rattle.profile_core.proofs.profile.Profile.hits_between.Goals as goal
-use Rattle.profile_core.proofs.profile.Profile.hits_between.Goals.{After-self, After-total}
+use Rattle.profile_core.proofs.profile.Profile.hits_between.Goals.{After-total}
 
-distances : (c : After-self) → distances_of c.self.inside.histograms.probes
-    c.self.inside.histograms.behind.items
-    c.self.inside.histograms.misses_by_occupancy.items ≡ c.args.self.now.distances
-distances c = ap (λ v. v.distances) c.self.view_is
-
-all : (c : After-self) → sum (distances_of c.self.inside.histograms.probes
-    c.self.inside.histograms.behind.items
-    c.self.inside.histograms.misses_by_occupancy.items)
-    ≡ c.self.inside.histograms.probes - compared_behind c.self.inside.histograms.behind.items
-    c.self.inside.histograms.misses_by_occupancy.items + sum c.self.inside.histograms.behind.items
-all c = sum-distances c.self.inside.histograms.probes c.self.inside.histograms.behind.items
-    c.self.inside.histograms.misses_by_occupancy.items c.self.invariant.none_in_front
+all : (h : Histograms) (v : ProfileState) → AreHistogramsOf h v →
+    sum (distances_of h.probes h.behind.items h.misses_by_occupancy.items)
+    ≡ h.probes - compared_behind h.behind.items h.misses_by_occupancy.items + sum h.behind.items
+all h v of = sum-distances h.probes h.behind.items h.misses_by_occupancy.items
+    of.sound.none_in_front
 
 -- the hits at a distance below `to`, and the others
 split : (c : After-total) → sum
     (take c.args.to c.args.self.now.distances) + c.total.result ≡ c.hits.result
 split c =
-    let rows = c.self.inside in
+    let h = c.histograms.result.now in
     let far = c.total.ensures ∙ ap (λ ns. sum (take (length ns - c.args.to) (drop c.args.to ns)))
     c.deref.ensures.value in
-    let is = ap (λ v. v.distances) c.self.view_is in
+    let is = ap (λ v. v.distances) c.histograms.ensures.whole in
     omega (
       arith,
-      sum-rest rows.histograms.behind.items (rows.histograms.probes - compared_behind
-          rows.histograms.behind.items
-          rows.histograms.misses_by_occupancy.items) c.args.to c.requires.some,
+      sum-rest h.behind.items (h.probes - compared_behind h.behind.items
+          h.misses_by_occupancy.items) c.args.to c.requires.some,
       far,
       ap (λ ds. sum (take c.args.to ds)) is,
       ap sum is,
@@ -44,10 +38,10 @@ total-requires c =
     let n = length c.deref.result.now - c.args.to in
     omega (
       arith,
-      part-le c.deref.result.now c.self.inside.histograms.behind.items n c.args.to
+      part-le c.deref.result.now c.histograms.result.now.behind.items n c.args.to
           c.deref.ensures.value,
-      c.self.invariant.fed,
-      all (goal.at.total-requires c).After-self,
+      c.histograms.ensures.sound.fed,
+      all _ _ c.histograms.ensures,
     )
 
 pub overflow_sub-result : goal.overflow_sub-result
@@ -57,11 +51,11 @@ pub total-requires-else-from-eq0 : goal.total-requires-else-from-eq0
 total-requires-else-from-eq0 c =
     omega (
       arith,
-      part-le c.deref-else-from-eq0.result.now c.self.inside.histograms.behind.items (c.args.to -
-          c.args.from)
-          c.args.from c.deref-else-from-eq0.ensures.value,
-      c.self.invariant.fed,
-      all (goal.at.total-requires-else-from-eq0 c).After-self,
+      part-le c.deref-else-from-eq0.result.now
+          c.histograms-else-from-eq0.result.now.behind.items (c.args.to - c.args.from) c.args.from
+          c.deref-else-from-eq0.ensures.value,
+      c.histograms-else-from-eq0.ensures.sound.fed,
+      all _ _ c.histograms-else-from-eq0.ensures,
     )
 
 pub returns-then-from-eq0 : goal.returns-then-from-eq0

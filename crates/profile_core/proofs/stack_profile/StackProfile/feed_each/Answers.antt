@@ -1,9 +1,11 @@
 -- Each reference is fed, or left out if it finds its block in front.
 use Rattle.std.proofs.Common.{◌<◌, ◌∙◌, sym, length, arith}
 use Rattle.profile_core.proofs.Batches.{fed_front, fed_behind}
-use Rattle.profile_core.proofs.feed.feed_each.Goals as goal
-use Rattle.profile_core.proofs.feed.feed_each.Goals.{then-not-feed_in_batch}
-use Rattle.profile_core.proofs.feed.feed_each.Goals.{else-not-feed_in_batch}
+use Rattle.profile_core.proofs.stack_profile.StackProfile.feed_each.Goals as goal
+use Rattle.profile_core.proofs.stack_profile.StackProfile.feed_each.Goals.{
+  then-not-feed_in_batch,
+  else-not-feed_in_batch,
+}
 
 pub loop-at-preserved : goal.loop-at-preserved
 loop-at-preserved g c =
@@ -21,5 +23,5 @@ loop-at-preserved g c =
         | else-not-feed_in_batch w ↦ rw (w.addrs-is, w.fed-is) (fed_front so_far inside _ fed.step
             fed.more (sym fed.front ∙ w.if-not-feed_in_batch.false))
       ],
-      fed.sound,
+      c.loop-at.invariant.1,
     )
