@@ -9,9 +9,9 @@ use Rattle.std.proofs.lemmas.Option.{slice_get_within}
 use Rattle.block_index.specs.SlotLists.{SlotListsValue, has_slot, is_listed, list_at}
 use Rattle.block_index.specs.SlotLists.{with_first, without_slot, AreApart}
 use Rattle.block_index.specs.BlockIndex.{IndexValue, HasBlock, NoSlotHas, AreDifferent}
-use Rattle.block_index.specs.BlockIndex.{chain_of_block}
+use Rattle.block_index.specs.Chains.{chain_of_block}
 use Rattle.block_index.specs.BlockIndex.{blocks_listed, AreOnChains}
-use Rattle.block_index.proofs.ListLemmas.{listed, listed-in, get-has}
+use Rattle.block_index.proofs.ListLemmas.{listed, listed-in}
 use Rattle.block_index.proofs.ChangeLemmas.{pushed_has, pushed_listed, pushed_same, not_in}
 use Rattle.block_index.proofs.ChangeLemmas.{removed_has, removed_listed, removed_same}
 
@@ -124,17 +124,8 @@ module _ (v : SlotListsValue) (blocks : List ℕ) (k s : ℕ) (kl : k < length v
       ∙ ap (λ t. set (blocks_listed v.lists 0 blocks) s (cond t (Some x) None))
       (removed_listed v k s kl apart inside)
 
--- places before the end of a list
-pub get-none : {X : Type 0} (xs : List X) (n i : ℕ) (x : X) → slice_get xs n ≡ None →
-    slice_get xs i ≡ Some x → i < n
-get-none [] n i x at_n at_i = absurd (cc)
-get-none (y ∷ xs) zero i x at_n at_i = absurd (cc)
-get-none (y ∷ xs) (suc n) zero x at_n at_i = omega arith
-get-none (y ∷ xs) (suc n) (suc i) x at_n at_i =
-    let lt = get-none xs n i x at_n at_i in omega arith
-
 module _ {blocks : List ℕ} {v : SlotListsValue} (h : AreOnChains blocks v) where
-  abbrev value : IndexValue
+  abbrev pub value : IndexValue
   value = record { blocks = blocks_listed v.lists 0 blocks }
 
   abbrev chain : ℕ → ℕ
@@ -159,14 +150,6 @@ module _ {blocks : List ℕ} {v : SlotListsValue} (h : AreOnChains blocks v) whe
   has_chain apart k s inside =
       has-listed v.lists blocks s (omega (arith, apart.below k s inside, h.slots_are))
       (listed s v.lists k inside)
-
-  -- a slot that is not found in the first n of a chain that has no more
-  pub off_chain : (b k n s : ℕ) → chain b ≡ k → slice_get (list_at v k) n ≡ None →
-      ((i : ℕ) → i < n → slice_get (list_at v k) i ≡ Some s → ⊥) → HasBlock value s b → ⊥
-  off_chain b k n s is end before has =
-      let P : ℕ → Type 0 = λ j. has_slot s (list_at v j) ≡ true in
-      let at = get-has s (list_at v k) (subst P is (on_chain s b has)) in
-      before at.0 (get-none (list_at v k) n at.0 s end at.1) at.1
 
   -- slot s, which has no block, with block b
   module _ (k s b : ℕ) (kl : k < length v.lists) (is : chain b ≡ k)

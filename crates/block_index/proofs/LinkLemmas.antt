@@ -7,6 +7,7 @@ use Rattle.std.specs.Prelude.{replicate, slice_get}
 use Rattle.std.specs.List.{remove}
 use Rattle.std.proofs.lemmas.Bool.{cases_eq, false_from_ne_true, false≢true}
 use Rattle.std.proofs.lemmas.List.{get_or-drop, length-drop, length-replicate}
+use Rattle.block_index.specs.Chains.{IsOnChain}
 use Rattle.block_index.specs.SlotLists.{SlotListsValue, has_slot, is_listed, index_of_slot, list_at}
 use Rattle.block_index.specs.SlotLists.{with_first, without_slot, AreOnce, IsPath}
 use Rattle.block_index.specs.SlotLists.{linked_slots, linked_lists, slot_at_node, AreLinked}
@@ -18,7 +19,7 @@ use Rattle.block_index.proofs.ChangeLemmas.{removed_other, removed_apart}
 use Rattle.block_index.proofs.PathLemmas.{back, forth, back_and_forth, after_on, before_on}
 use Rattle.block_index.proofs.PathLemmas.{path_kept, linked_slots-path, pushed_path, removed_path}
 use Rattle.block_index.proofs.PathLemmas.{before_pushed, after_pushed, path_first, path_last}
-use Rattle.block_index.proofs.PathLemmas.{path_next}
+use Rattle.block_index.proofs.PathLemmas.{path_on_chain, on_chain_path}
 
 empty_at : (n k : ℕ) → get_or {A = List ℕ} (replicate n []) k [] ≡ []
 empty_at zero k = refl
@@ -82,12 +83,18 @@ module _ {before after : List ℕ} {v : SlotListsValue} (h : AreLinked before af
       path_last before after v.slots (v.slots + k) (list_at v k) (v.slots + k) (h.paths k kl)
       (h.apart.below k) (omega arith)
 
-  pub list_next : (k s : ℕ) → k < length v.lists → has_slot s (list_at v k) ≡ true →
-      slot_at_node v.slots (get_or after s 0) ≡ slice_get (list_at v k)
-      (index_of_slot s (list_at v k) + 1)
-  list_next k s kl inside =
-      path_next before after v.slots (v.slots + k) (list_at v k) (v.slots + k) s (h.paths k kl)
-      (h.apart.below k) (omega arith) inside
+  -- what is on a list is on the chain that begins behind its head, and the other way round
+  pub list_on_chain : (k s : ℕ) → k < length v.lists → has_slot s (list_at v k) ≡ true →
+      IsOnChain after v.slots (get_or after (v.slots + k) 0) s
+  list_on_chain k s kl inside =
+      path_on_chain before after v.slots (v.slots + k) (list_at v k) (v.slots + k) s (h.paths k kl)
+      (h.apart.below k) inside
+
+  pub on_chain_list : (k s : ℕ) → k < length v.lists → s < v.slots →
+      IsOnChain after v.slots (get_or after (v.slots + k) 0) s → has_slot s (list_at v k) ≡ true
+  on_chain_list k s kl sl on =
+      on_chain_path before after v.slots on.0 (v.slots + k) (list_at v k) (v.slots + k) s
+      (h.paths k kl) (omega arith) sl on.1
 
   -- with slot s in front of list k
   module _ (k s : ℕ) (kl : k < length v.lists) (sl : s < v.slots)

@@ -2,7 +2,7 @@
 use Rattle.std.proofs.Common.{◌≡◌, ℕ, zero, suc, ◌<◌, ◌≤◌, ◌⊎◌, inl, inr, true, false}
 use Rattle.std.proofs.Common.{eqb, ◌||◌, List, [], ◌∷◌, length, get_or, refl, sym, ◌∙◌, ap, subst}
 use Rattle.std.proofs.Common.{arith, eq-eqb}
-use Rattle.std.specs.Prelude.{map, slice_get, Some}
+use Rattle.std.specs.Prelude.{map}
 use Rattle.std.specs.List.{remove, IsDistinct, AllByRecursion, list_any}
 use Rattle.std.proofs.lemmas.Bool.{ne_eqb, eqb-true, false≢true, cases_eq, or_cases}
 use Rattle.std.proofs.lemmas.Bool.{or_right, or_parts, or_from, or_left, false_from_ne_true}
@@ -50,29 +50,6 @@ index-here s x xs e = let t : eqb x s ≡ true = eq-eqb x s e in grind arith
 pub index-behind : (s x : ℕ) (xs : List ℕ) → (x ≡ s → ⊥) →
     index_of_slot s (x ∷ xs) ≡ suc (index_of_slot s xs)
 index-behind s x xs ne = let t : eqb x s ≡ false = ne_eqb x s ne in grind arith
-
-pub has-get : (s : ℕ) (xs : List ℕ) (i : ℕ) → slice_get xs i ≡ Some s → has_slot s xs ≡ true
-has-get s [] i at = absurd (cc)
-has-get s (x ∷ xs) zero at = let e : x ≡ s = cc in has-here s x xs e
-has-get s (x ∷ xs) (suc i) at = has-behind s x xs (has-get s xs i at)
-
-pub index-at : (s : ℕ) (xs : List ℕ) (i : ℕ) → AreOnce xs → slice_get xs i ≡ Some s →
-    index_of_slot s xs ≡ i
-index-at s [] i once at = absurd (cc)
-index-at s (x ∷ xs) zero once at = let e : x ≡ s = cc in index-here s x xs e
-index-at s (x ∷ xs) (suc i) once at =
-    index-behind s x xs (λ e. let P : ℕ → Type 0 = λ y. has_slot y xs ≡ false in
-    not-and-has s xs (subst P e once.0) (has-get s xs i at))
-    ∙ ap (λ j. suc j) (index-at s xs i once.1 at)
-
-pub get-has : (s : ℕ) (xs : List ℕ) → has_slot s xs ≡ true →
-    (i : ℕ) × (slice_get xs i ≡ Some s)
-get-has s [] h = absurd (false≢true h)
-get-has s (x ∷ xs) h =
-    elim (has-cases s x xs h) [
-      | inl e ↦ (0, ap (λ y. Some y) e)
-      | inr e ↦ (suc (get-has s xs e).0, (get-has s xs e).1)
-    ]
 
 -- a list without one of its slots
 pub has-remove : (s i : ℕ) (xs : List ℕ) → has_slot s (remove xs i) ≡ true → has_slot s xs ≡ true

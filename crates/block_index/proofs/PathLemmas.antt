@@ -1,10 +1,11 @@
 -- Paths from node to node, after a change to the links.
-use Rattle.std.proofs.Common.{◌≡◌, ℕ, zero, suc, ◌+◌, ◌-◌, ◌<◌, ◌≤◌, inl, inr, true, false, ltb}
+use Rattle.std.proofs.Common.{◌≡◌, ℕ, zero, suc, ◌-◌, ◌<◌, ◌≤◌, inl, inr, true, false, ltb}
 use Rattle.std.proofs.Common.{List, [], ◌∷◌, length, get_or, set, refl, sym, ◌∙◌, ap, subst}
 use Rattle.std.proofs.Common.{arith, length-set, get_or-set_same, get_or-set_other}
 use Rattle.std.specs.Prelude.{slice_get, Some, None}
 use Rattle.std.specs.List.{remove}
-use Rattle.std.proofs.lemmas.Bool.{cases_eq, lt-ltb, le-ltb, cond-true, cond-false}
+use Rattle.std.proofs.lemmas.Bool.{cases_eq, lt-ltb, le-ltb, cond-true, cond-false, false≢true}
+use Rattle.block_index.specs.Chains.{IsAfter, IsOnChain}
 use Rattle.block_index.specs.SlotLists.{has_slot, index_of_slot, AreOnce, IsLink, IsPath}
 use Rattle.block_index.specs.SlotLists.{linked_slots, slot_at_node}
 use Rattle.block_index.proofs.ListLemmas.{has-head, has-here, has-behind, has-cases, has-other}
@@ -113,6 +114,36 @@ module _ (before after : List ℕ) where
       (λ s h. below s (has-behind s x xs h)) le (omega (arith, long)))
 
   module _ (slots : ℕ) where
+    -- what is on the chain behind a path's first node is on the path, and the other way round
+    pub path_on_chain : (a : ℕ) (xs : List ℕ) (b s : ℕ) → IsPath before after a xs b →
+        ((t : ℕ) → has_slot t xs ≡ true → t < slots) → has_slot s xs ≡ true
+        → IsOnChain after slots (get_or after a 0) s
+    path_on_chain a [] b s l below inside = absurd (false≢true inside)
+    path_on_chain a (x ∷ xs) b s (l, path) below inside =
+        elim (has-cases s x xs inside) [
+          | inl e ↦ (0, l.after_is ∙ e)
+          | inr e ↦
+              let rest = path_on_chain x xs b s path (λ t h. below t (has-behind t x xs h)) e in
+              let P : ℕ → Type 0 = λ i. IsAfter after slots rest.0 (get_or after i 0) s in (
+                suc rest.0,
+                (
+                  omega (arith, l.after_is, below x (has-head x xs)),
+                  subst P (sym l.after_is) rest.1,
+                ),
+              )
+        ]
+
+    pub on_chain_path : (n a : ℕ) (xs : List ℕ) (b s : ℕ) → IsPath before after a xs b →
+        slots ≤ b → s < slots → IsAfter after slots n (get_or after a 0) s → has_slot s xs ≡ true
+    on_chain_path zero a [] b s l le lt same = absurd (omega (arith, l.after_is, le, lt, same))
+    on_chain_path (suc n) a [] b s l le lt (within, at) =
+        absurd (omega (arith, l.after_is, le, within))
+    on_chain_path zero a (x ∷ xs) b s (l, path) le lt same =
+        has-here s x xs (sym l.after_is ∙ same)
+    on_chain_path (suc n) a (x ∷ xs) b s (l, path) le lt (within, at) =
+        let P : ℕ → Type 0 = λ i. IsAfter after slots n (get_or after i 0) s in
+        has-behind s x xs (on_chain_path n x xs b s path le lt (subst P l.after_is at))
+
     pub path_first : (a : ℕ) (xs : List ℕ) (b : ℕ) → IsPath before after a xs b →
         ((s : ℕ) → has_slot s xs ≡ true → s < slots) → slots ≤ b
         → slot_at_node slots (get_or after a 0) ≡ slice_get xs 0
@@ -142,25 +173,6 @@ module _ (before after : List ℕ) where
         let e : length (x ∷ xs) - 1 ≡ length xs = omega arith in
         cond-true (ltb m slots) (Some m) None (lt-ltb m slots (below m on))
         ∙ sym (ap (slice_get (x ∷ xs)) e ∙ last_is a x xs b (l, path))
-
-    pub path_next : (a : ℕ) (xs : List ℕ) (b s : ℕ) → IsPath before after a xs b →
-        ((t : ℕ) → has_slot t xs ≡ true → t < slots) → slots ≤ b → has_slot s xs ≡ true
-        → slot_at_node slots (get_or after s 0) ≡ slice_get xs (index_of_slot s xs + 1)
-    path_next a [] b s l below le h = absurd (cc)
-    path_next a (x ∷ xs) b s (l, path) below le h =
-        let below' : (t : ℕ) → has_slot t xs ≡ true → t < slots =
-        λ t g. below t (has-behind t x xs g) in
-        elim (cases_eq x s) [
-          | inl e ↦
-              let i : index_of_slot s (x ∷ xs) + 1 ≡ 1 = omega (arith, index-here s x xs e) in
-              ap (λ n. slot_at_node slots (get_or after n 0)) (sym e) ∙
-              path_first x xs b path below' le ∙ sym (ap (slice_get (x ∷ xs)) i)
-          | inr ne ↦
-              let i : index_of_slot s (x ∷ xs) + 1 ≡ suc (index_of_slot s xs + 1) =
-              omega (arith, index-behind s x xs ne) in
-              path_next x xs b s path below' le (has-other s x xs h ne) ∙
-              sym (ap (slice_get (x ∷ xs)) i)
-        ]
 
 -- a slot s in front, between node h and the one after it
 module _ (before after : List ℕ) (h s : ℕ) where

@@ -1,7 +1,8 @@
 -- Which block each slot has, and the chains by which it is found.
-use Rattle.std.specs.Prelude.{ℕ, suc, ◌≡◌, ◌≤◌, ◌+◌, ◌*◌, ◌/◌, ◌%◌, ◌^◌, true, if◌then◌else◌}
+use Rattle.std.specs.Prelude.{ℕ, suc, ◌≡◌, ◌≤◌, ◌+◌, ◌/◌, ◌^◌, true, if◌then◌else◌}
 use Rattle.std.specs.Prelude.{Option, Some, None, List, [], ◌∷◌, length, slice_get, slice_index}
 use Rattle.block_index.specs.SlotLists.{SlotListsValue, has_slot, is_listed, list_at}
+use Rattle.block_index.specs.Chains.{chain_of_block}
 
 -- the block of each slot, if it has one
 pub record IndexValue : Type 0 where
@@ -18,10 +19,6 @@ NoSlotHas v b = (s : ℕ) → HasBlock v s b → ⊥
 -- no two slots have the same block
 abbrev pub AreDifferent : IndexValue → Type 0
 AreDifferent v = (s t b : ℕ) → HasBlock v s b → HasBlock v t b → s ≡ t
-
--- the chain of block b among n
-abbrev pub chain_of_block : ℕ → ℕ → ℕ
-chain_of_block n b = b * 0x9E37_79B9_7F4A_7C15 % 2 ^ 64 / 2 ^ 32 * n / 2 ^ 32
 
 -- of each slot from s on the block, if it is in a list
 unfoldable pub blocks_listed : List (List ℕ) → ℕ → List ℕ → List (Option ℕ)

@@ -1,2 +1,3 @@
 pub mod SlotLists
+pub mod Chains
 pub mod BlockIndex

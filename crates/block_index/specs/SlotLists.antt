@@ -50,6 +50,11 @@ pub record AreApart (v : SlotListsValue) : Type 0 where
       j ≡ k
   pub once : (k : ℕ) → AreOnce (list_at v k)
 
+-- no slot of list k from `from` on and before `end` has block b
+abbrev pub NoneOfListHas : SlotListsValue → ℕ → List ℕ → ℕ → ℕ → ℕ → Type 0
+NoneOfListHas v k blocks b from end = (s : ℕ) → has_slot s (list_at v k) ≡ true → from ≤ s →
+    s < end → slice_index blocks s ≡ b → ⊥
+
 -- a node, if it is a slot
 abbrev pub slot_at_node : ℕ → ℕ → Option ℕ
 slot_at_node slots node = if nat_lt node slots then Some node else None

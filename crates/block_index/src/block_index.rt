@@ -2,15 +2,11 @@
 ghost use Rattle.std.specs.Prelude.{◌≡◌, ◌*◌, ◌<◌, ◌≤◌, ◌^◌, ℕ, Some, None, length, replicate};
 ghost use Rattle.std.specs.Prelude.{slice_get, slice_set, IfOk, MatchOption};
 ghost use Rattle.block_index.specs.BlockIndex.{IndexValue, HasBlock, NoSlotHas, AreDifferent};
-ghost use Rattle.block_index.specs.BlockIndex.{chain_of_block};
 
+use crate::chains::chain_among;
 use crate::slot_lists::SlotLists;
 use std::alloc::{AllocError, Global};
 use std::marker::Model;
-
-/// How many slots of a chain are looked at. A chain is hardly ever longer, unless its blocks were
-/// chosen for it. Then the slots are searched in order, which is faster.
-const LONGEST: usize = 32;
 
 /// Which slot has a block. Each slot that has one is on the chain of its block, and no other slot
 /// is on a chain; there is a chain for each two slots, and one more.
@@ -65,35 +61,7 @@ impl BlockIndex {
     {
         self.chains.are_apart();
         let chain = chain_among(self.blocks.len() / 2 + 1, block);
-        let mut next = self.chains.first(chain);
-        for step in 0..LONGEST {
-            let Some(slot) = next else {
-                return None;
-            };
-            if self.blocks[slot] == block {
-                return Some(slot);
-            }
-            next = self.chains.next(chain, slot);
-        }
-        self.search(block, from, end)
-    }
-
-    /// The same by a walk over the slots from `from` on and before `end`.
-    #[inline(never)]
-    fn search(&self, block: u64, from: usize, end: usize) -> Option<usize>
-        requires order { from ≤ end }
-        requires end { end ≤ length self.now.blocks }
-        requires within { (s : ℕ) → HasBlock self.now s block → (from ≤ s) × (s < end) }
-        requires filled { (s : ℕ) → from ≤ s → s < end → (b : ℕ) × HasBlock self.now s b }
-        ensures { MatchOption result (NoSlotHas self.now block)
-            (λ slot. HasBlock self.now slot block) }
-    {
-        for slot in from..end {
-            if self.block(slot) == block {
-                return Some(slot);
-            }
-        }
-        None
+        self.chains.find(chain, &self.blocks, block, from, end)
     }
 
     /// Gives a slot that has no block one that no slot has.
@@ -127,16 +95,4 @@ impl BlockIndex {
     {
         let _ = &self.blocks;
     }
-}
-
-/// The chain of a block: blocks at a stride of any power of two are spread over all.
-#[inline(always)]
-fn chain_among(chains: usize, block: u64) -> usize
-    requires some { 1 ≤ chains }
-    requires few { chains ≤ 2 ^ 24 }
-    ensures is { result ≡ chain_of_block chains block }
-    ensures within { result < chains }
-{
-    let mixed = block.wrapping_mul(0x9E37_79B9_7F4A_7C15) / 0x1_0000_0000;
-    (mixed * chains as u64 / 0x1_0000_0000) as usize
 }

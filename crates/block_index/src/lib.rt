@@ -2,7 +2,9 @@
 #![tactic(auto)]
 
 pub mod block_index;
+pub mod chains;
 pub mod slot_lists;
 
 pub use block_index::BlockIndex;
+pub use chains::{chain_among, find_on_chain};
 pub use slot_lists::SlotLists;

@@ -1,12 +1,13 @@
 //! Lists of slots, no slot in two of them, that change in a few steps.
 ghost use Rattle.std.specs.Prelude.{◌≡◌, ◌+◌, ◌-◌, ◌<◌, ◌≤◌, ◌^◌, [], true, false, length};
 ghost use Rattle.std.specs.Prelude.{replicate};
-ghost use Rattle.std.specs.Prelude.{slice_get, IfOk};
+ghost use Rattle.std.specs.Prelude.{slice_get, slice_index, IfOk, MatchOption, IsTrue, ◌⊎◌};
 ghost use Rattle.std.specs.List.{range_with_len};
-ghost use Rattle.block_index.specs.SlotLists.{SlotListsValue, has_slot, is_listed, index_of_slot};
-ghost use Rattle.block_index.specs.SlotLists.{list_at, with_first, without_slot, AreApart};
-ghost use Rattle.block_index.specs.SlotLists.{slot_at_node};
+ghost use Rattle.block_index.specs.SlotLists.{SlotListsValue, has_slot, is_listed, list_at};
+ghost use Rattle.block_index.specs.SlotLists.{with_first, without_slot, AreApart, slot_at_node};
+ghost use Rattle.block_index.specs.SlotLists.{NoneOfListHas};
 
+use crate::chains::find_on_chain;
 use std::alloc::{AllocError, Global};
 use std::marker::Model;
 
@@ -64,15 +65,33 @@ impl SlotLists {
         slot_at(self.before[self.slots + list], self.slots)
     }
 
-    /// The slot after one in a list. The list isn't looked at: it is named for the contract.
+    /// The slot of a list that has a block: `blocks` has that of each slot. If the list is long,
+    /// the slots from `from` on and before `end` are searched in order instead. If none is found,
+    /// none of these that is in the list has the block.
     #[inline(always)]
-    pub fn next(&self, list: usize, slot: usize) -> Option<usize>
+    pub(crate) fn find(
+        &self,
+        list: usize,
+        blocks: &[u64],
+        block: u64,
+        from: usize,
+        end: usize,
+    ) -> Option<usize>
         requires list { list < length self.now.lists }
-        requires listed { has_slot slot (list_at self.now list) ≡ true }
-        ensures { result ≡ slice_get (list_at self.now list)
-            (index_of_slot slot (list_at self.now list) + 1) }
+        requires blocks { length blocks.now ≡ self.now.slots }
+        requires end { end ≤ self.now.slots }
+        ensures { MatchOption result (NoneOfListHas self.now list blocks.now block from end)
+            (λ slot. (slot < self.now.slots) × (slice_index blocks.now slot ≡ block)
+            × (IsTrue (has_slot slot (list_at self.now list)) ⊎ ((from ≤ slot) × (slot < end)))) }
     {
-        slot_at(self.after[slot], self.slots)
+        find_on_chain(
+            &self.after,
+            self.after[self.slots + list],
+            blocks,
+            block,
+            from,
+            end,
+        )
     }
 
     /// Puts a slot that is in no list in front of one.

@@ -5,10 +5,9 @@ use Rattle.std.proofs.Common.{arith, length-set, get_or-set_same, get_or-set_oth
 use Rattle.std.specs.Prelude.{replicate}
 use Rattle.std.proofs.Math.Nat.{mul-lt-mul_of_pos_right}
 use Rattle.std.proofs.lemmas.Bool.{cases_eq}
-use Rattle.std.proofs.lemmas.List.{get_or_past}
 use Rattle.deep_list.specs.Slots.{SlotsValue}
-use Rattle.deep_list.specs.Chains.{ChainsValue, AreChains, AreFiledFrom, IsAfter, IsOnChain}
-use Rattle.deep_list.specs.Chains.{IsFiled, chain_of, with_slot}
+use Rattle.block_index.specs.Chains.{chain_of_block, IsAfter, IsOnChain}
+use Rattle.deep_list.specs.Chains.{ChainsValue, AreChains, AreFiledFrom, IsFiled, with_slot}
 
 -- numbers below 2^32, times n
 pub spread_small : (m n : ℕ) → 1 ≤ n → m < 2 ^ 32 → m * n / 2 ^ 32 < n
@@ -16,7 +15,7 @@ spread_small m n some lt =
     let p : m * n < 2 ^ 32 * n = mul-lt-mul_of_pos_right lt some in
     omega (arith, p)
 
-pub chain_small : (n x : ℕ) → 1 ≤ n → chain_of n x < n
+pub chain_small : (n x : ℕ) → 1 ≤ n → chain_of_block n x < n
 chain_small n x some = spread_small (x * 0x9E37_79B9_7F4A_7C15 % 2 ^ 64 / 2 ^ 32) n some
     (omega arith)
 
@@ -36,37 +35,27 @@ same_most (suc count) n zero = omega arith
 same_most (suc count) n (suc k) = same_most count n k
 
 -- a chain that a changed slot is not on
-pub after_set : (next : List ℕ) (top t v : ℕ) → t < top →
-    ((s : ℕ) → top ≤ s → s < length next → top ≤ get_or next s 0)
-    → (m a s : ℕ) → top ≤ a → IsAfter next m a s → IsAfter (set next t v) m a s
-after_set next top t v lt from zero a s le at = at
-after_set next top t v lt from (suc m) a s le (within, at) =
-    let P : ℕ → Type 0 = λ b. IsAfter (set next t v) m b s in (
-      omega (arith, within, length-set next t v),
-      subst P (sym (get_or-set_other next t a v 0 (omega arith))) (after_set next top t v lt from m
-          (get_or next a 0) s (from a le within) at),
+pub after_set : (next : List ℕ) (n top t v : ℕ) → t < top →
+    ((s : ℕ) → top ≤ s → s < n → top ≤ get_or next s 0)
+    → (m a s : ℕ) → top ≤ a → IsAfter next n m a s → IsAfter (set next t v) n m a s
+after_set next n top t v lt from zero a s le at = at
+after_set next n top t v lt from (suc m) a s le (within, at) =
+    let P : ℕ → Type 0 = λ b. IsAfter (set next t v) n m b s in (
+      within,
+      subst P (sym (get_or-set_other next t a v 0 (omega arith))) (after_set next n top t v lt from
+          m (get_or next a 0) s (from a le within) at),
     )
-
--- the slot after a slot that is not wanted
-pub on_chain_past : (next : List ℕ) (a s : ℕ) → (a ≡ s → ⊥) → IsOnChain next a s →
-    IsOnChain next (get_or next a 0) s
-on_chain_past next a s other (zero, same) = absurd (other same)
-on_chain_past next a s other (suc m, (within, at)) = (m, at)
-
--- no slot comes after the last
-pub on_chain_none : (next live : List ℕ) (a s : ℕ) → length next ≡ length live → a ≡ length live →
-    get_or live s 0 ≡ 1 → IsOnChain next a s → ⊥
-on_chain_none next live a s long end one (zero, same) =
-    omega (arith, get_or_past live s 0 (omega (arith, end, same)), one)
-on_chain_none next live a s long end one (suc m, (within, at)) = omega (arith, within, long, end)
 
 module _ {top n : ℕ} {v : ChainsValue} (h : AreChains top n v) where
   -- what is on a chain comes later
-  pub chain_rises : (m a s : ℕ) → top ≤ a → IsAfter v.next m a s → a ≤ s
-  chain_rises zero a s le same = omega (arith, same)
-  chain_rises (suc m) a s le (within, at) =
-      let up = h.next_from a le (omega (arith, within, h.long)) in
-      omega (arith, up, chain_rises m (get_or v.next a 0) s (omega (arith, le, up)) at)
+  after_rises : (m a s : ℕ) → top ≤ a → IsAfter v.next n m a s → a ≤ s
+  after_rises zero a s le same = omega (arith, same)
+  after_rises (suc m) a s le (within, at) =
+      let up = h.next_from a le within in
+      omega (arith, up, after_rises m (get_or v.next a 0) s (omega (arith, le, up)) at)
+
+  pub chain_rises : (a s : ℕ) → top ≤ a → IsOnChain v.next n a s → a ≤ s
+  chain_rises a s le on = after_rises on.0 a s le on.1
 
 module _ {top n : ℕ} {v : ChainsValue} (h : AreChains top n v) (t : ℕ) (next : t + 1 ≡ top)
     (lt : t < n) where
@@ -120,11 +109,11 @@ module _ {top n : ℕ} {v : ChainsValue} (h : AreChains top n v) (t : ℕ) (next
       }
 
   -- the slot in front
-  more_here : (x : ℕ) → IsFiled (with_slot v t (chain_of (length v.heads) x)) x t
+  more_here : (x : ℕ) → IsFiled (with_slot v t (chain_of_block (length v.heads) x)) x t
   more_here x =
-      let k : ℕ = chain_of (length v.heads) x in (
+      let k : ℕ = chain_of_block (length v.heads) x in (
         0,
-        ap (λ m. get_or (set v.heads k t) (chain_of m x) 0) (length-set v.heads k t)
+        ap (λ m. get_or (set v.heads k t) (chain_of_block m x) 0) (length-set v.heads k t)
             ∙ get_or-set_same v.heads k t 0 (chain_small (length v.heads) x h.some),
       )
 
@@ -132,35 +121,39 @@ module _ {top n : ℕ} {v : ChainsValue} (h : AreChains top n v) (t : ℕ) (next
   more_other : (k y s : ℕ) → k < length v.heads → IsFiled v y s → IsFiled (with_slot v t k) y s
   more_other k y s within (m, at) =
       let head : ℕ = get_or v.heads k 0 in
-      let j : ℕ = chain_of (length v.heads) y in
+      let j : ℕ = chain_of_block (length v.heads) y in
       let next' : List ℕ = set v.next t head in
       let heads' : List ℕ = set v.heads k t in
       let from : (i : ℕ) → top ≤ i → i < length v.next → top ≤ get_or v.next i 0 =
       λ i le less. omega (arith, le, h.next_from i le (omega (arith, less, h.long))) in
-      let kept : IsAfter next' m (get_or v.heads j 0) s =
-      after_set v.next top t head (omega arith) from m (get_or v.heads j 0) s
+      let kept : IsAfter next' (length v.next) m (get_or v.heads j 0) s =
+      after_set v.next (length v.next) top t head (omega arith) from m (get_or v.heads j 0) s
       (h.heads_from j (chain_small (length v.heads) y h.some)) at in
-      let P : ℕ → Type 0 = λ i. IsOnChain next' (get_or heads' (chain_of i y) 0) s in
-      let Q : ℕ → Type 0 = λ a. IsOnChain next' a s in
-      let R : ℕ → Type 0 = λ b. IsAfter next' m b s in
-      subst P (sym (length-set v.heads k t)) (elim (cases_eq j k) [
+      let L : ℕ → Type 0 = λ l. IsOnChain next' l (get_or heads' (chain_of_block (length heads') y)
+      0) s in
+      let P : ℕ → Type 0 = λ i. IsOnChain next' (length v.next) (get_or heads' (chain_of_block i y)
+      0) s in
+      let Q : ℕ → Type 0 = λ a. IsOnChain next' (length v.next) a s in
+      let R : ℕ → Type 0 = λ b. IsAfter next' (length v.next) m b s in
+      subst L (sym (length-set v.next t head))
+      (subst P (sym (length-set v.heads k t)) (elim (cases_eq j k) [
         | inl same ↦ subst Q (sym (ap (λ i. get_or heads' i 0) same ∙
             get_or-set_same v.heads k t 0 within)) (
               suc m,
               (
-                omega (arith, h.long, lt, length-set v.next t head),
+                omega (arith, h.long, lt),
                 subst R (ap (λ i. get_or v.heads i 0) same ∙
                     sym (get_or-set_same v.next t head 0 (omega (arith, h.long, lt)))) kept,
               ),
             )
         | inr other ↦ subst Q (sym (get_or-set_other v.heads k j t 0 other)) (m, kept)
-      ])
+      ]))
 
   pub filed_more : (slots : SlotsValue) → AreFiledFrom top v slots
-      → AreFiledFrom t (with_slot v t (chain_of (length v.heads) (get_or slots.blocks t 0))) slots
+      → AreFiledFrom t (with_slot v t (chain_of_block (length v.heads) (get_or slots.blocks t 0))) slots
   filed_more slots filed s le one =
       let x : ℕ = get_or slots.blocks t 0 in
-      let k : ℕ = chain_of (length v.heads) x in
+      let k : ℕ = chain_of_block (length v.heads) x in
       let P : ℕ → Type 0 = λ i. IsFiled (with_slot v t k) (get_or slots.blocks i 0) i in
       elim (cases_eq s t) [
         | inl same ↦ subst P (sym same) (more_here x)

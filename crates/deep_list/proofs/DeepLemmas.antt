@@ -5,7 +5,7 @@ use Rattle.std.proofs.Common.{take, get_or, set, sum, refl, sym, ◌∙◌, ap, 
 use Rattle.std.proofs.Common.{length-set, get_or-set_same, get_or-set_other}
 use Rattle.std.specs.Prelude.{replicate}
 use Rattle.std.specs.List.{remove}
-use Rattle.std.proofs.lemmas.Bool.{cases_eq, cases_lt}
+use Rattle.std.proofs.lemmas.Bool.{cases_eq, cases_lt, false≢true}
 use Rattle.std.proofs.lemmas.List.{take_all, length-take-le, get_or_past, nil_from_length}
 use Rattle.std.proofs.lemmas.List.{length-replicate}
 use Rattle.std.proofs.lemmas.List.Sums.{sum_by-set, sum_by_more}
@@ -13,7 +13,8 @@ use Rattle.deep_list.specs.Slots.{SlotsValue, AreFlags, live_blocks, slots_with_
 use Rattle.deep_list.specs.Slots.{slots_without, IsAt}
 use Rattle.deep_list.specs.Slots.{NoneHas}
 use Rattle.deep_list.specs.Chains.{ChainsValue, AreChains, AreFiled, AreFiledFrom, IsFiled}
-use Rattle.deep_list.specs.Chains.{chain_of, with_slot}
+use Rattle.deep_list.specs.Chains.{with_slot}
+use Rattle.block_index.specs.Chains.{chain_of_block}
 use Rattle.deep_list.specs.Deep.{Deep, index_of_block, has_block, place_of, IsOnce, IsRanked}
 use Rattle.deep_list.specs.Deep.{IsDeep, IsGathering, IsGathered}
 use Rattle.deep_list.proofs.ChainLemmas.{chain_small, chains_more, filed_more, same_all, same_most}
@@ -24,7 +25,7 @@ use Rattle.deep_list.proofs.LiveBlockLemmas.{live_blocks-dead, length-live_block
 use Rattle.deep_list.proofs.LiveBlockLemmas.{sum-dead, is_in-live_blocks, absent-live_blocks}
 use Rattle.deep_list.proofs.LiveBlockLemmas.{index-live_blocks, sum-some}
 use Rattle.deep_list.proofs.LiveBlockLemmas.{remove-last, remove-end, once-remove}
-use Rattle.deep_list.proofs.LiveBlockLemmas.{index-absent}
+use Rattle.deep_list.proofs.LiveBlockLemmas.{index-absent, once-apart}
 
 zero_set : (xs : List ℕ) (s k : ℕ) → get_or xs k 0 ≡ 0 → get_or (set xs s 0) k 0 ≡ 0
 zero_set [] s k h = h
@@ -76,6 +77,7 @@ module _ {top end : ℕ} {slots : SlotsValue} {chains : ChainsValue}
     chains_are = let P : ℕ → Type 0 = λ n. AreChains top n chains in
         subst P (sym (length-set slots.live s 0)) r.chains_are;
     filed = λ k one. r.filed k (one_set slots.live s k one);
+    latest = λ k j le lt one. r.latest k j le lt (one_set slots.live s j one);
   }
 
   pub vacated_any : (s : ℕ) → IsRanked top end (slots_without slots s) chains
@@ -136,17 +138,35 @@ module _ {top end : ℕ} {slots : SlotsValue} {chains : ChainsValue}
         subst P (sym (get_or-set_other slots.blocks t s x 0 other))
         (r.filed s (sym (get_or-set_other slots.live t s 1 0 other) ∙ one))
 
-    pub filled_ranked : IsRanked t end (slots_with_block slots t x)
-        (with_slot chains t (chain_of (length chains.heads) x))
-    filled_ranked =
+    filled_latest : has_block x (live_blocks slots.blocks slots.live) ≡ false → (s k : ℕ) → t ≤ s →
+        s < k → get_or (set slots.live t 1) k 0 ≡ 1
+        → get_or (set slots.blocks t x) s 0 ≡ get_or (set slots.blocks t x) k 0 → ⊥
+    filled_latest absent s k le less one e =
+        let other : (k ≡ t → ⊥) = λ same. omega (arith, same, le, less) in
+        let live : get_or slots.live k 0 ≡ 1 =
+        sym (get_or-set_other slots.live t k 1 0 other) ∙ one in
+        let is = get_or-set_other slots.blocks t k x 0 other in
+        elim (cases_eq s t) [
+          | inl same ↦ false≢true (sym absent ∙
+              is_in-live_blocks x slots.blocks slots.live k r.same live
+              (sym is ∙ sym e ∙ ap (λ i. get_or (set slots.blocks t x) i 0) same
+              ∙ get_or-set_same slots.blocks t x 0 (omega (arith, lt, r.same))))
+          | inr later ↦ r.latest s k (omega (arith, le, later, next)) less live
+              (sym (get_or-set_other slots.blocks t s x 0 later) ∙ e ∙ is)
+        ]
+
+    pub filled_ranked : has_block x (live_blocks slots.blocks slots.live) ≡ false →
+        IsRanked t end (slots_with_block slots t x)
+        (with_slot chains t (chain_of_block (length chains.heads) x))
+    filled_ranked absent =
         let here : get_or (set slots.blocks t x) t 0 ≡ x =
         get_or-set_same slots.blocks t x 0 (omega (arith, lt, r.same)) in
         let Q : ℕ → Type 0 = λ y. AreFiledFrom t
-        (with_slot chains t (chain_of (length chains.heads) y)) (slots_with_block slots t x) in
+        (with_slot chains t (chain_of_block (length chains.heads) y)) (slots_with_block slots t x) in
         let from = subst Q here (filed_more r.chains_are t next lt (slots_with_block slots t x)
         filled_filed) in
         let P : ℕ → Type 0 = λ n. AreChains t n
-        (with_slot chains t (chain_of (length chains.heads) x)) in
+        (with_slot chains t (chain_of_block (length chains.heads) x)) in
         record {
           same = length-set slots.blocks t x ∙ r.same ∙ sym (length-set slots.live t 1);
           small = omega (arith, r.small, length-set slots.live t 1);
@@ -157,7 +177,7 @@ module _ {top end : ℕ} {slots : SlotsValue} {chains : ChainsValue}
           behind = λ k le. get_or-set_other slots.live t k 1 0 (omega (arith, r.order)) ∙
               r.behind k le;
           chains_are = subst P (sym (length-set slots.live t 1)) (chains_more r.chains_are t next lt
-              (chain_of (length chains.heads) x)
+              (chain_of_block (length chains.heads) x)
               (chain_small (length chains.heads) x r.chains_are.some));
           filed = λ s one. elim (cases_lt s t) [
             | inl past ↦ absurd (omega (
@@ -168,6 +188,7 @@ module _ {top end : ℕ} {slots : SlotsValue} {chains : ChainsValue}
             ))
             | inr le ↦ from s le one
           ];
+          latest = filled_latest absent;
         }
 
 -- the moves to the end
@@ -180,6 +201,7 @@ gathering_none v same flags = record {
   order = omega arith;
   within = omega arith;
   dead = λ s le lt. absurd (omega arith);
+  full = λ s le lt. absurd (omega arith);
   kept_same = refl;
   left = ap (λ xs. length v.live + sum xs) (take_all (length v.live) v.live (omega arith));
 }
@@ -203,6 +225,7 @@ module _ {from to : ℕ} {v w : SlotsValue} (g : IsGathering from to v w) (f : �
           | inl same ↦ ap (λ j. get_or w.live j 0) same ∙ none
           | inr other ↦ g.dead s (omega arith) lt
         ];
+        full = g.full;
         kept_same = g.kept_same;
         left = omega (arith, g.left, one_more, none);
       }
@@ -226,6 +249,14 @@ module _ {from to : ℕ} {v w : SlotsValue} (g : IsGathering from to v w) (f : �
               | inr other ↦ get_or-set_other w.live f s 0 0 other ∙ g.dead s (omega arith)
                   (omega arith)
             ];
+        full = λ s le lt. elim (cases_eq s u) [
+          | inl same ↦ ap (λ j. get_or (set (set w.live f 0) u 1) j 0) same ∙
+              get_or-set_same (set w.live f 0) u 1 0
+              (omega (arith, g.within, length-set w.live f 0))
+          | inr other ↦ get_or-set_other (set w.live f 0) u s 1 0 other ∙
+              get_or-set_other w.live f s 0 0 (omega (arith, g.order, le, other)) ∙
+              g.full s (omega (arith, le, other)) (omega (arith, lt, long))
+        ];
         kept_same = live_blocks-move w.blocks w.live f u g.same one (omega (arith, g.order))
             (omega (arith, g.within))
             (λ k past le. g.dead k (omega arith) (omega arith)) ∙ g.kept_same;
@@ -247,6 +278,7 @@ gathered {from} {to} {v} {w} g none = record {
   long = g.long;
   flags = g.flags;
   dead = λ s lt. g.dead s (omega arith) lt;
+  full = g.full;
   kept_same = g.kept_same;
   top_is = omega (arith, g.left, ap (λ j. sum (take j w.live)) none);
 }
@@ -254,8 +286,8 @@ gathered {from} {to} {v} {w} g none = record {
 pub gathered_ranked : {top : ℕ} {v w : SlotsValue} (chains : ChainsValue) → IsGathered top v w →
     length w.live ≤ 2 ^ 24
     → AreChains top (length w.live) chains → AreFiled chains w →
-    IsRanked top (length w.live) w chains
-gathered_ranked {top} {v} {w} chains g small are filed = record {
+    IsOnce (live_blocks v.blocks v.live) → IsRanked top (length w.live) w chains
+gathered_ranked {top} {v} {w} chains g small are filed once = record {
   same = g.same;
   small = small;
   flags = g.flags;
@@ -265,6 +297,9 @@ gathered_ranked {top} {v} {w} chains g small are filed = record {
   behind = λ s le. get_or_past w.live s 0 le;
   chains_are = are;
   filed = filed;
+  latest = λ s t le lt one. once-apart w.blocks w.live s t g.same
+      (let P : List ℕ → Type 0 = IsOnce in subst P (sym g.kept_same) once) lt
+      (g.full s le (omega (arith, lt, live_within w.live t one))) one;
 }
 
 -- no live slot
@@ -297,6 +332,7 @@ module _ (cap n : ℕ) (slots : SlotsValue) (long : length slots.blocks ≡ n)
       behind = λ k le. dead k;
       chains_are = let P : ℕ → Type 0 = λ m. AreChains n m chains in subst P (sym size) are;
       filed = λ k one. absurd (omega (arith, dead k, one));
+      latest = λ k j le lt one. absurd (omega (arith, dead j, one));
     };
   }
 

@@ -137,6 +137,25 @@ absent-live_blocks x (b ∷ blocks) (suc n ∷ live) flags none =
     (absent-live_blocks x blocks live (flags_tail (suc n) live flags)
     (λ s lt. none (suc s) (omega arith)))
 
+-- live slots of a list of different blocks
+pub once-apart : (blocks live : List ℕ) (s t : ℕ) → length blocks ≡ length live →
+    IsOnce (live_blocks blocks live) → s < t → get_or live s 0 ≡ 1 → get_or live t 0 ≡ 1
+    → get_or blocks s 0 ≡ get_or blocks t 0 → ⊥
+unfolding live_blocks
+once-apart [] [] s t same once lt at_s at_t e = absurd (omega (arith, at_s))
+once-apart [] (n ∷ live) s t same once lt at_s at_t e = absurd (omega (arith, same))
+once-apart (b ∷ blocks) [] s t same once lt at_s at_t e = absurd (omega (arith, same))
+once-apart (b ∷ blocks) (n ∷ live) s zero same once lt at_s at_t e = absurd (omega (arith, lt))
+once-apart (b ∷ blocks) (zero ∷ live) zero (suc t) same once lt at_s at_t e =
+    absurd (omega (arith, at_s))
+once-apart (b ∷ blocks) (zero ∷ live) (suc s) (suc t) same once lt at_s at_t e =
+    once-apart blocks live s t (omega (arith, same)) once (omega (arith, lt)) at_s at_t e
+once-apart (b ∷ blocks) (suc n ∷ live) zero (suc t) same once lt at_s at_t e =
+    false≢true (sym once.0 ∙
+    is_in-live_blocks b blocks live t (omega (arith, same)) at_t (sym e))
+once-apart (b ∷ blocks) (suc n ∷ live) (suc s) (suc t) same once lt at_s at_t e =
+    once-apart blocks live s t (omega (arith, same)) once.1 (omega (arith, lt)) at_s at_t e
+
 index-front : (x y : ℕ) (xs : List ℕ) → y ≡ x → index_of_block x (y ∷ xs) ≡ 0
 index-front x y xs e = let t : eqb y x ≡ true = eq-eqb y x e in grind arith
 

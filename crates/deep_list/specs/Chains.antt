@@ -1,6 +1,7 @@
 -- Chains of slots, by which the slot of a block is found.
-use Rattle.std.specs.Prelude.{ℕ, zero, suc, ◌≡◌, ◌≤◌, ◌<◌, ◌*◌, ◌/◌, ◌%◌, ◌^◌, List, length}
-use Rattle.std.specs.Prelude.{replicate, slice_set, slice_index}
+use Rattle.std.specs.Prelude.{ℕ, ◌≡◌, ◌≤◌, ◌<◌, ◌^◌, List, length, replicate, slice_set}
+use Rattle.std.specs.Prelude.{slice_index}
+use Rattle.block_index.specs.Chains.{chain_of_block, IsOnChain}
 use Rattle.deep_list.specs.Slots.{SlotsValue}
 
 -- the first slot of each chain, and for each slot the one after it on its chain; the number of
@@ -9,22 +10,10 @@ pub record ChainsValue : Type 0 where
   pub heads : List ℕ
   pub next : List ℕ
 
--- the chain of block x among n
-abbrev pub chain_of : ℕ → ℕ → ℕ
-chain_of n x = x * 0x9E37_79B9_7F4A_7C15 % 2 ^ 64 / 2 ^ 32 * n / 2 ^ 32
-
--- slot s is n slots after slot a on a chain
-abbrev pub IsAfter : List ℕ → ℕ → ℕ → ℕ → Type 0
-IsAfter next zero a s = a ≡ s
-IsAfter next (suc n) a s = (a < length next) × IsAfter next n (slice_index next a) s
-
--- slot s is on a chain that begins with slot a
-abbrev pub IsOnChain : List ℕ → ℕ → ℕ → Type 0
-IsOnChain next a s = (n : ℕ) × IsAfter next n a s
-
 -- slot s is on the chain of block x
 abbrev pub IsFiled : ChainsValue → ℕ → ℕ → Type 0
-IsFiled v x s = IsOnChain v.next (slice_index v.heads (chain_of (length v.heads) x)) s
+IsFiled v x s = IsOnChain v.next (length v.next)
+    (slice_index v.heads (chain_of_block (length v.heads) x)) s
 
 -- each live slot is on the chain of its block
 abbrev pub AreFiled : ChainsValue → SlotsValue → Type 0

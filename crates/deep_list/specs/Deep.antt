@@ -1,5 +1,6 @@
 -- A list of different blocks, the most recent first, and the slots that it stands in.
-use Rattle.std.specs.Prelude.{ℕ, ◌≡◌, ◌≤◌, ◌<◌, ◌+◌, ◌==◌, ◌^◌, Bool, false}
+use Rattle.std.specs.Prelude.{ℕ, ◌≡◌, ◌≢◌, ◌≤◌, ◌<◌, ◌+◌, ◌==◌, ◌^◌, Bool}
+use Rattle.std.specs.Prelude.{false}
 use Rattle.std.specs.Prelude.{if◌then◌else◌, Option, Some, None, List, [], ◌∷◌, length, take, sum}
 use Rattle.std.specs.Prelude.{slice_index}
 use Rattle.std.specs.List.{list_any, position_or_len, remove}
@@ -39,7 +40,8 @@ list_after_exchange d x y = record d {
       take d.cap (y ∷ remove d.blocks (index_of_block x d.blocks));
 }
 
--- slots whose live ones are from top on and before end, and are on the chains of their blocks
+-- slots whose live ones are from top on and before end, and are on the chains of their blocks; a
+-- slot from top on has no block of a later live slot
 pub record IsRanked (top end : ℕ) (slots : SlotsValue) (chains : ChainsValue) : Type 0 where
   pub same : length slots.blocks ≡ length slots.live
   pub small : length slots.live ≤ 2 ^ 24
@@ -50,6 +52,8 @@ pub record IsRanked (top end : ℕ) (slots : SlotsValue) (chains : ChainsValue) 
   pub behind : (s : ℕ) → end ≤ s → slice_index slots.live s ≡ 0
   pub chains_are : AreChains top (length slots.live) chains
   pub filed : AreFiled chains slots
+  pub latest : (s t : ℕ) → top ≤ s → s < t → slice_index slots.live t ≡ 1 →
+      slice_index slots.blocks s ≢ slice_index slots.blocks t
 
 -- the invariant of the fields of a list
 pub record IsDeep (cap held top end : ℕ) (slots : SlotsValue) (chains : ChainsValue) : Type 0 where
@@ -69,14 +73,16 @@ pub record IsGathering (from to : ℕ) (before slots : SlotsValue) : Type 0 wher
   pub order : from ≤ to
   pub within : to ≤ length slots.live
   pub dead : (s : ℕ) → from ≤ s → s < to → slice_index slots.live s ≡ 0
+  pub full : (s : ℕ) → to ≤ s → s < length slots.live → slice_index slots.live s ≡ 1
   pub kept_same : live_blocks slots.blocks slots.live ≡ live_blocks before.blocks before.live
   pub left : length slots.live + sum (take from slots.live) ≡ to + sum before.live
 
--- the live slots at the end, from `top` on
+-- the live slots are those from `top` on
 pub record IsGathered (top : ℕ) (before slots : SlotsValue) : Type 0 where
   pub same : length slots.blocks ≡ length slots.live
   pub long : length slots.live ≡ length before.live
   pub flags : AreFlags slots.live
   pub dead : (s : ℕ) → s < top → slice_index slots.live s ≡ 0
+  pub full : (s : ℕ) → top ≤ s → s < length slots.live → slice_index slots.live s ≡ 1
   pub kept_same : live_blocks slots.blocks slots.live ≡ live_blocks before.blocks before.live
   pub top_is : length slots.live ≡ top + sum before.live

@@ -2,17 +2,15 @@
 //! block. A chain may also have slots that are no longer live.
 ghost use Rattle.std.specs.Prelude.{◌≡◌, ◌<◌, ◌≤◌, ◌^◌, length, replicate};
 ghost use Rattle.std.specs.Prelude.{IfOk, MatchOption};
+ghost use Rattle.block_index.specs.Chains.{chain_of_block};
 ghost use Rattle.deep_list.specs.Slots.{IsAt, NoneHas};
-ghost use Rattle.deep_list.specs.Chains.{chain_of, with_slot, empty_chains};
+ghost use Rattle.deep_list.specs.Chains.{with_slot, empty_chains};
 ghost use Rattle.deep_list.specs.Deep.{IsRanked};
 
 use crate::slots::{Slots, Span};
+use block_index::{chain_among, find_on_chain};
 use std::alloc::{AllocError, Global};
 use std::marker::Model;
-
-/// How many slots of a chain are looked at. A chain is hardly ever longer, unless its blocks were
-/// chosen for it. Then the slots are searched in order, which is faster.
-const LONGEST: usize = 32;
 
 /// Each block has one of the chains. `heads` has the first slot of each chain, and `next` for each
 /// slot the one after it on its chain; the number of slots stands for none.
@@ -48,34 +46,21 @@ impl Chains {
         })
     }
 
-    /// The chain of a block: blocks at a stride of any power of two are spread over all.
-    #[inline(always)]
-    fn chain_of(&self, block: u64) -> usize
-        requires some { 1 ≤ length self.now.heads }
-        requires few { length self.now.heads ≤ 2 ^ 24 }
-        ensures { result ≡ chain_of (length self.now.heads) block }
-    {
-        let mixed = block.wrapping_mul(0x9E37_79B9_7F4A_7C15) / 0x1_0000_0000;
-        (mixed * self.heads.len() as u64 / 0x1_0000_0000) as usize
-    }
-
-    /// The live slot that has a block, or none.
+    /// The live slot that has a block, or none. The first slot of the chain that has the block is
+    /// the last one that took it: if this one is no longer live, no slot with the block is.
     pub fn find(&self, slots: &Slots, span: Span, block: u64) -> Option<usize>
         requires { IsRanked span.top span.end slots.now self.now }
         ensures { MatchOption result (NoneHas slots.now block)
             (λ slot. (slot < length slots.now.live) × IsAt slots.now block slot) }
     {
-        let mut slot = self.heads[self.chain_of(block)] as usize;
-        for step in 0..LONGEST {
-            if slot == slots.len() {
-                return None;
-            }
-            if slots.has(slot, block) {
-                return Some(slot);
-            }
-            slot = self.next[slot] as usize;
+        let first = self.heads[chain_among(self.heads.len(), block)];
+        let blocks = slots.blocks();
+        let slot = find_on_chain(&self.next, first, blocks, block, span.top, span.end)?;
+        if slots.is_live(slot) {
+            Some(slot)
+        } else {
+            None
         }
-        slots.search(slot, span.end, block)
     }
 
     /// Puts a slot in front of the chain of its block.
@@ -84,9 +69,10 @@ impl Chains {
         requires few { length self.old.heads ≤ 2 ^ 24 }
         requires within { slot < length self.old.next }
         requires small { length self.old.next ≤ 2 ^ 24 }
-        ensures { self.new ≡ with_slot self.old slot (chain_of (length self.old.heads) block) }
+        ensures { self.new ≡ with_slot self.old slot
+            (chain_of_block (length self.old.heads) block) }
     {
-        let chain = self.chain_of(block);
+        let chain = chain_among(self.heads.len(), block);
         self.next[slot] = self.heads[chain];
         self.heads[chain] = slot as u32;
     }

@@ -6,7 +6,7 @@ ghost use Rattle.deep_list.specs.Slots.{SlotsValue, AreFlags, slots_with_block, 
 ghost use Rattle.deep_list.specs.Slots.{live_blocks};
 ghost use Rattle.deep_list.specs.Chains.{AreChains, AreFiled};
 ghost use Rattle.deep_list.specs.Deep.{has_block, place_of, without_block, list_after_exchange};
-ghost use Rattle.deep_list.specs.Deep.{IsRanked, IsGathered};
+ghost use Rattle.deep_list.specs.Deep.{IsRanked, IsGathered, IsOnce};
 
 use crate::chains::Chains;
 use crate::slots::{Slots, Span};
@@ -167,6 +167,7 @@ fn last_live(slots: &Slots, end: usize) -> Option<usize>
 fn make_room(slots: &mut Slots, chains: &mut Chains, span: Span) -> Span
     requires ranked { IsRanked span.top span.end slots.old chains.old }
     requires room { sum slots.old.live < length slots.old.live }
+    requires once { IsOnce (live_blocks slots.old.blocks slots.old.live) }
     ensures ranked { IsRanked result.top result.end slots.new chains.new }
     ensures free { 1 ≤ result.top }
     ensures kept_same { live_blocks slots.new.blocks slots.new.live ≡ live_blocks slots.old.blocks

@@ -2,7 +2,7 @@
 ghost use Rattle.std.specs.Prelude.{◌≡◌, ◌+◌, ◌<◌, ◌≤◌, ◌^◌, ◌*◌, ℕ, length, sum, take, drop};
 ghost use Rattle.std.specs.Prelude.{replicate, slice_set, IfOk, MatchOption, slice_index, nat_eq};
 ghost use Rattle.std.specs.Prelude.{IsTrue, ◌↔◌};
-ghost use Rattle.deep_list.specs.Slots.{SlotsValue, IsAt, NoneHas, slots_with_block, slots_without};
+ghost use Rattle.deep_list.specs.Slots.{SlotsValue, slots_with_block, slots_without};
 
 use std::alloc::{AllocError, Global};
 use std::marker::Model;
@@ -78,14 +78,12 @@ impl Slots {
         self.blocks[slot]
     }
 
-    /// Whether a slot is live and has a block.
+    /// The block of each slot.
     #[inline(always)]
-    pub fn has(&self, slot: usize, block: u64) -> bool
-        requires live { slot < length self.now.live }
-        requires blocks { slot < length self.now.blocks }
-        ensures { IsTrue result ↔ IsAt self.now block slot }
+    pub fn blocks(&self) -> &[u64]
+        ensures { result.now ≡ self.now.blocks }
     {
-        self.blocks[slot] == block && self.live[slot] == 1
+        &self.blocks
     }
 
     /// How many slots before one are live.
@@ -118,24 +116,6 @@ impl Slots {
     {
         self.live[slot] = 0;
         self.counts[slot / CHUNK] -= 1;
-    }
-
-    /// The live slot that has a block, if there is one. It walks over the slots from `from` on and
-    /// before `end`, outside which there must be none.
-    #[inline(never)]
-    pub fn search(&self, from: usize, end: usize, block: u64) -> Option<usize>
-        requires end { end ≤ length self.now.live }
-        requires within { (s : ℕ) → IsAt self.now block s → (from ≤ s) × (s < end) }
-        requires same { length self.now.blocks ≡ length self.now.live }
-        ensures { MatchOption result (NoneHas self.now block)
-            (λ slot. (slot < length self.now.live) × IsAt self.now block slot) }
-    {
-        for slot in from..end {
-            if self.has(slot, block) {
-                return Some(slot);
-            }
-        }
-        None
     }
 }
 

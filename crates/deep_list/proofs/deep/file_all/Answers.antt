@@ -1,6 +1,7 @@
 use Rattle.std.proofs.Common.{◌≡◌, ◌+◌, ◌-◌, ◌<◌, ◌∙◌, ℕ, length, get_or, sym, ap, arith}
 use Rattle.std.proofs.Common.{subst}
-use Rattle.deep_list.specs.Chains.{ChainsValue, AreChains, AreFiledFrom, chain_of, with_slot}
+use Rattle.block_index.specs.Chains.{chain_of_block}
+use Rattle.deep_list.specs.Chains.{ChainsValue, AreChains, AreFiledFrom, with_slot}
 use Rattle.deep_list.proofs.ChainLemmas.{chain_small, chains_more, filed_more}
 use Rattle.deep_list.proofs.deep.file_all.Goals as goal
 
@@ -15,10 +16,10 @@ loop-slot-preserved c =
     let are = before.2 in
     let P : ChainsValue → Type 0 = λ v. AreChains t (length slots.live) v ×
     AreFiledFrom t v slots in
-    let is = c.add.ensures ∙ ap (λ x. with_slot chains t (chain_of (length chains.heads) x))
+    let is = c.add.ensures ∙ ap (λ x. with_slot chains t (chain_of_block (length chains.heads) x))
     c.block.ensures in
     let made = subst P (sym is) (
-      chains_more are t next lt (chain_of (length chains.heads) (get_or slots.blocks t 0))
+      chains_more are t next lt (chain_of_block (length chains.heads) (get_or slots.blocks t 0))
           (chain_small (length chains.heads) (get_or slots.blocks t 0) are.some),
       filed_more are t next lt slots before.3,
     ) in

@@ -3,7 +3,8 @@ use Rattle.std.proofs.Common.{sym, ap}
 use Rattle.std.proofs.Common.{subst, arith, false}
 use Rattle.std.specs.Prelude.{slice_get}
 use Rattle.block_index.specs.SlotLists.{SlotListsValue, is_listed, with_first}
-use Rattle.block_index.specs.BlockIndex.{IndexValue, HasBlock, chain_of_block, blocks_listed}
+use Rattle.block_index.specs.Chains.{chain_of_block}
+use Rattle.block_index.specs.BlockIndex.{IndexValue, HasBlock, blocks_listed}
 use Rattle.block_index.specs.BlockIndex.{AreOnChains}
 use Rattle.block_index.proofs.IndexLemmas.{within-has, free-has, added_indexed, added_blocks}
 use Rattle.block_index.proofs.block_index.BlockIndex.add.Goals as goal

@@ -1,93 +1,61 @@
-use Rattle.std.proofs.Common.{◌≡◌, ◌+◌, ◌/◌, ◌<◌, ◌∙◌, ℕ, List, Some, length, get_or, inl, inr, sym}
-use Rattle.std.proofs.Common.{ap}
-use Rattle.std.proofs.Common.{subst, arith, true}
-use Rattle.std.specs.Prelude.{slice_get}
-use Rattle.std.proofs.lemmas.Bool.{cases_eq}
-use Rattle.std.proofs.lemmas.List.{get_or_read}
-use Rattle.block_index.specs.SlotLists.{has_slot, index_of_slot, list_at}
-use Rattle.block_index.specs.BlockIndex.{IndexValue, HasBlock, chain_of_block}
-use Rattle.block_index.proofs.ListLemmas.{has-get, index-at}
-use Rattle.block_index.proofs.IndexLemmas.{off_chain, has_chain}
+use Rattle.std.proofs.Common.{◌≡◌, ◌+◌, ◌/◌, ◌<◌, ◌≤◌, ◌∙◌, ◌⊎◌, ℕ, Option, Some, None, length}
+use Rattle.std.proofs.Common.{get_or, inl, inr, sym, ap, subst, arith, true, List}
+use Rattle.std.specs.Prelude.{MatchOption}
+use Rattle.block_index.specs.Chains.{chain_of_block}
+use Rattle.block_index.specs.SlotLists.{SlotListsValue, has_slot, list_at, AreApart, NoneOfListHas}
+use Rattle.block_index.specs.BlockIndex.{IndexValue, HasBlock, NoSlotHas, AreOnChains}
+use Rattle.block_index.proofs.IndexLemmas.{listed-has, length-listed, on_chain, has_chain, value}
 use Rattle.block_index.proofs.block_index.BlockIndex.find.Goals as goal
-use Rattle.block_index.proofs.block_index.BlockIndex.find.Goals.{In-Some, After-index}
 
-module _ (c : In-Some) where
-  abbrev list : List ℕ
-  list = list_at c.self.inside.chains c.chain_among-chain.result
+module _ {blocks : List ℕ} {v : SlotListsValue} (h : AreOnChains blocks v) (apart : AreApart v)
+    (k b from end : ℕ) (is : k ≡ chain_of_block (length v.lists) b)
+    (within : (s : ℕ) → HasBlock (value h) s b → (from ≤ s) × (s < end))
+    (filled : (s : ℕ) → from ≤ s → s < end → (x : ℕ) × HasBlock (value h) s x) where
+  of_list : (r : Option ℕ) → MatchOption r (NoneOfListHas v k blocks b from end)
+      (λ s. (s < v.slots) × (get_or blocks s 0 ≡ b)
+      × ((has_slot s (list_at v k) ≡ true) ⊎ ((from ≤ s) × (s < end))))
+      → MatchOption r (NoSlotHas (value h) b) (λ s. HasBlock (value h) s b)
+  of_list None none = λ s has.
+      let at = within s has in
+      let P : ℕ → Type 0 = λ j. has_slot s (list_at v j) ≡ true in
+      none s (subst P (sym is) (on_chain h s b has)) at.0 at.1 (listed-has v.lists blocks s b has).1
+  of_list (Some s) (lt, block, place) =
+      let P : ℕ → Type 0 = λ x. HasBlock (value h) s x in
+      elim place [
+        | inl inside ↦ subst P block (has_chain h apart k s inside)
+        | inr among ↦
+            let has = filled s among.0 among.1 in
+            subst P (sym (listed-has v.lists blocks s has.0 has.1).1 ∙ block) has.1
+      ]
 
-  at : slice_get list c.loop-step.step ≡ Some c.in-Some.slot
-  at = sym c.loop-step.invariant.0 ∙ c.in-Some.is
-
-  inside : has_slot c.in-Some.slot list ≡ true
-  inside = has-get c.in-Some.slot list c.loop-step.step at
-
-  slot_in : c.in-Some.slot < length c.self.inside.blocks.items
-  slot_in =
-      omega (
-        arith,
-        c.are_apart.ensures.below c.chain_among-chain.result c.in-Some.slot inside,
-        c.self.invariant.slots_are,
-      )
-
-  has : HasBlock c.args.self.now c.in-Some.slot (get_or c.self.inside.blocks.items c.in-Some.slot 0)
-  has =
-      let P : IndexValue → Type 0 =
-      λ w. HasBlock w c.in-Some.slot (get_or c.self.inside.blocks.items c.in-Some.slot 0) in
-      subst P c.self.view_is
-      (has_chain c.self.invariant c.are_apart.ensures c.chain_among-chain.result c.in-Some.slot
-      inside)
-
-pub returns-in_default : goal.returns-in_default
-returns-in_default c = λ s has.
-    let chains_are : c.len.result / 2 + 1 ≡ length c.self.inside.chains.lists =
-    omega (arith, c.len.ensures, c.self.invariant.chains_are, c.self.inside.blocks.ok.0) in
-    let P : IndexValue → Type 0 = λ w. HasBlock w s c.args.block in
-    off_chain c.self.invariant c.args.block c.chain_among-chain.result c.loop-step.step s
-    (sym (c.chain_among-chain.ensures.is ∙ ap (λ n. chain_of_block n c.args.block) chains_are))
-    (sym c.loop-step.invariant.0 ∙ c.in_default.is)
-    (λ i lt here. c.loop-step.invariant.1 i lt s here has) (subst P (sym c.self.view_is) has)
-
-pub index-requires : goal.index-requires
-index-requires c =
+pub find-requires-clause-end : goal.find-requires-clause-end
+find-requires-clause-end c =
+    let blocks = c.self.inside.blocks.items in
     omega (
       arith,
-      slot_in (goal.at.index-requires c).In-Some,
-      c.self.inside.blocks.ok.0,
+      c.requires.end,
+      ap (λ w. length w.blocks) c.self.view_is,
+      length-listed c.self.inside.chains.lists 0 blocks,
+      c.self.invariant.slots_are,
     )
 
-pub returns-then-index-block : goal.returns-then-index-block
-returns-then-index-block c =
-    let some = (goal.at.returns-then-index-block c).In-Some in
-    let read = get_or_read c.self.inside.blocks.items c.in-Some.slot c.index.result.now
-    (slot_in some) c.index.ensures 0 in
-    let P : ℕ → Type 0 = λ b. HasBlock c.args.self.now c.in-Some.slot b in
-    subst P (sym read ∙ c.if-index-block.true) (has some)
-
-pub next-next-requires-clause-listed : goal.next-next-requires-clause-listed
-next-next-requires-clause-listed c =
-    inside (goal.at.next-next-requires-clause-listed c).In-Some
-
-pub loop-step-preserved : goal.loop-step-preserved
-loop-step-preserved c =
-    let some = (goal.at.loop-step-preserved c).In-Some in
-    let xs : List ℕ = list some in
-    let step : ℕ = c.loop-step.step in
-    let slot : ℕ = c.in-Some.slot in
-    let place : index_of_slot slot xs ≡ step =
-    index-at slot xs step (c.are_apart.ensures.once c.chain_among-chain.result) (at some) in
-    let read = get_or_read c.self.inside.blocks.items slot c.index.result.now
-    (slot_in some) c.index.ensures 0 in (
-      c.next-next.ensures ∙ ap (λ i. slice_get xs (i + 1)) place,
-      λ i lt s here with_block. elim (cases_eq i step) [
-        | inl e ↦
-            let f : slice_get xs i ≡ Some slot = ap (slice_get xs) e ∙ at some in
-            let g : slot ≡ s = cc in
-            let P : ℕ → Type 0 =
-            λ t. HasBlock c.args.self.now t (get_or c.self.inside.blocks.items slot 0) in
-            let mine : HasBlock c.args.self.now s (get_or c.self.inside.blocks.items slot 0) =
-            subst P g (has some) in
-            let same : get_or c.self.inside.blocks.items slot 0 ≡ c.args.block = cc in
-            c.if-index-block.false (read ∙ same)
-        | inr ne ↦ c.loop-step.invariant.1 i (omega arith) s here with_block
-      ],
-    )
+pub returns : goal.returns
+returns c =
+    let h = c.self.invariant in
+    let chains_are : c.len.result / 2 + 1 ≡ length c.self.inside.chains.lists =
+    omega (arith, c.len.ensures, h.chains_are, c.self.inside.blocks.ok.0) in
+    let is = c.chain_among-chain.ensures.is ∙ ap (λ n. chain_of_block n c.args.block) chains_are in
+    let b : ℕ = c.args.block in
+    let P : IndexValue → Type 0 = λ w. ((s : ℕ) → HasBlock w s b → (c.args.from ≤ s) ×
+    (s < c.args.end)) → ((s : ℕ) → c.args.from ≤ s → s < c.args.end → (x : ℕ) × HasBlock w s x)
+    → MatchOption c.find.result (NoSlotHas w b) (λ s. HasBlock w s b) in
+    let v = c.self.inside.chains in
+    let k : ℕ = c.chain_among-chain.result in
+    let Q : List ℕ → Type 0 = λ blocks. MatchOption c.find.result
+    (NoneOfListHas v k blocks b c.args.from c.args.end)
+    (λ s. (s < v.slots) × (get_or blocks s 0 ≡ b)
+    × ((has_slot s (list_at v k) ≡ true) ⊎ ((c.args.from ≤ s) × (s < c.args.end)))) in
+    subst P c.self.view_is (λ within filled.
+    of_list h c.are_apart.ensures k b c.args.from c.args.end is within filled c.find.result
+    (subst Q c.deref.ensures.value c.find.ensures))
+    c.requires.within c.requires.filled

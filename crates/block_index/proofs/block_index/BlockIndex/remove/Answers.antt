@@ -4,7 +4,8 @@ use Rattle.std.proofs.Common.{sym, ap, subst, arith, true}
 use Rattle.std.specs.Prelude.{slice_get}
 use Rattle.std.proofs.lemmas.List.{get_or_read}
 use Rattle.block_index.specs.SlotLists.{SlotListsValue, has_slot, list_at}
-use Rattle.block_index.specs.BlockIndex.{IndexValue, chain_of_block, blocks_listed, AreOnChains}
+use Rattle.block_index.specs.Chains.{chain_of_block}
+use Rattle.block_index.specs.BlockIndex.{IndexValue, blocks_listed, AreOnChains}
 use Rattle.block_index.proofs.IndexLemmas.{within-has, listed-has, on_chain, removed_indexed}
 use Rattle.block_index.proofs.IndexLemmas.{removed_blocks}
 use Rattle.block_index.proofs.block_index.BlockIndex.remove.Goals as goal

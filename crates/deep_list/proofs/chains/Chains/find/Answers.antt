@@ -1,89 +1,84 @@
-use Rattle.std.proofs.Common.{◌≡◌, ◌<◌, ◌≤◌, ◌∙◌, ℕ, length, get_or, ap, sym, arith, subst, ◌⊎◌}
-use Rattle.std.proofs.Common.{inl, inr}
-use Rattle.std.proofs.lemmas.Bool.{false≢true, cases_lt}
+use Rattle.std.proofs.Common.{◌≡◌, ◌<◌, ◌≤◌, ◌∙◌, ℕ, List, length, get_or, ap, sym, arith}
+use Rattle.std.proofs.Common.{subst, inl, inr, eq-eqb}
+use Rattle.std.proofs.lemmas.Bool.{cases_lt, false≢true}
 use Rattle.std.proofs.lemmas.List.{get_or_read}
-use Rattle.deep_list.specs.Slots.{IsAt}
-use Rattle.deep_list.specs.Chains.{chain_of, IsFiled, IsOnChain}
-use Rattle.deep_list.proofs.ChainLemmas.{chain_small, chain_rises, on_chain_none, on_chain_past}
+use Rattle.block_index.specs.Chains.{chain_of_block, IsOnChain, IsSought, IsFirst}
+use Rattle.deep_list.specs.Slots.{SlotsValue, IsAt}
+use Rattle.deep_list.specs.Chains.{ChainsValue, IsFiled}
+use Rattle.deep_list.specs.Deep.{IsRanked}
+use Rattle.deep_list.proofs.ChainLemmas.{chain_small, chain_rises}
 use Rattle.deep_list.proofs.chains.Chains.find.Goals as goal
 
-pub loop-step-init : goal.loop-step-init
-loop-step-init c =
+module _ {top end : ℕ} {slots : SlotsValue} {v : ChainsValue} (r : IsRanked top end slots v)
+    (b a : ℕ) (head : a ≡ get_or v.heads (chain_of_block (length v.heads) b) 0) where
+  -- a live slot that has the block is on the chain that was looked at
+  sought : (s : ℕ) → IsAt slots b s → IsSought v.next slots.blocks a top end b s
+  sought s at =
+      let P : ℕ → Type 0 = λ x. IsFiled v x s in
+      let Q : ℕ → ℕ → Type 0 = λ n i. IsOnChain v.next n i s in
+      let long : length v.next ≡ length slots.blocks = r.chains_are.long ∙ sym r.same in
+      record {
+        on_chain = subst (λ n. Q n a) long (subst (Q (length v.next)) (sym head)
+            (subst P at.block (r.filed s at.live)));
+        from_on = elim (cases_lt s top) [
+          | inl lt ↦ absurd (omega (arith, r.before s lt, at.live))
+          | inr le ↦ le
+        ];
+        before_end = elim (cases_lt s end) [
+          | inl lt ↦ lt
+          | inr le ↦ absurd (omega (arith, r.behind s le, at.live))
+        ];
+        block = at.block;
+      }
+
+  -- if the first slot with the block isn't live, no slot with it is
+  none_live : (f : ℕ) → IsFirst v.next slots.blocks a top end b f
+      → (get_or slots.live f 0 ≡ 1 → ⊥) → (s : ℕ) → IsAt slots b s → ⊥
+  none_live f found dead s at =
+      let are = r.chains_are in
+      let rises : (i j : ℕ) → top ≤ i → IsOnChain v.next (length slots.blocks) i j → i ≤ j =
+      λ i j le on. chain_rises are i j le
+      (subst (λ n. IsOnChain v.next n i j) r.same on) in
+      let chain : ℕ = chain_of_block (length v.heads) b in
+      let from : top ≤ f = elim found.place [
+        | inl on ↦
+            let start : top ≤ a =
+            omega (arith, head, are.heads_from chain (chain_small (length v.heads) b are.some)) in
+            omega (arith, start, rises a f start on)
+        | inr among ↦ among.0
+      ] in
+      let before : f ≤ s = elim (found.first s (sought s at)) [
+        | inl on ↦ rises f s from on
+        | inr le ↦ le
+      ] in
+      let P : ℕ → Type 0 = λ i. get_or slots.live i 0 ≡ 1 in
+      let other : (f ≡ s → ⊥) = λ same. dead (subst P (sym same) at.live) in
+      r.latest f s from (omega (arith, before, other)) at.live (found.block ∙ sym at.block)
+
+pub returns-else-is_live : goal.returns-else-is_live
+returns-else-is_live c =
     let v = c.args.self.now in
+    let slots = c.args.slots.now in
     let heads = c.self.inside.heads.items in
-    let k : ℕ = chain_of (length v.heads) c.args.block in
-    let within : c.chain_of.result < length heads =
-    omega (
-      arith,
-      c.chain_of.ensures,
-      chain_small (length v.heads) c.args.block
-          c.requires.chains_are.some,
-      ap (λ w. length w.heads) c.self.view_is,
-    ) in
-    let read : get_or heads c.chain_of.result 0 ≡ c.index.result.now =
-    sym (get_or_read heads c.chain_of.result c.index.result.now within c.index.ensures 0) in
-    let head_is : get_or v.heads k 0 ≡ c.index.result.now =
-    ap (λ i. get_or v.heads i 0) (sym c.chain_of.ensures) ∙
-    ap (λ w. get_or w.heads c.chain_of.result 0) (sym c.self.view_is) ∙ read in
-    let P : ℕ → Type 0 = λ a. (s : ℕ) → IsAt c.args.slots.now c.args.block s →
-    IsOnChain v.next a s in
-    let Q : ℕ → ℕ → Type 0 = λ s x. IsFiled v x s in (
-      omega (arith, head_is, c.requires.chains_are.heads_within k),
-      omega (
-        arith,
-        head_is,
-        c.requires.chains_are.heads_from k
-            (chain_small (length v.heads) c.args.block c.requires.chains_are.some),
-      ),
-      subst P head_is (λ s at. subst (Q s) at.block (c.requires.filed s at.live)),
-    )
-
-pub returns-then-slot-len : goal.returns-then-slot-len
-returns-then-slot-len c = λ s lt at.
-    on_chain_none c.args.self.now.next c.args.slots.now.live c.loop-step.slot s
-    c.requires.chains_are.long (c.if-slot-len.true ∙ c.len.ensures) at.live
-    (c.loop-step.invariant.2 s at)
-
-pub loop-step-preserved : goal.loop-step-preserved
-loop-step-preserved c =
-    let v = c.args.self.now in
-    let next = c.self.inside.next.items in
-    let long : length next ≡ length c.args.slots.now.live = ap (λ w. length w.next) c.self.view_is ∙
-    c.requires.chains_are.long in
-    let inside : c.loop-step.slot ≡ length c.args.slots.now.live → ⊥ =
-    λ e. c.if-slot-len.false (e ∙ sym c.len.ensures) in
-    let within : c.loop-step.slot < length next =
-    omega (arith, c.loop-step.invariant.0, long, inside) in
-    let read : get_or next c.loop-step.slot 0 ≡ c.index-in-loop-step.result.now =
-    sym (get_or_read next c.loop-step.slot c.index-in-loop-step.result.now within
-    c.index-in-loop-step.ensures 0) in
-    let next_is : get_or v.next c.loop-step.slot 0 ≡ c.index-in-loop-step.result.now =
-    ap (λ w. get_or w.next c.loop-step.slot 0) (sym c.self.view_is) ∙ read in
-    let P : ℕ → Type 0 = λ a. (s : ℕ) → IsAt c.args.slots.now c.args.block s →
-    IsOnChain v.next a s in
-    let Q : ℕ → Type 0 = λ s. IsAt c.args.slots.now c.args.block s in (
-      omega (arith, next_is, c.requires.chains_are.next_within c.loop-step.slot),
-      omega (
-        arith,
-        next_is,
-        c.loop-step.invariant.1,
-        c.requires.chains_are.next_from c.loop-step.slot c.loop-step.invariant.1
-            (omega (arith, c.loop-step.invariant.0, inside)),
-      ),
-      subst P next_is
-          (λ s at. on_chain_past v.next c.loop-step.slot s
-          (λ same. false≢true (c.if-has.ensures.1 (subst Q (sym same) at)))
-          (c.loop-step.invariant.2 s at)),
-    )
-
-pub search-requires-clause-within : goal.search-requires-clause-within
-search-requires-clause-within c = λ s at.
-    let on = c.loop-step.invariant.2 s at in
-    let before : (s < c.args.span.end) ⊎ (c.args.span.end ≤ s) = cases_lt s c.args.span.end in (
-      chain_rises c.requires.chains_are on.0 c.loop-step.slot s c.loop-step.invariant.1 on.1,
-      elim before [
-        | inl lt ↦ lt
-        | inr le ↦
-            absurd (omega (arith, c.requires.behind s le, at.live))
-      ],
-    )
+    let b : ℕ = c.args.block in
+    let a : ℕ = c.index-first.result.now in
+    let f : ℕ = c.in_ok-slot.slot in
+    let heads_are = ap (λ w. w.heads) c.self.view_is in
+    let long : c.len.result ≡ length heads =
+    omega (arith, c.len.ensures, c.self.inside.heads.ok.0) in
+    let within : c.chain_among.result < length heads =
+    omega (arith, c.chain_among.ensures.within, long) in
+    let read = get_or_read heads c.chain_among.result a within c.index-first.ensures 0 in
+    let head : a ≡ get_or v.heads (chain_of_block (length v.heads) b) 0 =
+    read ∙ ap (λ k. get_or heads k 0) (c.chain_among.ensures.is ∙
+    ap (λ n. chain_of_block n b) long)
+    ∙ ap (λ xs. get_or xs (chain_of_block (length xs) b) 0) heads_are in
+    let P : List ℕ → Type 0 = λ links. IsFirst links slots.blocks a c.args.span.top
+    c.args.span.end b f in
+    let Q : List ℕ → Type 0 = λ blocks. IsFirst c.deref.result.now blocks a c.args.span.top
+    c.args.span.end b f in
+    let found = subst P (c.deref.ensures.value ∙ ap (λ w. w.next) c.self.view_is)
+    (subst Q c.blocks-blocks.ensures (c.in_ok-slot.ensures {u = tt})) in
+    λ s lt at. none_live c.requires b a head f found
+    (λ one. false≢true (sym c.if-is_live.false ∙ c.is_live.ensures ∙
+    eq-eqb (get_or slots.live f 0) 1 one)) s at

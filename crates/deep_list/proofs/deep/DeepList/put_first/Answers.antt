@@ -19,9 +19,9 @@ invariant_of-self c =
     let w : SlotsValue = slots_with_block room.new.slots t c.args.block in
     let is : c.fill.new.self ≡ w = c.fill.ensures in
     let P : ChainsValue → Type 0 = λ v. IsRanked t room.result.end w v in
+    let absent = ap (λ v. has_block c.args.block v.blocks) c.self.view_is ∙ c.requires.other in
     filled_deep c.self.invariant room.ensures.ranked room.ensures.kept_same room.ensures.long
-    c.args.block t at
-    (ap (λ v. has_block c.args.block v.blocks) c.self.view_is ∙ c.requires.other)
+    c.args.block t at absent
     (omega (
       arith,
       c.requires.room,
@@ -29,7 +29,8 @@ invariant_of-self c =
       ap (λ v. v.cap) c.self.view_is,
     ))
     c.fill.new.self c.add.new.self is
-    (subst P (sym c.add.ensures) (filled_ranked room.ensures.ranked c.args.block t at))
+    (subst P (sym c.add.ensures) (filled_ranked room.ensures.ranked c.args.block t at
+    (ap (has_block c.args.block) room.ensures.kept_same ∙ absent)))
 
 pub returns : goal.returns
 returns c =
