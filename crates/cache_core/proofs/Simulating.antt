@@ -18,7 +18,8 @@ use Rattle.cache_core.specs.LruLaws.{lru_machine, occurrence_after}
 use Rattle.cache_core.specs.internal.Stands.{CacheStandsFor}
 use Rattle.cache_core.specs.Machine.{Machine}
 use Rattle.cache_core.specs.Simulation.{lookup_at}
-use Rattle.cache_core.specs.internal.Simulation.{lru_contents, LooksUp}
+use Rattle.cache_core.specs.internal.Lookups.{LooksUp}
+use Rattle.cache_core.specs.internal.Simulation.{lru_policy, no_numbers, lru_contents}
 use Rattle.cache_core.specs.internal.Simulation.{counts_with, SimulationCountsWithin}
 use Rattle.cache_core.specs.internal.Simulation.{SimulationStandsFor}
 use Rattle.cache_core.specs.Slab.{CacheValue}
@@ -36,7 +37,8 @@ counts-reference g events r = grind (arith, sum_by-reference)
 -- one more reference at the cache goes as the windows say
 pub looked_up : (g : GeometryValue) (events : List Event) (old new : CacheValue LruPolicy)
     (ref : Ref) (lookup : Lookup) → 1 ≤ g.e →
-    CacheStandsFor (lru_machine g Back) events (lru_contents old) → LooksUp old ref lookup new →
+    CacheStandsFor (lru_machine g Back) events (lru_contents old) →
+    LooksUp lru_policy no_numbers old ref lookup new →
     CacheStandsFor (lru_machine g Back) (events ++ event.Reference ref ∷ []) (lru_contents new)
     × (lookup ≡ lookup_at g (occurrence_after g events ref))
 looked_up g events old new ref lookup some stands step =
@@ -56,7 +58,8 @@ looked_up g events old new ref lookup some stands step =
 -- one more reference with this lookup
 pub simulates_lookup : (g : GeometryValue) (events : List Event) (old : Simulation)
     (cache : CacheValue LruPolicy) (r : Ref) (told is : Lookup) →
-    LooksUp old.cache r told cache → told ≡ is → SimulationStandsFor g events old →
+    LooksUp lru_policy no_numbers old.cache r told cache → told ≡ is →
+    SimulationStandsFor g events old →
     SimulationStandsFor g (events ++ event.Reference r ∷ []) (record {
       cache = cache;
       counts =

@@ -2,6 +2,7 @@ pub mod Order
 pub mod Slab
 pub mod Touched
 pub mod Stands
+pub mod Lookups
 pub mod Simulation
 pub mod SystemCaches
 pub mod Counted

@@ -4,6 +4,7 @@ ghost use Rattle.std.specs.Prelude.{◌≡◌, ◌<◌, ◌*◌, ◌^◌, IfOk, 
 ghost use Rattle.cache_core.specs.Geometry.{IsGeometry};
 ghost use Rattle.cache_core.specs.Order.{Accesses, FlushesCache};
 ghost use Rattle.cache_core.specs.Slab.{contents_of};
+ghost use Rattle.cache_core.specs.internal.Lookups.{LooksUp};
 ghost use Rattle.cache_core.specs.internal.Slab.{empty_sets, AccessesInFront};
 ghost use Rattle.cache_core.specs.internal.Order.{DirtiesByWrites};
 
@@ -13,6 +14,8 @@ use crate::geometry::Geometry;
 use crate::indexed_cache::IndexedCache;
 use crate::named_policy::NamedPolicy;
 use crate::outcome::Outcome;
+use crate::replacement::Replacement;
+use crate::simulation::{Lookup, lookup_of};
 use std::alloc::{AllocError, Global};
 use std::marker::Model;
 use trace_core::Ref;
@@ -103,6 +106,20 @@ impl<P: NamedPolicy> ChosenCache<P> {
         }
     }
 
+    /// Makes one access, and returns how it went.
+    #[inline(always)]
+    pub(crate) fn look_up(&mut self, reference: Ref) -> Lookup
+        ensures { LooksUp P.policy P.words self.old reference result self.new }
+    {
+        if self.access_in_front(reference).is_some() {
+            return Lookup::Hit;
+        }
+        match &mut self.kept {
+            Kept::Walked(cache) => look_up_walked(cache, reference),
+            Kept::Indexed(cache) => look_up_indexed(cache, reference),
+        }
+    }
+
     /// Its geometry.
     #[inline(always)]
     pub(crate) fn geometry(&self) -> Geometry
@@ -124,4 +141,22 @@ impl<P: NamedPolicy> ChosenCache<P> {
             Kept::Indexed(cache) => cache.flush(),
         }
     }
+}
+
+/// Makes any access to a cache that is walked over, and returns how it went. It is a function of its
+/// own, so that the path of the many references that find their block in the first slot of its set
+/// stays short, and an outcome of which little is asked is not stored.
+#[inline(never)]
+fn look_up_walked<P: Replacement>(cache: &mut Cache<P>, reference: Ref) -> Lookup
+    ensures { LooksUp P.policy P.words cache.old reference result cache.new }
+{
+    lookup_of(&cache.access(reference))
+}
+
+/// The same of a cache with an index.
+#[inline(never)]
+fn look_up_indexed<P: NamedPolicy>(cache: &mut IndexedCache<P>, reference: Ref) -> Lookup
+    ensures { LooksUp P.policy P.words cache.old reference result cache.new }
+{
+    lookup_of(&cache.access(reference))
 }

@@ -1,6 +1,6 @@
 //! An LRU cache with its counts.
 ghost use Rattle.std.specs.Prelude.{◌≡◌};
-ghost use Rattle.cache_core.specs.internal.Simulation.{lookup_of, LooksUp};
+ghost use Rattle.cache_core.specs.internal.Lookups.{lookup_of};
 
 use crate::chosen_cache::ChosenCache;
 use crate::design::{AllocMode, WriteMode};
@@ -72,7 +72,7 @@ impl Simulation {
             × (result ≡ lookup_at g (occurrence_after g events reference)) }
         ensures counted { self.new.counts ≡ counts_with self.old.counts result }
     {
-        let lookup = look_up(&mut self.cache, reference);
+        let lookup = self.cache.look_up(reference);
         match lookup {
             Lookup::Hit => self.counts.hits += 1,
             Lookup::Miss => self.counts.misses += 1,
@@ -95,30 +95,9 @@ impl Simulation {
     }
 }
 
-/// Makes a reference, and returns how it went.
-#[inline(always)]
-fn look_up(cache: &mut ChosenCache<Lru>, reference: Ref) -> Lookup
-    ensures { LooksUp cache.old reference result cache.new }
-{
-    if cache.access_in_front(reference).is_some() {
-        return Lookup::Hit;
-    }
-    look_further(cache, reference)
-}
-
-/// Makes any reference. It is a function of its own, so that the path of the many references that
-/// find their block in the first slot of its set stays short.
-#[inline(never)]
-fn look_further(cache: &mut ChosenCache<Lru>, reference: Ref) -> Lookup
-    ensures { LooksUp cache.old reference result cache.new }
-{
-    let outcome = cache.access(reference);
-    lookup_of(&outcome)
-}
-
 /// How an access with this outcome went.
 #[inline(always)]
-fn lookup_of(outcome: &Outcome) -> Lookup
+pub(crate) fn lookup_of(outcome: &Outcome) -> Lookup
     ensures { result ≡ lookup_of outcome.now }
 {
     if outcome.hit {

@@ -1,38 +1,32 @@
 -- An LRU cache with its counts, and the lists of events that it stands for.
 -- Few clauses cite these definitions, which need not be judged.
-use Rattle.std.specs.Prelude.{◌≡◌, ◌≤◌, ℕ, ◌+◌, List, Some, is_some, if◌then◌else◌}
+use Rattle.std.specs.Prelude.{◌≡◌, ◌≤◌, ℕ, ◌+◌, List, Option, Some}
 use Rattle.trace_core.specs.declared.events.Event.{Event}
-use Rattle.trace_core.specs.declared.events.Ref.{Ref}
+use Rattle.cache_core.specs.declared.design.Repl.{Repl}
 use Rattle.cache_core.specs.declared.design.Repl.TheVariants.{Lru}
 use Rattle.cache_core.specs.declared.design.WriteMode.TheVariants.{Back}
 use Rattle.cache_core.specs.declared.replacement.Lru.{Lru as LruPolicy}
 use Rattle.cache_core.specs.declared.outcome.Counts.{Counts}
-use Rattle.cache_core.specs.declared.outcome.Outcome.{Outcome}
 use Rattle.cache_core.specs.declared.simulation.Lookup.{Lookup}
 use Rattle.cache_core.specs.declared.simulation.Lookup.TheVariants.{Hit, Miss, MissEviction}
 use Rattle.cache_core.specs.declared.simulation.Simulation.{Simulation}
 use Rattle.cache_core.specs.Geometry.{GeometryValue}
 use Rattle.cache_core.specs.LruLaws.{lru_machine}
-use Rattle.cache_core.specs.Order.{Contents, Accesses}
+use Rattle.cache_core.specs.Order.{Contents}
 use Rattle.cache_core.specs.Slab.{CacheValue, contents_of}
 use Rattle.cache_core.specs.Windows.{counts}
 use Rattle.cache_core.specs.internal.Stands.{CacheStandsFor}
 
+-- the policy of a cache under LRU, which draws no numbers
+abbrev pub lru_policy : LruPolicy → Option Repl
+lru_policy _ = Some Lru
+
+abbrev pub no_numbers : LruPolicy → ℕ → ℕ
+no_numbers _ _ = 0
+
 -- the contents of a cache under LRU
 abbrev pub lru_contents : CacheValue LruPolicy → Contents
-lru_contents cache = contents_of (λ _. Some Lru) (λ _ _. 0) cache
-
--- how an access with this outcome went
-abbrev pub lookup_of : Outcome → Lookup
-lookup_of outcome =
-    if outcome.hit then Hit else if is_some outcome.evicted then MissEviction else Miss
-
--- one reference at a cache under LRU
-pub record LooksUp (old : CacheValue LruPolicy) (ref : Ref) (lookup : Lookup)
-    (new : CacheValue LruPolicy) : Type 0 where
-  pub outcome : Outcome
-  pub access : Accesses (lru_contents old) ref outcome (lru_contents new)
-  pub told : lookup ≡ lookup_of outcome
+lru_contents cache = contents_of lru_policy no_numbers cache
 
 -- the counts with one more lookup
 abbrev pub counts_with : Counts → Lookup → Counts
