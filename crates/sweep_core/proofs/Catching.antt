@@ -9,22 +9,34 @@ use Rattle.trace_core.specs.declared.events.Event.TheVariants as event
 use Rattle.trace_core.specs.declared.events.Kind.{Kind}
 use Rattle.trace_core.specs.Events.{is_kept}
 use Rattle.cache_core.specs.Geometry.{IsGeometry, block_of}
-use Rattle.profile_core.specs.internal.State.{empty, fed_of, after_event}
+use Rattle.profile_core.specs.internal.State.{empty, fed_of, after_event, after_reference}
 use Rattle.profile_core.specs.internal.Fronts.{after_fronts, profile_with_fronts, is_refined, IsFit}
-use Rattle.profile_core.specs.internal.Fronts.{Leads}
+use Rattle.profile_core.specs.internal.Fronts.{Leads, after_unless_front}
 use Rattle.profile_core.proofs.Fronts.{fronts_none, fit_of, fit_behind, leads_after, caught_more}
 use Rattle.profile_core.proofs.Fronts.{fed_more as profile-fed_more}
 use Rattle.profile_core.proofs.Runs.{stands_after}
 use Rattle.sweep_core.specs.declared.profiles.PairProfile.{PairProfile}
 use Rattle.sweep_core.specs.declared.request.Request.{Request}
-use Rattle.sweep_core.specs.internal.Pass.{pair_after_reference, pair_after_flush, profiles_after}
-use Rattle.sweep_core.specs.internal.Pass.{kept_events, WasFed}
-use Rattle.sweep_core.specs.internal.Feeding.{HaveFollowers, AreLed, IsFresh, pair_unless_front}
-use Rattle.sweep_core.specs.internal.Feeding.{pair_with_fronts, profiles_with_fronts, FedAtMost}
-use Rattle.sweep_core.specs.internal.Feeding.{AreBehind}
+use Rattle.sweep_core.specs.internal.Pass.{pair_after_flush, profiles_after, kept_events, WasFed}
+use Rattle.sweep_core.specs.internal.Feeding.{HaveFollowers, AreLed, IsFresh, pair_with_fronts}
+use Rattle.sweep_core.specs.internal.Feeding.{profiles_with_fronts, FedAtMost, AreBehind}
 use Rattle.sweep_core.specs.SweepText.{configs_of}
 use Rattle.sweep_core.proofs.Passes.{all_after-nil}
 use Rattle.sweep_core.proofs.Sweeping.{empty-fed}
+
+-- the profile of a pair after a reference to an address
+abbrev pub pair_after_reference : ℕ → PairProfile → PairProfile
+pair_after_reference addr x = record x {
+  profile =
+      after_reference x.profile (block_of x.profile.geometry addr);
+}
+
+-- the profile of a pair after a reference to an address, unless it finds its block in front
+abbrev pub pair_unless_front : ℕ → PairProfile → PairProfile
+pair_unless_front addr x = record x {
+  profile =
+      after_unless_front x.profile (block_of x.profile.geometry addr);
+}
 
 -- new profiles
 pub fresh-few : (xs : List PairProfile) → Each IsFresh xs → FedAtMost 0 xs

@@ -1,4 +1,4 @@
--- Profiles that are fed many references at a time.
+-- References that wait, and the profiles that are fed them later.
 use Rattle.std.proofs.Common.{◌≡◌, ℕ, zero, suc, ◌+◌, ◌-◌, ◌≤◌, Bool, true, false, cond, List, []}
 use Rattle.std.proofs.Common.{◌∷◌, ◌++◌, map, take, length, refl, sym, ap, ◌∙◌, subst, arith}
 use Rattle.std.proofs.Common.{length-append}
@@ -17,15 +17,16 @@ use Rattle.profile_core.specs.internal.State.{most_references}
 use Rattle.profile_core.specs.internal.Fronts.{after_unless_front, is_front_of, after_batch, Leads}
 use Rattle.profile_core.specs.internal.Fronts.{fed_of_batch}
 use Rattle.sweep_core.specs.declared.profiles.PairProfile.{PairProfile}
-use Rattle.sweep_core.specs.internal.Pass.{pair_after_reference, profiles_after, kept_events}
-use Rattle.sweep_core.specs.internal.Feeding.{HaveFollowers, AreLed, IsFresh, pair_unless_front}
-use Rattle.sweep_core.specs.internal.Feeding.{profiles_with_fronts, FedAtMost, AreBehind}
-use Rattle.sweep_core.specs.internal.Feeding.{pair_after_batch, profiles_after_batch, AlwaysLeads}
-use Rattle.sweep_core.specs.internal.Feeding.{AreAlwaysLed, AreAlwaysBehind}
+use Rattle.sweep_core.specs.internal.Pass.{profiles_after, kept_events}
+use Rattle.sweep_core.specs.internal.Feeding.{HaveFollowers, AreLed, IsFresh, profiles_with_fronts}
+use Rattle.sweep_core.specs.internal.Feeding.{FedAtMost, AreBehind, pair_after_batch}
+use Rattle.sweep_core.specs.internal.Feeding.{profiles_after_batch, AlwaysLeads, AreAlwaysLed}
+use Rattle.sweep_core.specs.internal.Feeding.{AreAlwaysBehind}
 use Rattle.sweep_core.specs.internal.Waiting.{AreWaiting}
 use Rattle.sweep_core.proofs.Lists.{Each-weaker}
 use Rattle.sweep_core.proofs.Passes.{all_after-append}
-use Rattle.sweep_core.proofs.Catching.{behind-after, caught-reference, few-reference, kept-caught}
+use Rattle.sweep_core.proofs.Catching.{pair_after_reference, pair_unless_front, behind-after}
+use Rattle.sweep_core.proofs.Catching.{caught-reference, few-reference, kept-caught}
 
 -- batches one after the other
 pub fed-nil : (xs : List PairProfile) → profiles_after_batch [] xs ≡ xs

@@ -4,9 +4,9 @@
 use Rattle.std.specs.Prelude.{◌≡◌, ⊤, ℕ, Bool, true, false, not, ◌==◌, ◌≤◌, ◌<◌, ◌+◌, min}
 use Rattle.std.specs.Prelude.{List, [], ◌∷◌, length, take, map, slice_index_or, slice_set}
 use Rattle.std.specs.List.{AllByRecursion, position_or_len}
-use Rattle.cache_core.specs.Geometry.{GeometryValue, IsGeometry, block_of}
+use Rattle.cache_core.specs.Geometry.{GeometryValue, IsGeometry}
 use Rattle.profile_core.specs.internal.State.{ProfileState, empty, fed_of}
-use Rattle.profile_core.specs.internal.Fronts.{after_unless_front, after_batch, fed_of_batch}
+use Rattle.profile_core.specs.internal.Fronts.{after_batch, fed_of_batch}
 use Rattle.profile_core.specs.internal.Fronts.{profile_with_fronts, is_refined, IsFit, Leads}
 use Rattle.sweep_core.specs.declared.profiles.PairProfile.{PairProfile}
 
@@ -36,13 +36,6 @@ first_leads_rest (x ∷ xs) = x.followers == length xs
 pub record IsFresh (x : PairProfile) : Type 0 where
   pub geometry : IsGeometry x.profile.geometry
   pub is : x.profile ≡ empty x.profile.geometry
-
--- the profile of a pair after a reference to an address, unless it finds its block in front
-abbrev pub pair_unless_front : ℕ → PairProfile → PairProfile
-pair_unless_front addr x = record x {
-  profile =
-      after_unless_front x.profile (block_of x.profile.geometry addr);
-}
 
 -- the profile of a pair after references to some addresses, except those that find their block in
 -- front

@@ -13,8 +13,8 @@ use Rattle.trace_core.specs.declared.line.Format.{Format}
 use Rattle.trace_core.specs.declared.fault.TraceFault.{TraceFault}
 use Rattle.trace_core.specs.declared.state.ReaderState.{ReaderState}
 use Rattle.trace_core.specs.declared.state.ReaderState.TheVariants as state
-use Rattle.cache_core.specs.Geometry.{IsGeometry, block_of}
-use Rattle.profile_core.specs.internal.State.{empty, after_reference, after_flush, after_event}
+use Rattle.cache_core.specs.Geometry.{IsGeometry}
+use Rattle.profile_core.specs.internal.State.{empty, after_flush, after_event}
 use Rattle.sweep_core.specs.declared.space.Config.{Config}
 use Rattle.sweep_core.specs.declared.request.Request.{Request}
 use Rattle.sweep_core.specs.declared.profiles.PairProfile.{PairProfile}
@@ -22,13 +22,6 @@ use Rattle.sweep_core.specs.Space.{space_fault}
 use Rattle.sweep_core.specs.SweepText.{configs_of, rows_of}
 use Rattle.sweep_core.specs.Work.{pair_of, pairs, geometry_of_pair}
 use Rattle.sweep_core.specs.internal.Runs.{rows_of_profile}
-
--- the profile of a pair after a reference to an address
-abbrev pub pair_after_reference : ℕ → PairProfile → PairProfile
-pair_after_reference addr x = record x {
-  profile =
-      after_reference x.profile (block_of x.profile.geometry addr);
-}
 
 -- the profile of a pair after a flush
 abbrev pub pair_after_flush : PairProfile → PairProfile
