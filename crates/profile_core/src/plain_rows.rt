@@ -1,7 +1,7 @@
 //! The rows of all sets in one array.
 
-ghost use Rattle.std.specs.Prelude.{◌≡◌, ◌*◌, ◌^◌, ◌≤◌, IfOk};
-ghost use Rattle.profile_core.specs.internal.Rows.{blank_rows};
+ghost use Rattle.std.specs.Prelude.{◌≡◌, ◌-◌, ◌*◌, ◌^◌, ◌<◌, ◌≤◌, IfOk, length, slice_index};
+ghost use Rattle.profile_core.specs.internal.Rows.{blank_rows, row_for};
 
 use crate::recency::Touch;
 use crate::row::bring_in_row;
@@ -43,24 +43,32 @@ impl PlainRows {
             numbers: vec![in alloc; 0; sets * stride]?,
         })
     }
+
+    /// How many numbers a row has.
+    #[inline(always)]
+    pub fn stride(&self) -> usize
+        ensures { result ≡ self.now.stride }
+    {
+        self.stride
+    }
+
+    /// The last number of a set's row.
+    #[inline(always)]
+    pub fn last(&self, set: usize) -> u64
+        requires within { set < length self.now.rows }
+        requires some { 0 < self.now.stride }
+        ensures { result ≡ slice_index (row_for self.now set) (self.now.stride - 1) }
+    {
+        self.numbers[set * self.stride + self.stride - 1]
+    }
 }
 
 impl RowStore for PlainRows {
     ghost view = { λ r. r };
 
     #[inline(always)]
-    fn stride(&self) -> usize {
-        self.stride
-    }
-
-    #[inline(always)]
     fn first(&self, set: usize) -> u64 {
         self.numbers[set * self.stride]
-    }
-
-    #[inline(always)]
-    fn last(&self, set: usize) -> u64 {
-        self.numbers[set * self.stride + self.stride - 1]
     }
 
     #[inline(always)]

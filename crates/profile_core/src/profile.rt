@@ -2,11 +2,11 @@
 ghost use Rattle.std.specs.Prelude.{◌≡◌, ◌+◌, ◌-◌, ◌*◌, ◌^◌, ◌<◌, ◌≤◌, List, IfOk, true, false};
 ghost use Rattle.std.specs.Prelude.{length, take, drop, sum, replicate, []};
 ghost use Rattle.trace_core.specs.declared.events.Event.{Event};
-ghost use Rattle.cache_core.specs.Geometry.{IsGeometry, geometry_value, block_of, set_of_block};
+ghost use Rattle.cache_core.specs.Geometry.{IsGeometry, geometry_value, block_of};
 ghost use Rattle.cache_core.specs.Windows.{occurrences, counts, probes, held};
 ghost use Rattle.profile_core.specs.internal.State.{empty, after_reference, after_flush};
 ghost use Rattle.profile_core.specs.internal.State.{fed_of, held_of, counts_at, hit_sums_at};
-ghost use Rattle.profile_core.specs.internal.State.{weighed, list_of, IsNext, AreHistogramsOf};
+ghost use Rattle.profile_core.specs.internal.State.{weighed, AreHistogramsOf};
 ghost use Rattle.profile_core.specs.internal.Fronts.{is_front_of, after_unless_front, after_fronts};
 ghost use Rattle.profile_core.specs.internal.Fronts.{is_refined, after_batch, fed_of_batch, IsFit};
 ghost use Rattle.profile_core.specs.internal.ProfileStandsFor.{ProfileStandsFor};
@@ -152,12 +152,15 @@ impl Profile {
         match (&mut self.kept, &mut next.kept) {
             (KeptProfile::InSparseRows(first), KeptProfile::InSparseRows(second)) =>
                 first.feed_each_to_two(second, addrs),
-            (KeptProfile::InRows(first), KeptProfile::InRows(second)) =>
-                first.feed_each_to_two(second, addrs),
-            (KeptProfile::InSlots(first), KeptProfile::InSlots(second)) =>
-                first.feed_each_to_two(second, addrs),
-            (KeptProfile::Long(first), KeptProfile::Long(second)) =>
-                first.feed_each_to_two(second, addrs),
+            (KeptProfile::InRows(first), KeptProfile::InRows(second)) => first.feed_each_to_two(
+                second, addrs,
+            ),
+            (KeptProfile::InSlots(first), KeptProfile::InSlots(second)) => first.feed_each_to_two(
+                second, addrs,
+            ),
+            (KeptProfile::Long(first), KeptProfile::Long(second)) => first.feed_each_to_two(
+                second, addrs,
+            ),
             _ => {
                 let left = self.feed_batch(addrs);
                 next.feed_batch(&mut addrs[..left])
@@ -172,11 +175,10 @@ impl Profile {
         ensures front { result ≡ is_front_of self.old block }
         ensures step { self.new ≡ after_unless_front self.old block }
     {
-        let set = self.geometry().set_of_block(block) as usize;
-        if self.is_front(set, block) {
+        if self.is_front(block) {
             return true;
         }
-        self.feed_behind(set, block);
+        self.feed_behind(block);
         false
     }
 
@@ -184,24 +186,24 @@ impl Profile {
     /// which the lists are kept. Any other block is compared with the fronts alone, which are at
     /// the same place in each way.
     #[inline(always)]
-    fn is_front(&self, set: usize, block: u64) -> bool
-        requires { set ≡ set_of_block self.now.geometry block }
+    fn is_front(&self, block: u64) -> bool
         ensures { result ≡ is_front_of self.now block }
     {
-        let front = in_any_way!(&self.kept, profile => profile.front(set));
+        let front = in_any_way!(&self.kept, profile => profile.front_for(block));
         front == block
-            && (block != 0 || in_any_way!(&self.kept, profile => profile.is_front(set, block)))
+            && (block != 0 || in_any_way!(&self.kept, profile => profile.is_front(block)))
     }
 
     /// Feeds a reference to a block that is behind the front of its set's list, or not in the list.
     /// Most references find their block in front: it is not inlined, so that the path of most stays
     /// short.
     #[inline(never)]
-    fn feed_behind(&mut self, set: usize, block: u64)
-        requires { IsNext self.old set block }
+    fn feed_behind(&mut self, block: u64)
+        requires few { fed_of self.old < MAX_REFERENCES }
+        requires behind { is_front_of self.old block ≡ false }
         ensures { self.new ≡ after_reference self.old block }
     {
-        in_any_way!(&mut self.kept, profile => profile.feed_behind_apart(set, block))
+        in_any_way!(&mut self.kept, profile => profile.feed_behind_apart(block))
     }
 
     /// Counts this many references that find their block in front, and one comparison for each.

@@ -8,6 +8,7 @@ ghost use Rattle.profile_core.specs.internal.Moves.{is_second};
 ghost use Rattle.profile_core.specs.internal.Rows.{AreLong};
 ghost use Rattle.profile_core.specs.internal.Lists.{lists_after_touch};
 
+use crate::plain_rows::PlainRows;
 use crate::rows::RowStore;
 use crate::set_lists::SetLists;
 use cache_core::touched::TouchedSets;
@@ -80,7 +81,9 @@ impl<R: RowStore> RecencyLists<R> {
         self.lens[set] = 1;
         self.touched.add_grown(set, 0, 1);
     }
+}
 
+impl RecencyLists<PlainRows> {
     /// The last block of a set's list, if the list is full.
     #[inline(always)]
     pub fn last_of_full(&self, set: usize) -> Option<u64>

@@ -1,7 +1,6 @@
 //! The rest of each set's row of blocks, which is all but its first number, in whatever way it is
 //! stored.
 ghost use Rattle.std.specs.Prelude.{◌≡◌, ◌+◌, ◌-◌, ◌<◌, ◌≤◌, ◌∷◌, false, nat_eq, length, take};
-ghost use Rattle.std.specs.Prelude.{slice_index};
 ghost use Rattle.std.specs.List.{remove};
 ghost use Rattle.profile_core.specs.internal.Moves.{index_of, rest_touch_of};
 ghost use Rattle.profile_core.specs.internal.Rows.{RowsValue, row_for, with_row};
@@ -13,16 +12,6 @@ use crate::recency::Touch;
 pub trait RestStore: Drop {
     /// The rests that it stands for, as rows.
     ghost view: { Self → RowsValue };
-
-    /// How many numbers a rest has.
-    fn stride(&self) -> usize
-        ensures { result ≡ (view self.now).stride };
-
-    /// The last number of a set's rest.
-    fn last(&self, set: usize) -> u64
-        requires within { set < length (view self.now).rows }
-        requires some { 0 < (view self.now).stride }
-        ensures { result ≡ slice_index (row_for (view self.now) set) ((view self.now).stride - 1) };
 
     /// Takes a block out of a set's list of `len` blocks, if it is there, and puts `second` in
     /// front of the rest. The block is neither the first nor the second of the list. The list grows

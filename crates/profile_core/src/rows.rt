@@ -1,5 +1,5 @@
 //! A row of blocks for each set, in whatever way the rows are stored.
-ghost use Rattle.std.specs.Prelude.{◌≡◌, ◌-◌, ◌<◌, false, length, slice_index, slice_set};
+ghost use Rattle.std.specs.Prelude.{◌≡◌, ◌<◌, false, length, slice_index, slice_set};
 ghost use Rattle.profile_core.specs.internal.Moves.{is_front, is_second, touch_of};
 ghost use Rattle.profile_core.specs.internal.Lists.{IsRow, IsBroughtInRow};
 ghost use Rattle.profile_core.specs.internal.Rows.{RowsValue, row_for, with_row, list_in_row};
@@ -11,21 +11,11 @@ pub trait RowStore: Drop {
     /// The rows that it stands for.
     ghost view: { Self → RowsValue };
 
-    /// How many numbers a row has.
-    fn stride(&self) -> usize
-        ensures { result ≡ (view self.now).stride };
-
     /// The first number of a set's row.
     fn first(&self, set: usize) -> u64
         requires within { set < length (view self.now).rows }
         requires some { 0 < (view self.now).stride }
         ensures { result ≡ slice_index (row_for (view self.now) set) 0 };
-
-    /// The last number of a set's row.
-    fn last(&self, set: usize) -> u64
-        requires within { set < length (view self.now).rows }
-        requires some { 0 < (view self.now).stride }
-        ensures { result ≡ slice_index (row_for (view self.now) set) ((view self.now).stride - 1) };
 
     /// Writes the first number of a set's row.
     fn put_first(&mut self, set: usize, number: u64)

@@ -90,15 +90,6 @@ impl RestStore for SlottedRests {
     ghost view = { λ r. r };
 
     #[inline(always)]
-    fn stride(&self) -> usize {
-        self.stride
-    }
-
-    fn last(&self, set: usize) -> u64 {
-        number_at(&self.rests[self.places[set] as usize], self.stride - 1)
-    }
-
-    #[inline(always)]
     fn bring(&mut self, set: usize, second: u64, len: &mut u32, block: u64) -> Touch {
         let rest = own_rest(&mut self.places, &mut self.rests, set);
         bring_in_slots(&mut self.rests[rest], self.stride, second, len, block)
@@ -140,15 +131,6 @@ fn take_slots(rests: &mut Vec<Slots>) -> u32
         unreachable!()
     };
     taken as u32
-}
-
-/// The number at a place.
-fn number_at(slots: &Slots, place: usize) -> u64
-    requires sound { IsOrder slots.now.marks slots.now.order slots.now.numbers }
-    requires within { place < 16 }
-    ensures { result ≡ slice_index slots.now.numbers (slice_index slots.now.order place) }
-{
-    slots.numbers[slots.order[place] as usize]
 }
 
 /// Takes a block out of a list of `len` blocks, of which it is neither of the first two. Those

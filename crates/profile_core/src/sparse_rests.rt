@@ -61,15 +61,6 @@ impl RestStore for SparseRests {
     ghost view = { λ r. r };
 
     #[inline(always)]
-    fn stride(&self) -> usize {
-        self.stride
-    }
-
-    fn last(&self, set: usize) -> u64 {
-        self.numbers[self.places[set] as usize * self.stride + self.stride - 1]
-    }
-
-    #[inline(always)]
     fn bring(&mut self, set: usize, second: u64, len: &mut u32, block: u64) -> Touch {
         let (places, numbers) = (&mut self.places, &mut self.numbers);
         let start = own_rest(self.stride, places, numbers, set) * self.stride;

@@ -52,17 +52,8 @@ impl<R: RestStore> RowStore for SplitRows<R> {
     ghost view = { λ r. r };
 
     #[inline(always)]
-    fn stride(&self) -> usize {
-        self.rests.stride() + 1
-    }
-
-    #[inline(always)]
     fn first(&self, set: usize) -> u64 {
         self.firsts[set]
-    }
-
-    fn last(&self, set: usize) -> u64 {
-        self.rests.last(set)
     }
 
     #[inline(always)]

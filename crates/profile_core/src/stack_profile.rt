@@ -73,22 +73,21 @@ impl<L: SetLists> StackProfile<L> {
         &self.histograms
     }
 
-    /// The front of a set's list, or 0 if the list is empty.
+    /// The front of the list of a block's set, or 0 if the list is empty.
     #[inline(always)]
-    pub fn front(&self, set: usize) -> u64
-        requires { set < 2 ^ self.now.geometry.s }
-        ensures { result ≡ slice_index (list_of self.now set) 0 }
+    pub fn front_for(&self, block: u64) -> u64
+        ensures { result ≡ slice_index (list_of self.now (set_of_block self.now.geometry block)) 0 }
     {
-        self.lists.front(set)
+        self.lists.front(self.geometry.set_of_block(block) as usize)
     }
 
-    /// Whether a block is in front of the list of its set.
+    /// Whether a block is the front of the list of its set.
     #[inline(always)]
-    pub fn is_front(&self, set: usize, block: u64) -> bool
-        requires { set ≡ set_of_block self.now.geometry block }
+    pub fn is_front(&self, block: u64) -> bool
         ensures { result ≡ is_front_of self.now block }
     {
-        self.lists.is_front(set, block)
+        self.lists
+            .is_front(self.geometry.set_of_block(block) as usize, block)
     }
 
     /// How many blocks the lists hold. It visits all sets.
@@ -127,11 +126,10 @@ impl<L: SetLists> StackProfile<L> {
         ensures within { result ≤ length addrs.new }
         ensures length { length addrs.new ≡ length addrs.old }
     {
-        let geometry = self.geometry;
         let mut fed = 0;
         for at in 0..addrs.len() {
             let addr = addrs[at];
-            if !self.feed_in_batch(geometry, addr) {
+            if !self.feed_unless_front(addr) {
                 addrs[fed] = addr;
                 fed += 1;
             }
@@ -154,12 +152,11 @@ impl<L: SetLists> StackProfile<L> {
         ensures within { result ≤ length addrs.new }
         ensures length { length addrs.new ≡ length addrs.old }
     {
-        let (geometry, next_geometry) = (self.geometry, next.geometry);
         let mut left = 0;
         for at in 0..addrs.len() {
             let addr = addrs[at];
-            if !self.feed_in_batch(geometry, addr) {
-                if !next.feed_in_batch(next_geometry, addr) {
+            if !self.feed_unless_front(addr) {
+                if !next.feed_unless_front(addr) {
                     addrs[left] = addr;
                     left += 1;
                 }
@@ -169,18 +166,16 @@ impl<L: SetLists> StackProfile<L> {
     }
 
     /// Feeds one reference of a batch, unless it finds its block in front. Returns whether it does
-    /// so. The geometry is the profile's own: a batch reads it once, since the compiler can't tell
-    /// that it stays.
+    /// so.
     #[inline(always)]
-    fn feed_in_batch(&mut self, geometry: Geometry, addr: u64) -> bool
-        requires few { fed_of self.old < MAX_REFERENCES }
-        requires own { geometry ≡ self.old.geometry }
+    fn feed_unless_front(&mut self, addr: u64) -> bool
+        requires { fed_of self.old < MAX_REFERENCES }
         ensures front { result ≡ is_front_of self.old (block_of self.old.geometry addr) }
         ensures step { self.new ≡ after_unless_front self.old (block_of self.old.geometry addr) }
         ensures more { fed_of self.new ≤ fed_of self.old + 1 }
     {
-        let block = geometry.block_of(addr);
-        let set = geometry.set_of(addr) as usize;
+        let block = self.geometry.block_of(addr);
+        let set = self.geometry.set_of(addr) as usize;
         if self.lists.is_front(set, block) {
             return true;
         }
@@ -191,10 +186,12 @@ impl<L: SetLists> StackProfile<L> {
     /// Feeds a reference to a block that is behind the front of its set's list, or not in the list.
     /// It is not inlined: the code for a block in front stays short.
     #[inline(never)]
-    pub fn feed_behind_apart(&mut self, set: usize, block: u64)
-        requires { IsNext self.old set block }
+    pub fn feed_behind_apart(&mut self, block: u64)
+        requires few { fed_of self.old < MAX_REFERENCES }
+        requires behind { is_front_of self.old block ≡ false }
         ensures { self.new ≡ after_reference self.old block }
     {
+        let set = self.geometry.set_of_block(block) as usize;
         self.feed_behind(set, block);
     }
 

@@ -2,7 +2,7 @@
 use Rattle.std.proofs.Common.{◌∙◌, ap, refl}
 use Rattle.profile_core.specs.internal.Moves.{is_second}
 use Rattle.profile_core.specs.internal.State.{list_of}
-use Rattle.profile_core.proofs.Feeding.{FoundAt, found_second}
+use Rattle.profile_core.proofs.Feeding.{found_second}
 use Rattle.profile_core.proofs.Fed.{moved_of, other, found_sound, found_after}
 use Rattle.profile_core.proofs.stack_profile.StackProfile.feed_second.Goals as goal
 

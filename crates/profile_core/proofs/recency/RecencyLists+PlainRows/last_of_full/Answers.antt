@@ -4,7 +4,7 @@ use Rattle.std.proofs.Common.{sym, ap, arith, get_or-take}
 use Rattle.profile_core.specs.internal.Rows.{row_for}
 use Rattle.profile_core.proofs.ListLemmas.{known, depth_is, within, among_rows, list_is, list_size}
 use Rattle.profile_core.proofs.ListLemmas.{len_read}
-use Rattle.profile_core.proofs.recency.RecencyLists.last_of_full.Goals as goal
+use Rattle.profile_core.proofs.recency.RecencyLists+PlainRows.last_of_full.Goals as goal
 
 last_is : (n front : ℕ) (row : List ℕ) → 0 < n →
     get_or (front ∷ row) n 0 ≡ get_or row (n - 1) 0
@@ -12,25 +12,25 @@ last_is zero front row some = absurd (omega arith)
 last_is (suc n) front row some = ap (λ j. get_or row j 0) (omega arith)
 
 pub index-requires : goal.index-requires
-index-requires g c = omega (
+index-requires c = omega (
   arith,
   within (known c.self.invariant c.self.view_is c.requires.within),
   c.self.inside.lens.ok.0,
 )
 
 pub last-requires-clause-within : goal.last-requires-clause-within
-last-requires-clause-within g c =
+last-requires-clause-within c =
     among_rows (known c.self.invariant c.self.view_is c.requires.within)
 
 pub returns-then-index-stride : goal.returns-then-index-stride
-returns-then-index-stride g c =
+returns-then-index-stride c =
     let l = known c.self.invariant c.self.view_is c.requires.within in
-    let n : ℕ = (g.R.RowStore.view c.self.inside.rows).stride in
+    let n : ℕ = c.self.inside.rows.stride in
     let k : ℕ = c.args.set in
     let list : List ℕ = get_or c.args.self.now.lists k [] in
     let len : ℕ = get_or c.self.inside.lens.items k 0 in
     let front : ℕ = get_or c.self.inside.fronts.items k 0 in
-    let row : List ℕ = row_for (g.R.RowStore.view c.self.inside.rows) k in
+    let row : List ℕ = row_for c.self.inside.rows k in
     let some : 0 < n = omega (arith, depth_is c.self.view_is, c.requires.two) in
     let full : len ≡ n + 1 = omega (
       arith,
@@ -47,7 +47,7 @@ returns-then-index-stride g c =
     )
 
 pub returns-else-index-stride : goal.returns-else-index-stride
-returns-else-index-stride g c =
+returns-else-index-stride c =
     let l = known c.self.invariant c.self.view_is c.requires.within in
     omega (
       arith,

@@ -3,7 +3,7 @@ use Rattle.std.proofs.Common.{◌-◌, ◌∙◌, get_or, ap, arith}
 use Rattle.profile_core.specs.internal.Rows.{row_for}
 use Rattle.profile_core.proofs.PlainRowLemmas.{known, ends, numbers_small, entry_read}
 use Rattle.profile_core.proofs.RowsBySet.{stride_is}
-use Rattle.profile_core.proofs.plain_rows.PlainRowsRowStore.last.Goals as goal
+use Rattle.profile_core.proofs.plain_rows.PlainRows.last.Goals as goal
 
 pub overflow_mul-set : goal.overflow_mul-set
 overflow_mul-set c =

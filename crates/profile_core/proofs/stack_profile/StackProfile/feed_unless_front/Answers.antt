@@ -2,7 +2,7 @@
 use Rattle.std.proofs.Common.{ap, arith}
 use Rattle.profile_core.specs.internal.State.{fed_of}
 use Rattle.profile_core.proofs.Fronts.{fit_inside, reference_fed}
-use Rattle.profile_core.proofs.stack_profile.StackProfile.feed_in_batch.Goals as goal
+use Rattle.profile_core.proofs.stack_profile.StackProfile.feed_unless_front.Goals as goal
 
 pub returns-clause-more : goal.returns-clause-more
 returns-clause-more g c = omega (
