@@ -1,5 +1,7 @@
 //! Why the program ends without having done its job.
 ghost use Rattle.std.specs.Prelude.{◌≡◌};
+ghost use Rattle.std.specs.Fmt.{WritesOnOk};
+ghost use Rattle.cachesim.specs.Names.{shown_letter};
 ghost use Rattle.cachesim.specs.Status.{program_status};
 ghost use Rattle.cachesim.specs.declared.faults.ProgramFault.TheVariants.{Arguments, Memory};
 
@@ -35,15 +37,29 @@ pub enum ProgramFault {
 pub struct FileName(pub String);
 
 impl fmt::Display for FileName {
+    ghost use Rattle.std.specs.Prelude.{Some, flat_map};
+    ghost use Rattle.std.specs.Str.{chars};
+    ghost use Rattle.std.specs.String.{string_bytes};
+    ghost use Rattle.cachesim.specs.Names.{shown_letter};
+
+    ghost output = { λ name. Some (flat_map shown_letter (chars (string_bytes name.0))) };
+
     fn fmt<W: fmt::Write>(&self, f: &mut fmt::Formatter<W>) -> fmt::Result {
         for letter in self.0.chars() {
-            if letter.is_control() {
-                write!(f, "\\x{:02x}", letter as u32)?;
-            } else {
-                f.write_char(letter)?;
-            }
+            write_letter(f, letter)?;
         }
         Ok(())
+    }
+}
+
+/// Writes a letter of a name.
+fn write_letter<W: fmt::Write>(f: &mut fmt::Formatter<W>, letter: char) -> fmt::Result
+    ensures { WritesOnOk W.write_str_gives f.old result (shown_letter letter) f.new }
+{
+    if letter.is_control() {
+        write!(f, "\\x{:02x}", letter as u32)
+    } else {
+        f.write_char(letter)
     }
 }
 
