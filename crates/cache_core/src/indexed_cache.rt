@@ -93,7 +93,7 @@ impl IndexedCache {
     }
 
     /// Makes one access, and returns its outcome.
-    #[inline(never)]
+    #[inline(always)]
     pub(crate) fn access(&mut self, reference: Ref) -> Outcome
         ensures step { Accesses (contents_of policy_of random_numbers_of self.old) reference result
             (contents_of policy_of random_numbers_of self.new) }
