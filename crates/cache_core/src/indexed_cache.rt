@@ -4,7 +4,8 @@ ghost use Rattle.std.specs.Prelude.{◌≡◌, ◌<◌, ◌*◌, ◌^◌, IfOk, 
 ghost use Rattle.cache_core.specs.Geometry.{IsGeometry};
 ghost use Rattle.cache_core.specs.Order.{Accesses, FlushesCache};
 ghost use Rattle.cache_core.specs.Slab.{contents_of};
-ghost use Rattle.cache_core.specs.internal.Slab.{empty_sets, AccessesInFront};
+ghost use Rattle.cache_core.specs.internal.Slab.{empty_sets, AccessesInFront, AccessesHeld};
+ghost use Rattle.cache_core.specs.internal.Slab.{LacksBlock};
 ghost use Rattle.cache_core.specs.internal.Order.{DirtiesByWrites};
 ghost use Rattle.cache_core.specs.internal.SystemCaches.{policy_of, random_numbers_of};
 
@@ -12,7 +13,7 @@ use crate::chosen_policy::ChosenPolicy;
 use crate::design::{AllocMode, Design, WriteMode};
 use crate::geometry::Geometry;
 use crate::indexed_flush::empty_sets;
-use crate::indexed_set::{visit, visit_front};
+use crate::indexed_set::{visit_front, visit_held, visit_missing};
 use crate::outcome::Outcome;
 use crate::slot_order::SlotOrder;
 use crate::touched::TouchedSets;
@@ -92,16 +93,31 @@ impl IndexedCache {
         })
     }
 
-    /// Makes one access, and returns its outcome.
+    /// Makes an access if it finds its block, and returns its outcome. Otherwise it does nothing.
     #[inline(always)]
-    pub(crate) fn access(&mut self, reference: Ref) -> Outcome
+    pub(crate) fn access_held(&mut self, reference: Ref) -> Option<Outcome>
+        ensures { AccessesHeld policy_of random_numbers_of self.old reference result self.new }
+    {
+        visit_held(
+            self.design,
+            &self.index,
+            &mut self.dirty,
+            &mut self.order,
+            reference,
+        )
+    }
+
+    /// Makes an access that does not find its block, and returns its outcome.
+    #[inline(always)]
+    pub(crate) fn access_missing(&mut self, reference: Ref) -> Outcome
+        requires { LacksBlock self.old.design self.old.sets reference }
         ensures step { Accesses (contents_of policy_of random_numbers_of self.old) reference result
             (contents_of policy_of random_numbers_of self.new) }
         ensures dirty { DirtiesByWrites self.old.sets reference result self.new.sets }
         ensures victim { IfSome result.evicted
             (λ slot. slot.block * 2 ^ self.old.design.geometry.b < 2 ^ 64) }
     {
-        visit(
+        visit_missing(
             self.design,
             &mut self.policy,
             &mut self.index,
