@@ -208,11 +208,11 @@ class Thresholds(unittest.TestCase):
         """Random cases stand on both sides of each size at which the code works in another way."""
         places = set(importlib.import_module("thresholds").PLACES)
         for crate, source, name, command, what, sides in (
-            ("profile_core", "kept_lists.rt", "SLOTTED_FROM", "sweep", "ways", (-1, 0)),
-            ("profile_core", "kept_lists.rt", "SLOTTED_TO", "sweep", "ways", (0, 1)),
-            ("profile_core", "kept_lists.rt", "MANY_WAYS", "sweep", "ways", (-1, 0)),
-            ("profile_core", "kept_lists.rt", "MANY_WAYS", "sweep", "ways of 8,192 sets", (-1, 0)),
-            ("profile_core", "kept_lists.rt", "MANY_SETS", "sweep", "sets", (0, 4096)),
+            ("profile_core", "kept_profile.rt", "SLOTTED_FROM", "sweep", "ways", (-1, 0)),
+            ("profile_core", "kept_profile.rt", "SLOTTED_TO", "sweep", "ways", (0, 1)),
+            ("profile_core", "kept_profile.rt", "MANY_WAYS", "sweep", "ways", (-1, 0)),
+            ("profile_core", "kept_profile.rt", "MANY_WAYS", "sweep", "ways of 8,192 sets", (-1, 0)),
+            ("profile_core", "kept_profile.rt", "MANY_SETS", "sweep", "sets", (0, 4096)),
             ("profile_core", "long_lists.rt", "ROW", "sweep", "ways", (-1, 0)),
             ("profile_core", "long_lists.rt", "DEEP", "sweep", "ways", (-1, 0)),
             ("sweep_core", "batch.rt", "BATCH", "sweep", "references", (-1, 0, 1)),

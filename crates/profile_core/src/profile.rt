@@ -1,6 +1,6 @@
 //! A profile: one pass over references that counts for every associativity up to a depth.
 ghost use Rattle.std.specs.Prelude.{◌≡◌, ◌+◌, ◌-◌, ◌*◌, ◌^◌, ◌<◌, ◌≤◌, List, IfOk, true, false};
-ghost use Rattle.std.specs.Prelude.{length, take, drop, sum, replicate, []};
+ghost use Rattle.std.specs.Prelude.{length, take, drop, sum};
 ghost use Rattle.trace_core.specs.declared.events.Event.{Event};
 ghost use Rattle.cache_core.specs.Geometry.{IsGeometry, geometry_value, block_of};
 ghost use Rattle.cache_core.specs.Windows.{occurrences, counts, probes, held};
