@@ -32,7 +32,7 @@ PLACES = [
 # slots have one to three marks (mark_of in slotted_rests.rt); at most others they have 14 or more
 STEPS = 1, 1, 1, 3, 16, 1024, 126_543, 774_080
 # the chain of a block is its product with this in 64 bits, whose upper half is scaled to the number
-# of chains (block_index.rt of block_index), and the block the product with this inverse
+# of chains (chains.rt of block_index), and the block the product with this inverse
 FACTOR = 0x9E37_79B9_7F4A_7C15
 INVERSE = pow(FACTOR, -1, 2**64)
 

@@ -150,7 +150,8 @@ module _ {top n : ℕ} {v : ChainsValue} (h : AreChains top n v) (t : ℕ) (next
       ]))
 
   pub filed_more : (slots : SlotsValue) → AreFiledFrom top v slots
-      → AreFiledFrom t (with_slot v t (chain_of_block (length v.heads) (get_or slots.blocks t 0))) slots
+      → AreFiledFrom t
+      (with_slot v t (chain_of_block (length v.heads) (get_or slots.blocks t 0))) slots
   filed_more slots filed s le one =
       let x : ℕ = get_or slots.blocks t 0 in
       let k : ℕ = chain_of_block (length v.heads) x in

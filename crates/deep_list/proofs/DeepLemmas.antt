@@ -162,7 +162,8 @@ module _ {top end : ℕ} {slots : SlotsValue} {chains : ChainsValue}
         let here : get_or (set slots.blocks t x) t 0 ≡ x =
         get_or-set_same slots.blocks t x 0 (omega (arith, lt, r.same)) in
         let Q : ℕ → Type 0 = λ y. AreFiledFrom t
-        (with_slot chains t (chain_of_block (length chains.heads) y)) (slots_with_block slots t x) in
+        (with_slot chains t (chain_of_block (length chains.heads) y))
+        (slots_with_block slots t x) in
         let from = subst Q here (filed_more r.chains_are t next lt (slots_with_block slots t x)
         filled_filed) in
         let P : ℕ → Type 0 = λ n. AreChains t n

@@ -28,4 +28,5 @@ returns c =
           set c.self.inside.next.items c.args.slot head;
     } in
     ap (made c.chain_among-chain.result) (sym read) ∙ ap (λ k. made k (get_or heads k 0)) chain_is
-    ∙ ap (λ v. with_slot v c.args.slot (chain_of_block (length v.heads) c.args.block)) c.self.view_is
+    ∙ ap (λ v. with_slot v c.args.slot (chain_of_block (length v.heads) c.args.block))
+    c.self.view_is
