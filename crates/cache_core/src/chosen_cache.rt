@@ -1,5 +1,5 @@
-//! A cache under a named policy. By its number of ways its sets are walked over, or its blocks are found by
-//! an index.
+//! A cache under a named policy. By its number of ways its sets are walked over, or its blocks are
+//! found by an index.
 ghost use Rattle.std.specs.Prelude.{◌≡◌, ◌<◌, ◌*◌, ◌^◌, IfOk, IfSome};
 ghost use Rattle.cache_core.specs.Geometry.{IsGeometry};
 ghost use Rattle.cache_core.specs.Order.{Accesses, FlushesCache};
