@@ -143,9 +143,9 @@ impl<P: NamedPolicy> ChosenCache<P> {
     }
 }
 
-/// Makes any access to a cache that is walked over, and returns how it went. It is a function of its
-/// own, so that the path of the many references that find their block in the first slot of its set
-/// stays short, and an outcome of which little is asked is not stored.
+/// Makes any access to a cache that is walked over, and returns how it went. It is a function of
+/// its own, so that the path of the many references that find their block in the first slot of its
+/// set stays short, and an outcome of which little is asked is not stored.
 #[inline(never)]
 fn look_up_walked<P: Replacement>(cache: &mut Cache<P>, reference: Ref) -> Lookup
     ensures { LooksUp P.policy P.words cache.old reference result cache.new }

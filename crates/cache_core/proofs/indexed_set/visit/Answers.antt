@@ -91,7 +91,8 @@ returns-clause-step g c =
     c.set_of-set.result c.block_of-block.result c.requires.indexed c.set_of-set.ensures.value
     c.block_of-block.ensures.value c.set_of-set.ensures.within c.placing_outcome.result
     c.in_default.ensures c.dirties_line-mark.result c.dirties_line-mark.ensures
-    (sym c.allocates_line.ensures ∙ c.if-not-allocates_line.false) (g.P.Replacement.policy c.args.policy.now)
+    (sym c.allocates_line.ensures ∙ c.if-not-allocates_line.false)
+    (g.P.Replacement.policy c.args.policy.now)
     (g.P.Replacement.policy c.place-evicted.new.policy) (g.P.Replacement.words c.args.policy.now)
     (g.P.Replacement.words c.place-evicted.new.policy)
     (sets_at c.place-evicted.new.index c.place-evicted.new.dirty c.place-evicted.new.order.sets)
@@ -109,7 +110,8 @@ returns-clause-dirty g c =
     c.set_of-set.result c.block_of-block.result c.requires.indexed c.set_of-set.ensures.value
     c.block_of-block.ensures.value c.set_of-set.ensures.within c.placing_outcome.result
     c.in_default.ensures c.dirties_line-mark.result c.dirties_line-mark.ensures
-    (sym c.allocates_line.ensures ∙ c.if-not-allocates_line.false) (g.P.Replacement.policy c.args.policy.now)
+    (sym c.allocates_line.ensures ∙ c.if-not-allocates_line.false)
+    (g.P.Replacement.policy c.args.policy.now)
     (g.P.Replacement.policy c.place-evicted.new.policy) (g.P.Replacement.words c.args.policy.now)
     (g.P.Replacement.words c.place-evicted.new.policy)
     (sets_at c.place-evicted.new.index c.place-evicted.new.dirty c.place-evicted.new.order.sets)
