@@ -1,5 +1,5 @@
-//! A cache under a named policy. By its number of ways its sets are walked over, or its blocks are found by
-//! an index.
+//! A cache under a named policy. By its number of ways its sets are walked over, or its blocks are
+//! found by an index.
 ghost use Rattle.std.specs.Prelude.{◌≡◌, ◌<◌, ◌*◌, ◌^◌, IfOk, IfSome};
 ghost use Rattle.cache_core.specs.Geometry.{IsGeometry};
 ghost use Rattle.cache_core.specs.Order.{Accesses, FlushesCache};
@@ -156,9 +156,9 @@ impl<P: NamedPolicy> ChosenCache<P> {
     }
 }
 
-/// Makes any access to a cache that is walked over, and returns how it went. It is a function of its
-/// own, so that the path of the many references that find their block in the first slot of its set
-/// stays short, and an outcome of which little is asked is not stored.
+/// Makes any access to a cache that is walked over, and returns how it went. It is a function of
+/// its own, so that the path of the many references that find their block in the first slot of its
+/// set stays short, and an outcome of which little is asked is not stored.
 #[inline(never)]
 fn look_up_walked<P: Replacement>(cache: &mut Cache<P>, reference: Ref) -> Lookup
     ensures { LooksUp P.policy P.words cache.old reference result cache.new }
