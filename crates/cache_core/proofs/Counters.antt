@@ -9,7 +9,7 @@ use Rattle.cache_core.specs.declared.design.Design.{Design}
 use Rattle.cache_core.specs.declared.outcome.Slot.{Slot}
 use Rattle.cache_core.specs.declared.design.Repl.{Repl}
 use Rattle.cache_core.specs.declared.system_cache.SystemCache.{SystemCache}
-use Rattle.cache_core.specs.declared.system.Memory.{Memory}
+use Rattle.cache_core.specs.declared.below.Memory.{Memory}
 use Rattle.cache_core.specs.Geometry.{block_of}
 use Rattle.cache_core.specs.Order.{Visits, VisitsAt, Fills, PassesOn, position_of}
 use Rattle.cache_core.specs.Outcomes.{is_allocated, on_hit, on_placing, on_passing, two_options}

@@ -10,7 +10,7 @@ use Rattle.trace_core.specs.declared.events.Event.TheVariants as event
 use Rattle.trace_core.specs.Events.{is_write}
 use Rattle.cache_core.specs.declared.plan.PlannedCache.{PlannedCache}
 use Rattle.cache_core.specs.declared.system_cache.SystemCache.{SystemCache}
-use Rattle.cache_core.specs.declared.system.Memory.{Memory}
+use Rattle.cache_core.specs.declared.below.Memory.{Memory}
 use Rattle.cache_core.specs.Plans.{IsPlannedCache}
 use Rattle.cache_core.specs.Systems.{machine_of, to_memory}
 use Rattle.cache_core.specs.internal.SystemSteps.{present_refs, memory_after_all, Descends}

@@ -16,7 +16,7 @@ use Rattle.cache_core.specs.declared.plan.PlannedCache.{PlannedCache}
 use Rattle.cache_core.specs.declared.plan.CacheName.{CacheName}
 use Rattle.cache_core.specs.declared.plan.CacheName.TheVariants.{L1I, L1D, L1U, L2U}
 use Rattle.cache_core.specs.declared.system_cache.SystemCache.{SystemCache}
-use Rattle.cache_core.specs.declared.system.Memory.{Memory as SystemMemory}
+use Rattle.cache_core.specs.declared.below.Memory.{Memory as SystemMemory}
 use Rattle.cache_core.specs.Arrivals.{arrival_at, cache_arrivals, first_level_arrivals}
 use Rattle.cache_core.specs.Arrivals.{all_arrivals_below, at_memory, first_arrivals, lower_arrivals}
 use Rattle.cache_core.specs.Arrivals.{references_passed, flushes, Saw}

@@ -3,6 +3,7 @@
 #![tactic(auto)]
 
 pub mod arrival;
+mod below;
 pub mod cache;
 mod chosen_cache;
 mod chosen_policy;

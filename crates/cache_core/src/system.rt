@@ -1,25 +1,21 @@
 //! A system of caches.
 ghost use Rattle.std.specs.Prelude.{◌≡◌, ◌≤◌, ◌<◌, ◌+◌, ◌^◌, ℕ, List, length, ◌∷◌, [], IfOk};
 ghost use Rattle.std.specs.Prelude.{Option, ◌++◌, Some, None, true, MatchBool};
-ghost use Rattle.cache_core.specs.internal.SystemSteps.{present_refs, memory_after_all, Descends};
-ghost use Rattle.cache_core.specs.internal.SystemSteps.{AllDescend, AccessesFirst};
-ghost use Rattle.cache_core.specs.internal.SystemSteps.{AccessesFirstLevel, EmptiesCache};
-ghost use Rattle.cache_core.specs.internal.Counted.{accesses};
-ghost use Rattle.cache_core.specs.internal.SystemSteps.{accesses_of, memory_accesses, stats_held};
-ghost use Rattle.cache_core.specs.internal.SystemSteps.{IsNewCache, nothing_down};
+ghost use Rattle.cache_core.specs.internal.SystemSteps.{AccessesFirst, AccessesFirstLevel};
+ghost use Rattle.cache_core.specs.internal.SystemSteps.{EmptiesCache, accesses_of, stats_held};
+ghost use Rattle.cache_core.specs.internal.SystemSteps.{IsNewCache, nothing_down, first_name};
 ghost use Rattle.cache_core.specs.internal.SystemSteps.{first_hits_in_front, level_hits_in_front};
-ghost use Rattle.cache_core.specs.internal.SystemSteps.{first_name};
 ghost use Rattle.cache_core.specs.declared.arrival.Arrival.TheVariants.{Cache};
 ghost use Rattle.cache_core.specs.internal.SystemStands.{PlannedCacheStandsFor};
-ghost use Rattle.cache_core.specs.Arrivals.{Saw, cache_arrivals, arrivals_below};
-ghost use Rattle.cache_core.specs.Arrivals.{all_arrivals_below, at_memory, first_arrivals, flushes};
+ghost use Rattle.cache_core.specs.Arrivals.{Saw, cache_arrivals, first_arrivals, flushes};
 ghost use Rattle.cache_core.specs.Plans.{PlannedCaches, IsPlan, IsPlannedCache};
 ghost use Rattle.cache_core.specs.Systems.{events_for};
-ghost use Rattle.cache_core.specs.declared.plan.CacheName.TheVariants.{L1I, L1D, L1U, L2U};
+ghost use Rattle.cache_core.specs.declared.plan.CacheName.TheVariants.{L1I, L1D, L1U};
 ghost use Rattle.cache_core.specs.declared.plan.PlannedCache.{PlannedCache};
 ghost use Rattle.trace_core.specs.declared.events.Event.{Event};
 
 use crate::arrival::{Arrival, MAX_ARRIVALS, Nobody, Observer};
+use crate::below::{Memory, descend_all};
 use crate::plan::{CacheName, Plan, PlannedCache};
 use crate::stats::{CacheStats, Stats};
 use crate::system_cache::SystemCache;
@@ -226,34 +222,6 @@ impl System {
     }
 }
 
-/// The numbers of reads and writes that reached memory.
-#[derive(Clone, Copy, Debug, PartialEq, Eq)]
-pub(crate) struct Memory {
-    pub(crate) reads: u64,
-    pub(crate) writes: u64,
-}
-
-impl Memory {
-    /// Counts a reference, if there is one, and shows it to the observer.
-    fn count<O: Observer>(&mut self, reference: Option<Ref>, observer: &mut O)
-        requires counts { memory_accesses self.old < 2 ^ 63 }
-        requires room { 1 ≤ O.room observer.old }
-        ensures value { self.new ≡ memory_after_all self.old (present_refs (reference ∷ [])) }
-        ensures seen { Saw O.has_seen observer.old (at_memory (present_refs (reference ∷ [])))
-            observer.new }
-        ensures room { O.room observer.old ≤ O.room observer.new + 1 }
-    {
-        if let Some(reference) = reference {
-            observer.see(Arrival::Memory { reference });
-            if reference.access == Access::Write {
-                self.writes += 1;
-            } else {
-                self.reads += 1;
-            }
-        }
-    }
-}
-
 /// Makes a reference at a first-level cache, if it is there, and returns what it sends down.
 #[inline(always)]
 fn access_first<O: Observer>(
@@ -366,75 +334,6 @@ fn access_first_level_in_front(
         return access_first_in_front(i, reference);
     }
     access_first_in_front(d, reference)
-}
-
-/// A reference arrives at the second level, or at memory.
-#[inline(never)]
-fn descend<O: Observer>(
-    second: &mut Option<SystemCache>,
-    memory: &mut Memory,
-    reference: Ref,
-    observer: &mut O,
-)
-    requires counts { accesses_of second.old + memory_accesses memory.old < 2 ^ 62 }
-    requires room { 3 ≤ O.room observer.old }
-    ensures value { Descends reference second.old memory.old second.new memory.new }
-    ensures seen { (seed : ℕ) (planned : Option PlannedCache) (events : List Event) →
-        IsPlannedCache planned → PlannedCacheStandsFor seed planned events second.old →
-        Saw O.has_seen observer.old (arrivals_below seed planned events reference) observer.new }
-    ensures room { O.room observer.old ≤ O.room observer.new + 3 }
-{
-    match second {
-        Some(cache) => arrive(cache, memory, reference, observer),
-        None => memory.count(Some(reference), observer),
-    }
-}
-
-/// A reference arrives at the second level. It is a function of its own, so that the path without a
-/// second level stays short.
-#[inline(never)]
-fn arrive<O: Observer>(
-    second: &mut SystemCache,
-    memory: &mut Memory,
-    reference: Ref,
-    observer: &mut O,
-)
-    requires counts { accesses second.old.stats + memory_accesses memory.old < 2 ^ 62 }
-    requires room { 3 ≤ O.room observer.old }
-    ensures value { Descends reference (Some second.old) memory.old (Some second.new) memory.new }
-    ensures seen { (seed : ℕ) (planned : Option PlannedCache) (events : List Event) →
-        IsPlannedCache planned → PlannedCacheStandsFor seed planned events (Some second.old) →
-        Saw O.has_seen observer.old (arrivals_below seed planned events reference) observer.new }
-    ensures room { O.room observer.old ≤ O.room observer.new + 3 }
-{
-    let [first, next] = second.access(CacheName::L2U, reference, observer).down;
-    memory.count(first, observer);
-    memory.count(next, observer);
-}
-
-/// Sends down the references that one access causes, one after another.
-fn descend_all<O: Observer>(
-    second: &mut Option<SystemCache>,
-    memory: &mut Memory,
-    down: [Option<Ref>; 2],
-    observer: &mut O,
-)
-    requires counts { accesses_of second.old + memory_accesses memory.old < 2 ^ 61 }
-    requires room { 6 ≤ O.room observer.old }
-    ensures value { AllDescend (present_refs down) second.old memory.old second.new memory.new }
-    ensures seen { (seed : ℕ) (planned : Option PlannedCache) (events : List Event) →
-        IsPlannedCache planned → PlannedCacheStandsFor seed planned events second.old →
-        Saw O.has_seen observer.old (all_arrivals_below seed planned events (present_refs down))
-        observer.new }
-    ensures room { O.room observer.old ≤ O.room observer.new + 6 }
-{
-    let [first, next] = down;
-    if let Some(reference) = first {
-        descend(second, memory, reference, observer);
-    }
-    if let Some(reference) = next {
-        descend(second, memory, reference, observer);
-    }
 }
 
 /// Empties a cache of a system, if it is there, and returns how many dirty lines it held.

@@ -7,7 +7,7 @@ use Rattle.cache_core.specs.declared.outcome.Outcome.{Outcome}
 use Rattle.cache_core.specs.declared.stats.CacheStats.{CacheStats}
 use Rattle.cache_core.specs.declared.stats.Stats.{Stats}
 use Rattle.cache_core.specs.declared.system_cache.SystemCache.{SystemCache}
-use Rattle.cache_core.specs.declared.system.Memory.{Memory}
+use Rattle.cache_core.specs.declared.below.Memory.{Memory}
 use Rattle.cache_core.specs.internal.Order.{hits_in_front}
 use Rattle.cache_core.specs.Systems.{random_numbers_for}
 use Rattle.cache_core.specs.declared.plan.CacheName.{CacheName}

@@ -5,8 +5,8 @@ use Rattle.cache_core.specs.declared.arrival.Arrival.{Arrival}
 use Rattle.cache_core.specs.internal.SystemStands.{PlannedCacheStandsFor}
 use Rattle.cache_core.specs.Arrivals.{Saw, arrivals_below, all_arrivals_below}
 use Rattle.cache_core.proofs.Observed.{descended, first_sent, second_sent, saw_both}
-use Rattle.cache_core.proofs.system.descend_all.Goals as goal
-use Rattle.cache_core.proofs.system.descend_all.Goals.{in-Some, in_default}
+use Rattle.cache_core.proofs.below.descend_all.Goals as goal
+use Rattle.cache_core.proofs.below.descend_all.Goals.{in-Some, in_default}
 
 pub returns-in-Some-next-clause-seen : goal.returns-in-Some-next-clause-seen
 returns-in-Some-next-clause-seen g c = λ seed planned events good stands.

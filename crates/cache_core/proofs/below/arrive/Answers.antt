@@ -7,7 +7,7 @@ use Rattle.cache_core.specs.Arrivals.{Saw, at_memory}
 use Rattle.cache_core.specs.internal.SystemSteps.{present_refs, memory_after_all}
 use Rattle.cache_core.proofs.Counters.{sent_reach, sent_two}
 use Rattle.cache_core.proofs.Observed.{entered, saw_below}
-use Rattle.cache_core.proofs.system.arrive.Goals as goal
+use Rattle.cache_core.proofs.below.arrive.Goals as goal
 
 pub returns-clause-value : goal.returns-clause-value
 returns-clause-value g c =
