@@ -1,5 +1,5 @@
 -- One access to a cache whose blocks are found by an index, as its set sees it, and as all sets do.
-use Rattle.std.proofs.Common.{◌≡◌, ℕ, ◌+◌, ◌<◌, true, false, List, [], length, set}
+use Rattle.std.proofs.Common.{◌≡◌, ℕ, ◌<◌, true, false, List, [], length, set}
 use Rattle.std.proofs.Common.{get_or}
 use Rattle.std.proofs.Common.{refl, sym, ◌∙◌, ap, subst, Option, Some, None, length-set}
 use Rattle.std.specs.Prelude.{MatchBool}

@@ -1,44 +1,12 @@
 -- A reference that finds its block in front is made at the one cache that takes it, and is seen
 -- there.
-use Rattle.std.proofs.Common.{arith, true, None, [], ◌∷◌, sym, ap, ◌∙◌}
+use Rattle.std.proofs.Common.{true, None, [], ◌∷◌, sym, ap, ◌∙◌}
 use Rattle.cache_core.specs.declared.arrival.Arrival.TheVariants.{Cache}
 use Rattle.cache_core.specs.declared.plan.CacheName.TheVariants.{L1I, L1D, L1U}
 use Rattle.cache_core.specs.Systems.{events_for}
 use Rattle.cache_core.proofs.FirstLevelLaw.{unified_takes, fetch_cache_takes, data_cache_takes}
 use Rattle.cache_core.proofs.Observed.{is_planned, seen_unified, seen_fetch, seen_data}
 use Rattle.cache_core.proofs.system.access_first_level_in_front.Goals as goal
-
-pub returns-in-L1U-clause-value : goal.returns-in-L1U-clause-value
-returns-in-L1U-clause-value c =
-    grind (arith, unified_takes c.args.u.now c.args.reference _ c.first_name-name.ensures c.in-L1U.is)
-
-pub returns-in-L1I-clause-value : goal.returns-in-L1I-clause-value
-returns-in-L1I-clause-value c =
-    let takes = fetch_cache_takes c.args.u.now c.args.reference _ c.first_name-name.ensures
-    c.in-L1I.is in
-    grind (arith, takes.0, takes.1)
-
-pub returns-in_default-clause-value : goal.returns-in_default-clause-value
-returns-in_default-clause-value c =
-    let takes = data_cache_takes c.args.u.now c.args.reference _ c.first_name-name.ensures
-    c.in_default.not-L1U c.in_default.not-L1I in
-    grind (arith, takes.0, takes.1)
-
-pub returns-in-L1U-clause-answers : goal.returns-in-L1U-clause-answers
-returns-in-L1U-clause-answers c =
-    grind (arith, unified_takes c.args.u.now c.args.reference _ c.first_name-name.ensures c.in-L1U.is)
-
-pub returns-in-L1I-clause-answers : goal.returns-in-L1I-clause-answers
-returns-in-L1I-clause-answers c =
-    let takes = fetch_cache_takes c.args.u.now c.args.reference _ c.first_name-name.ensures
-    c.in-L1I.is in
-    grind (arith, takes.0, takes.1)
-
-pub returns-in_default-clause-answers : goal.returns-in_default-clause-answers
-returns-in_default-clause-answers c =
-    let takes = data_cache_takes c.args.u.now c.args.reference _ c.first_name-name.ensures
-    c.in_default.not-L1U c.in_default.not-L1I in
-    grind (arith, takes.0, takes.1)
 
 pub returns-in-L1U-clause-seen : goal.returns-in-L1U-clause-seen
 returns-in-L1U-clause-seen c = λ hit plan seed events good i d u.
