@@ -222,6 +222,21 @@ impl System {
     }
 }
 
+/// Which first-level cache takes a reference, if it is there: the unified cache of a system that has
+/// one; otherwise the instruction cache at a fetch, and the data cache at a read or a write.
+#[inline(always)]
+fn first_name(u: &Option<SystemCache>, reference: Ref) -> CacheName
+    ensures { result ≡ first_name u.now reference }
+{
+    if u.is_some() {
+        return CacheName::L1U;
+    }
+    if reference.access == Access::Fetch {
+        return CacheName::L1I;
+    }
+    CacheName::L1D
+}
+
 /// Makes a reference at a first-level cache, if it is there, and returns what it sends down.
 #[inline(always)]
 fn access_first<O: Observer>(
@@ -264,13 +279,12 @@ fn first_level<O: Observer>(
         Saw O.has_seen observer.old (first_arrivals plan seed events reference) observer.new }
     ensures room { O.room observer.old ≤ O.room observer.new + 1 }
 {
-    if u.is_some() {
-        return access_first(CacheName::L1U, u, reference, observer);
+    let name = first_name(u, reference);
+    match name {
+        CacheName::L1U => access_first(name, u, reference, observer),
+        CacheName::L1I => access_first(name, i, reference, observer),
+        _ => access_first(name, d, reference, observer),
     }
-    if reference.access == Access::Fetch {
-        return access_first(CacheName::L1I, i, reference, observer);
-    }
-    access_first(CacheName::L1D, d, reference, observer)
 }
 
 /// Makes a reference at a first-level cache if it finds its block in the first slot of its set and
@@ -293,20 +307,6 @@ fn access_first_in_front(cache: &mut Option<SystemCache>, reference: Ref) -> boo
     }
 }
 
-/// The name of the first-level cache that takes a reference, if it is there.
-#[inline(always)]
-fn first_name(u: &Option<SystemCache>, reference: Ref) -> CacheName
-    ensures { result ≡ first_name u.now reference }
-{
-    if u.is_some() {
-        return CacheName::L1U;
-    }
-    if reference.access == Access::Fetch {
-        return CacheName::L1I;
-    }
-    CacheName::L1D
-}
-
 /// `access_first_in_front` at the first-level cache that takes the reference.
 #[inline(always)]
 fn access_first_level_in_front(
@@ -327,13 +327,12 @@ fn access_first_level_in_front(
         first_arrivals plan seed events reference
         ≡ Cache (first_name u.old reference) reference true None ∷ [] }
 {
-    if u.is_some() {
-        return access_first_in_front(u, reference);
+    let name = first_name(u, reference);
+    match name {
+        CacheName::L1U => access_first_in_front(u, reference),
+        CacheName::L1I => access_first_in_front(i, reference),
+        _ => access_first_in_front(d, reference),
     }
-    if reference.access == Access::Fetch {
-        return access_first_in_front(i, reference);
-    }
-    access_first_in_front(d, reference)
 }
 
 /// Empties a cache of a system, if it is there, and returns how many dirty lines it held.
