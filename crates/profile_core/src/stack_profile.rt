@@ -183,8 +183,8 @@ impl<L: SetLists> StackProfile<L> {
         false
     }
 
-    /// Feeds a single reference to a block that is behind the front of its set's list, or not in the
-    /// list. More than a third of these find their block second: the code for the others is a
+    /// Feeds a single reference to a block that is behind the front of its set's list, or not in
+    /// the list. More than a third of these find their block second: the code for the others is a
     /// function of its own, so that the path of these stays short.
     #[inline(never)]
     pub fn feed_behind_apart(&mut self, block: u64)
