@@ -65,8 +65,9 @@ impl Profile {
         requires { IsGeometry (geometry_value s depth b) }
         ensures { IfOk result (λ profile. profile ≡ empty (geometry_value s depth b)) }
     {
-        let kept = KeptProfile::new(alloc, known_geometry(b, s, depth))?;
-        Ok(Profile { kept })
+        Ok(Profile {
+            kept: KeptProfile::new(alloc, known_geometry(b, s, depth))?,
+        })
     }
 
     /// A profile as `new` makes it, to be fed in batches, as a sweep does. With a depth of 12 to 16
@@ -79,8 +80,9 @@ impl Profile {
         requires { IsGeometry (geometry_value s depth b) }
         ensures { IfOk result (λ profile. profile ≡ empty (geometry_value s depth b)) }
     {
-        let kept = KeptProfile::sparse(alloc, known_geometry(b, s, depth))?;
-        Ok(Profile { kept })
+        Ok(Profile {
+            kept: KeptProfile::sparse(alloc, known_geometry(b, s, depth))?,
+        })
     }
 
     /// The number of block bits: its caches have blocks of `2^b` bytes.
@@ -207,7 +209,9 @@ impl Profile {
     }
 
     /// Counts this many references that find their block in front, and one comparison for each.
-    #[inline(always)]
+    // Not `always`: the compiler then sees that all ways count alike before it inlines this, so
+    // that `feed` takes no jump by a table of ways for a block in front.
+    #[inline]
     pub fn count_fronts(&mut self, count: u64)
         requires { fed_of self.old + count ≤ MAX_REFERENCES }
         ensures { self.new ≡ after_fronts count self.old }

@@ -183,10 +183,10 @@ impl<L: SetLists> StackProfile<L> {
         false
     }
 
-    /// Feeds a single reference to a block that is behind the front of its set's list, or not in the
-    /// list. More than a third of these find their block second: the code for the others is a
+    /// Feeds a single reference to a block that is behind the front of its set's list, or not in
+    /// the list. More than a third of these find their block second: the code for the others is a
     /// function of its own, so that the path of these stays short.
-    #[inline(never)]
+    #[inline(always)]
     pub fn feed_behind_apart(&mut self, block: u64)
         requires few { fed_of self.old < MAX_REFERENCES }
         requires behind { is_front_of self.old block ≡ false }

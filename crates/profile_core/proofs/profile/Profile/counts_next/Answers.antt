@@ -22,7 +22,12 @@ step c =
 
 -- all sums are within the references fed, which are few
 few : (c : After-total-free) → c.sums.inside.fed ≤ 2 ^ 41
-few c = omega (arith, (step c).fed_is, c.histograms.ensures.sound.fed, ap fed_of c.histograms.ensures.whole)
+few c = omega (
+  arith,
+  (step c).fed_is,
+  c.histograms.ensures.sound.fed,
+  ap fed_of c.histograms.ensures.whole,
+)
 
 pub total-free-requires : goal.total-free-requires
 total-free-requires c =

@@ -18,8 +18,10 @@ loop-at-preserved g c =
       so_far.before.same_length,
     ) in
     elim c.if-not-feed_unless_front.branch [
-      | then-not-feed_unless_front w ↦ rw (w.addrs-is, w.fed-is) (fed_behind so_far inside _ fed.step
-          fed.more (sym fed.front ∙ w.if-not-feed_unless_front.true))
-      | else-not-feed_unless_front w ↦ rw (w.addrs-is, w.fed-is) (fed_front so_far inside _ fed.step
-          fed.more (sym fed.front ∙ w.if-not-feed_unless_front.false))
+      | then-not-feed_unless_front w ↦
+          rw (w.addrs-is, w.fed-is) (fed_behind so_far inside _ fed.step fed.more
+          (sym fed.front ∙ w.if-not-feed_unless_front.true))
+      | else-not-feed_unless_front w ↦
+          rw (w.addrs-is, w.fed-is) (fed_front so_far inside _ fed.step fed.more
+          (sym fed.front ∙ w.if-not-feed_unless_front.false))
     ]

@@ -29,6 +29,7 @@ loop-at-preserved g c =
           rw (w.addrs-is, w.left-is, w.next-is) (next_front so_far inside _ fed.step fed.more
           (sym fed.front ∙ w.if-not-feed_unless_front.true) _ second.step second.more
           (sym second.front ∙ w.if-not-feed_unless_front-2.false))
-      | else-not-feed_unless_front w ↦ rw (w.addrs-is, w.left-is, w.next-is) (both_front so_far inside
-          _ fed.step fed.more (sym fed.front ∙ w.if-not-feed_unless_front.false))
+      | else-not-feed_unless_front w ↦
+          rw (w.addrs-is, w.left-is, w.next-is) (both_front so_far inside _ fed.step fed.more
+          (sym fed.front ∙ w.if-not-feed_unless_front.false))
     ]
