@@ -60,7 +60,6 @@ pub mod IndexedEmptying
 pub mod SlotOrderLaw
 pub mod SlotOrderDeeds
 pub mod IndexedPopping
-pub mod IndexedSearch
 pub mod IndexedVisit
 pub mod IndexedFront
 pub mod IndexedAccess

@@ -53,8 +53,7 @@ impl<P> Model for Cache<P> {
 
 impl<P: Replacement> Cache<P> {
     ghost use Rattle.cache_core.specs.Slab.{contents_of};
-    ghost use Rattle.cache_core.specs.internal.Slab.{empty_sets, AccessesInFront, AccessesHeld};
-    ghost use Rattle.cache_core.specs.internal.Slab.{LacksBlock};
+    ghost use Rattle.cache_core.specs.internal.Slab.{empty_sets, AccessesInFront};
 
     /// An empty cache. It takes all its memory here, 16 bytes for each line and 4 and a quarter for
     /// each set, and that alone can fail.
@@ -101,57 +100,9 @@ impl<P: Replacement> Cache<P> {
         ensures victim { IfSome result.evicted
             (λ slot. slot.block * 2 ^ self.old.design.geometry.b < 2 ^ 64) }
     {
-        let at = self.find(reference);
-        self.visit(reference, at)
-    }
-
-    /// Makes an access if it finds its block, and returns its outcome. Otherwise it does nothing.
-    #[inline(always)]
-    pub(crate) fn access_held(&mut self, reference: Ref) -> Option<Outcome>
-        ensures { AccessesHeld P.policy P.words self.old reference result self.new }
-    {
-        let at = self.find(reference);
-        if at.is_none() {
-            return None;
-        }
-        Some(self.visit(reference, at))
-    }
-
-    /// Makes an access that does not find its block, and returns its outcome.
-    #[inline(always)]
-    pub(crate) fn access_missing(&mut self, reference: Ref) -> Outcome
-        requires { LacksBlock self.old.design self.old.sets reference }
-        ensures step { Accesses (contents_of P.policy P.words self.old) reference result
-            (contents_of P.policy P.words self.new) }
-        ensures dirty { DirtiesByWrites self.old.sets reference result self.new.sets }
-        ensures victim { IfSome result.evicted
-            (λ slot. slot.block * 2 ^ self.old.design.geometry.b < 2 ^ 64) }
-    {
-        self.visit(reference, None)
-    }
-
-    /// The index of the block of a reference in its set, if the set has it.
-    #[inline(always)]
-    fn find(&self, reference: Ref) -> Option<usize>
-        ensures { result ≡ position_of (block_of self.now.design.geometry reference.addr)
-            (slots_of self.now.sets (set_of self.now.design.geometry reference.addr)) }
-    {
         let block = self.design.geometry.block_of(reference.addr);
         let set = segment(self.design, &self.slots, &self.filled, reference);
-        find_block(set, block)
-    }
-
-    /// Makes one access. `at` is the index of its block in its set, if the set has it.
-    #[inline(always)]
-    fn visit(&mut self, reference: Ref, at: Option<usize>) -> Outcome
-        requires { at ≡ position_of (block_of self.old.design.geometry reference.addr)
-            (slots_of self.old.sets (set_of self.old.design.geometry reference.addr)) }
-        ensures step { Accesses (contents_of P.policy P.words self.old) reference result
-            (contents_of P.policy P.words self.new) }
-        ensures dirty { DirtiesByWrites self.old.sets reference result self.new.sets }
-        ensures victim { IfSome result.evicted
-            (λ slot. slot.block * 2 ^ self.old.design.geometry.b < 2 ^ 64) }
-    {
+        let at = find_block(set, block);
         visit_slab(
             self.design,
             &mut self.policy,

@@ -5,8 +5,7 @@ ghost use Rattle.cache_core.specs.Geometry.{IsGeometry};
 ghost use Rattle.cache_core.specs.Order.{Accesses, FlushesCache};
 ghost use Rattle.cache_core.specs.Slab.{contents_of};
 ghost use Rattle.cache_core.specs.internal.Lookups.{LooksUp};
-ghost use Rattle.cache_core.specs.internal.Slab.{empty_sets, AccessesInFront, AccessesHeld};
-ghost use Rattle.cache_core.specs.internal.Slab.{LacksBlock};
+ghost use Rattle.cache_core.specs.internal.Slab.{empty_sets, AccessesInFront};
 ghost use Rattle.cache_core.specs.internal.Order.{DirtiesByWrites};
 
 use crate::cache::Cache;
@@ -80,21 +79,9 @@ impl<P: NamedPolicy> ChosenCache<P> {
         })
     }
 
-    /// Makes an access if it finds its block, and returns its outcome. Otherwise it does nothing.
+    /// Makes one access, and returns its outcome.
     #[inline(always)]
-    pub(crate) fn access_held(&mut self, reference: Ref) -> Option<Outcome>
-        ensures { AccessesHeld P.policy P.words self.old reference result self.new }
-    {
-        match &mut self.kept {
-            Kept::Walked(cache) => cache.access_held(reference),
-            Kept::Indexed(cache) => cache.access_held(reference),
-        }
-    }
-
-    /// Makes an access that does not find its block, and returns its outcome.
-    #[inline(always)]
-    pub(crate) fn access_missing(&mut self, reference: Ref) -> Outcome
-        requires { LacksBlock self.old.design self.old.sets reference }
+    pub(crate) fn access(&mut self, reference: Ref) -> Outcome
         ensures step { Accesses (contents_of P.policy P.words self.old) reference result
             (contents_of P.policy P.words self.new) }
         ensures dirty { DirtiesByWrites self.old.sets reference result self.new.sets }
@@ -102,8 +89,8 @@ impl<P: NamedPolicy> ChosenCache<P> {
             (λ slot. slot.block * 2 ^ self.old.design.geometry.b < 2 ^ 64) }
     {
         match &mut self.kept {
-            Kept::Walked(cache) => cache.access_missing(reference),
-            Kept::Indexed(cache) => cache.access_missing(reference),
+            Kept::Walked(cache) => cache.access(reference),
+            Kept::Indexed(cache) => cache.access(reference),
         }
     }
 

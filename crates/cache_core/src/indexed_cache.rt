@@ -4,14 +4,13 @@ ghost use Rattle.std.specs.Prelude.{◌≡◌, ◌<◌, ◌*◌, ◌^◌, IfOk, 
 ghost use Rattle.cache_core.specs.Geometry.{IsGeometry};
 ghost use Rattle.cache_core.specs.Order.{Accesses, FlushesCache};
 ghost use Rattle.cache_core.specs.Slab.{contents_of};
-ghost use Rattle.cache_core.specs.internal.Slab.{empty_sets, AccessesInFront, AccessesHeld};
-ghost use Rattle.cache_core.specs.internal.Slab.{LacksBlock};
+ghost use Rattle.cache_core.specs.internal.Slab.{empty_sets, AccessesInFront};
 ghost use Rattle.cache_core.specs.internal.Order.{DirtiesByWrites};
 
 use crate::design::{AllocMode, Design, WriteMode};
 use crate::geometry::Geometry;
 use crate::indexed_flush::empty_sets;
-use crate::indexed_set::{visit_front, visit_held, visit_missing};
+use crate::indexed_set::{visit, visit_front};
 use crate::named_policy::NamedPolicy;
 use crate::outcome::Outcome;
 use crate::slot_order::SlotOrder;
@@ -90,31 +89,16 @@ impl<P: NamedPolicy> IndexedCache<P> {
         })
     }
 
-    /// Makes an access if it finds its block, and returns its outcome. Otherwise it does nothing.
-    #[inline(always)]
-    pub(crate) fn access_held(&mut self, reference: Ref) -> Option<Outcome>
-        ensures { AccessesHeld P.policy P.words self.old reference result self.new }
-    {
-        visit_held(
-            self.design,
-            &self.index,
-            &mut self.dirty,
-            &mut self.order,
-            reference,
-        )
-    }
-
-    /// Makes an access that does not find its block, and returns its outcome.
-    #[inline(always)]
-    pub(crate) fn access_missing(&mut self, reference: Ref) -> Outcome
-        requires { LacksBlock self.old.design self.old.sets reference }
+    /// Makes one access, and returns its outcome.
+    #[inline(never)]
+    pub(crate) fn access(&mut self, reference: Ref) -> Outcome
         ensures step { Accesses (contents_of P.policy P.words self.old) reference result
             (contents_of P.policy P.words self.new) }
         ensures dirty { DirtiesByWrites self.old.sets reference result self.new.sets }
         ensures victim { IfSome result.evicted
             (λ slot. slot.block * 2 ^ self.old.design.geometry.b < 2 ^ 64) }
     {
-        visit_missing(
+        visit(
             self.design,
             &mut self.policy,
             &mut self.index,
@@ -123,18 +107,6 @@ impl<P: NamedPolicy> IndexedCache<P> {
             &mut self.touched,
             reference,
         )
-    }
-
-    /// Makes one access, and returns its outcome.
-    #[inline(always)]
-    pub(crate) fn access(&mut self, reference: Ref) -> Outcome
-        ensures { Accesses (contents_of P.policy P.words self.old) reference result
-            (contents_of P.policy P.words self.new) }
-    {
-        match self.access_held(reference) {
-            Some(outcome) => outcome,
-            None => self.access_missing(reference),
-        }
     }
 
     /// Makes an access if it finds its block in the first slot of its set and sends nothing down,

@@ -10,8 +10,6 @@ ghost use Rattle.cache_core.specs.Rules.{rules};
 ghost use Rattle.cache_core.specs.internal.Order.{DirtiesByWrites, hits_in_front, hit_in_front};
 ghost use Rattle.cache_core.specs.internal.Indexed.{IsIndexed, indexed_contents, sets_at, set_at};
 ghost use Rattle.cache_core.specs.internal.Indexed.{counts_of, with_mark};
-ghost use Rattle.cache_core.specs.internal.Slab.{LacksBlock};
-ghost use Rattle.cache_core.specs.Outcomes.{outcome_of, on_hit};
 ghost use Rattle.cache_core.specs.internal.SlotOrder.{order_of, with_order, with_moved};
 ghost use Rattle.cache_core.specs.internal.Touched.{Covers};
 
@@ -24,46 +22,9 @@ use crate::touched::TouchedSets;
 use block_index::BlockIndex;
 use trace_core::Ref;
 
-/// Makes one access if a slot has its block. Otherwise it does nothing.
+/// Makes one access.
 #[inline(always)]
-pub(crate) fn visit_held(
-    design: Design,
-    index: &BlockIndex,
-    dirty: &mut [bool],
-    order: &mut SlotOrder,
-    reference: Ref,
-) -> Option<Outcome>
-    requires { IsIndexed design index.now dirty.old order.old }
-    ensures indexed { IsIndexed design index.now dirty.new order.new }
-    ensures name { order.new.policy ≡ order.old.policy }
-    ensures counts { counts_of order.new.sets ≡ counts_of order.old.sets }
-    ensures access { (policy : Option Repl) (numbers : ℕ → ℕ) → policy ≡ Some order.old.policy →
-        IfSome result (λ outcome.
-        Accesses (indexed_contents design policy numbers index.now dirty.old order.old)
-        reference outcome
-        (indexed_contents design policy numbers index.now dirty.new order.new)) }
-    ensures dirty { IfSome result (λ outcome.
-        DirtiesByWrites (sets_at index.now dirty.old order.old.sets) reference outcome
-        (sets_at index.now dirty.new order.new.sets)) }
-    ensures outcome { IfSome result (λ outcome.
-        outcome ≡ outcome_of (on_hit design.write reference)) }
-    ensures kept { result ≡ None → (dirty.new ≡ dirty.old) × (order.new ≡ order.old) }
-    ensures absent { result ≡ None →
-        LacksBlock design (sets_at index.now dirty.old order.old.sets) reference }
-{
-    let block = design.geometry.block_of(reference.addr);
-    let set = design.geometry.set_of(reference.addr) as usize;
-    let Some(slot) = find_slot(design, index, dirty, order, set, block) else {
-        return None;
-    };
-    let mark = dirties_line(design.write, reference.access);
-    use_slot(dirty, order, set, slot, mark);
-    Some(hit_outcome(design.write, reference))
-}
-
-/// Makes one access whose block no slot has.
-#[inline(always)]
-pub(crate) fn visit_missing<P: NamedPolicy>(
+pub(crate) fn visit<P: NamedPolicy>(
     design: Design,
     policy: &mut P,
     index: &mut BlockIndex,
@@ -75,7 +36,6 @@ pub(crate) fn visit_missing<P: NamedPolicy>(
     requires indexed { IsIndexed design index.old dirty.old order.old }
     requires touched { Covers touched.old (counts_of order.old.sets) }
     requires policy { P.policy policy.old ≡ Some order.old.policy }
-    requires absent { LacksBlock design (sets_at index.old dirty.old order.old.sets) reference }
     ensures indexed { IsIndexed design index.new dirty.new order.new }
     ensures touched { Covers touched.new (counts_of order.new.sets) }
     ensures policy { P.policy policy.new ≡ Some order.new.policy }
@@ -89,14 +49,24 @@ pub(crate) fn visit_missing<P: NamedPolicy>(
     ensures victim { IfSome result.evicted (λ slot. slot.block * 2 ^ design.geometry.b < 2 ^ 64) }
 {
     let block = design.geometry.block_of(reference.addr);
+    let set = design.geometry.set_of(reference.addr) as usize;
+    let mark = dirties_line(design.write, reference.access);
+    if let Some(slot) = find_slot(design, index, dirty, order, set, block) {
+        use_slot(dirty, order, set, slot, mark);
+        return hit_outcome(design.write, reference);
+    }
     if !allocates_line(design.allocate, reference.access) {
         return passing_outcome(reference);
     }
-    let new = Slot {
-        block,
-        dirty: dirties_line(design.write, reference.access),
-    };
-    let evicted = place(design, policy, index, dirty, order, touched, new);
+    let evicted = place(
+        design,
+        policy,
+        index,
+        dirty,
+        order,
+        touched,
+        Slot { block, dirty: mark },
+    );
     placing_outcome(design, reference, block, evicted)
 }
 
@@ -135,9 +105,7 @@ fn use_slot(dirty: &mut [bool], order: &mut SlotOrder, set: usize, slot: usize, 
     order.touch(set, slot);
 }
 
-/// Puts a block into its set, and returns the slot that leaves a full set. It is a function of its
-/// own, so that the path of a hit stays short.
-#[inline(never)]
+/// Puts a block into its set, and returns the slot that leaves a full set.
 fn place<P: NamedPolicy>(
     design: Design,
     policy: &mut P,

@@ -2,14 +2,13 @@
 -- first of them are filled. Few clauses cite these definitions, which need not be judged.
 use Rattle.std.specs.Prelude.{◌≡◌, ◌<◌, ◌≤◌, ℕ, ◌*◌, ◌^◌, List, [], ◌∷◌, Option, length, take, drop}
 use Rattle.std.specs.Prelude.{All, replicate, None, IfSome, is_some}
-use Rattle.cache_core.specs.Geometry.{GeometryValue, IsGeometry, block_of, set_of}
+use Rattle.cache_core.specs.Geometry.{GeometryValue, IsGeometry}
 use Rattle.trace_core.specs.declared.events.Ref.{Ref}
 use Rattle.cache_core.specs.declared.outcome.Slot.{Slot}
 use Rattle.cache_core.specs.declared.outcome.Outcome.{Outcome}
 use Rattle.cache_core.specs.declared.design.Design.{Design}
 use Rattle.cache_core.specs.declared.design.Repl.{Repl}
-use Rattle.cache_core.specs.Order.{Contents, Accesses, position_of, slots_of}
-use Rattle.cache_core.specs.Outcomes.{outcome_of, on_hit}
+use Rattle.cache_core.specs.Order.{Contents, Accesses}
 use Rattle.cache_core.specs.Slab.{CacheValue, contents_of}
 use Rattle.cache_core.specs.internal.Order.{DirtiesByWrites, hit_in_front, hits_in_front}
 
@@ -54,18 +53,3 @@ pub record AccessesInFront {P : Type 0} (policy : P → Option Repl) (numbers : 
   pub answers : is_some result ≡ hits_in_front old.design old.sets ref
   pub outcome : IfSome result (λ outcome. outcome ≡ hit_in_front)
   pub kept : result ≡ None → new ≡ old
-
--- no slot of its set has the block of a reference
-abbrev pub LacksBlock : Design → List (List Slot) → Ref → Type 0
-LacksBlock d sets ref = position_of (block_of d.geometry ref.addr)
-    (slots_of sets (set_of d.geometry ref.addr)) ≡ None
-
--- an access is made if it finds its block; any other access changes nothing
-pub record AccessesHeld {P : Type 0} (policy : P → Option Repl) (numbers : P → ℕ → ℕ)
-    (old : CacheValue P) (ref : Ref) (result : Option Outcome) (new : CacheValue P) : Type 0 where
-  pub step : IfSome result (λ outcome.
-      Accesses (contents_of policy numbers old) ref outcome (contents_of policy numbers new))
-  pub dirty : IfSome result (λ outcome. DirtiesByWrites old.sets ref outcome new.sets)
-  pub outcome : IfSome result (λ outcome. outcome ≡ outcome_of (on_hit old.design.write ref))
-  pub kept : result ≡ None → new ≡ old
-  pub absent : result ≡ None → LacksBlock old.design old.sets ref
