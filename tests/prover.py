@@ -7,7 +7,8 @@ import common
 
 # What the prover says of a goal: where it is in the code, or in a stored answer
 IN_CODE = re.compile(r"note: (src/\S+\.rt):(\d+):\d+: .*?\(`([^`]+)`\)(.*)")
-IN_ANSWER = re.compile(r"(?:\./)?(proofs/(\S+)/\w+\.antt):\d+:\d+: error: `([^`]+)`: (.*)")
+IN_ANSWER = re.compile(
+    r"(?:\./)?(proofs/(\S+)/(?:Answers|Invariants|Proof)\.antt):\d+:\d+: error: `([^`]+)`: (.*)")
 IN_SOURCE = re.compile(r"(?:\./)?(?:src|specs)/\S+:\d+:\d+: error: (`[^`]*`: )?(.*)")
 # A stored answer that names what the code no longer has
 GONE = re.compile(r"has no field|is not in scope|has no `|was not admitted")

@@ -74,7 +74,7 @@ class Manual(base.ToolTest):
         caches = limits.told_by_the_manual(limits.CACHES)
         line, set_, ways, *indexed, searched, instead, far, near, set_far = caches
         self.assertEqual(instead, line)
-        self.assertEqual(ways, constant("cache_core", "chosen_cache.rt", "INDEXED_WAYS"))
+        self.assertEqual(ways, constant("cache_core", "cache/chosen.rt", "INDEXED_WAYS"))
         in_order, random = (
             f"{of_line:g}{{}} for each line, {of_set:g} for each set and {more:g} more"
             for of_line, of_set, more in (indexed[:3], indexed[3:]))
@@ -208,18 +208,18 @@ class Thresholds(unittest.TestCase):
         """Random cases stand on both sides of each size at which the code works in another way."""
         places = set(importlib.import_module("thresholds").PLACES)
         for crate, source, name, command, what, sides in (
-            ("profile_core", "kept_profile.rt", "SLOTTED_FROM", "sweep", "ways", (-1, 0)),
-            ("profile_core", "kept_profile.rt", "SLOTTED_TO", "sweep", "ways", (0, 1)),
-            ("profile_core", "kept_profile.rt", "MANY_WAYS", "sweep", "ways", (-1, 0)),
-            ("profile_core", "kept_profile.rt", "MANY_WAYS", "sweep", "ways of 8,192 sets",
+            ("profile_core", "profile/kept_profile.rt", "SLOTTED_FROM", "sweep", "ways", (-1, 0)),
+            ("profile_core", "profile/kept_profile.rt", "SLOTTED_TO", "sweep", "ways", (0, 1)),
+            ("profile_core", "profile/kept_profile.rt", "MANY_WAYS", "sweep", "ways", (-1, 0)),
+            ("profile_core", "profile/kept_profile.rt", "MANY_WAYS", "sweep", "ways of 8,192 sets",
              (-1, 0)),
-            ("profile_core", "kept_profile.rt", "MANY_SETS", "sweep", "sets", (0, 4096)),
-            ("profile_core", "long_lists.rt", "ROW", "sweep", "ways", (-1, 0)),
-            ("profile_core", "long_lists.rt", "DEEP", "sweep", "ways", (-1, 0)),
+            ("profile_core", "profile/kept_profile.rt", "MANY_SETS", "sweep", "sets", (0, 4096)),
+            ("profile_core", "set_lists/long_lists.rt", "ROW", "sweep", "ways", (-1, 0)),
+            ("profile_core", "set_lists/long_lists.rt", "DEEP", "sweep", "ways", (-1, 0)),
             ("sweep_core", "batch.rt", "BATCH", "sweep", "references", (-1, 0, 1)),
-            ("cache_core", "chosen_cache.rt", "INDEXED_WAYS", "csim", "ways", (-1, 0)),
-            ("cache_core", "chosen_cache.rt", "INDEXED_WAYS", "din", "ways", (-1, 0)),
-            ("cache_core", "chosen_cache.rt", "INDEXED_WAYS", "log", "ways", (-1, 0)),
+            ("cache_core", "cache/chosen.rt", "INDEXED_WAYS", "csim", "ways", (-1, 0)),
+            ("cache_core", "cache/chosen.rt", "INDEXED_WAYS", "din", "ways", (-1, 0)),
+            ("cache_core", "cache/chosen.rt", "INDEXED_WAYS", "log", "ways", (-1, 0)),
         ):
             size = constant(crate, source, name)
             self.assertLessEqual({(command, what, size + side) for side in sides}, places, name)

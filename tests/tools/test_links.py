@@ -16,7 +16,7 @@ CODE = re.compile(r"`([^`]+)`")
 NAME = re.compile(r"[A-Za-z]\w+")
 FENCED = re.compile(r"^```.*?^```$", re.M | re.S)
 USE = re.compile(r"^(?:    )?use (\w+)::(?:(\w+)::)?(?:\{(.*)\}|(\w+));$", re.M)
-ROOT = re.compile(r"^pub (?:mod (\w+);|use [\w:]+?::(?:\{([^}]*)\}|(\w+));)", re.M)
+ROOT = re.compile(r"^pub (?:(?:mod|fn) (\w+)|use [\w:]+?::(?:\{([^}]*)\}|(\w+));)", re.M)
 
 
 def anchors(text):
@@ -57,8 +57,9 @@ def unknown(text, crate):
         elif not code.startswith("tests") and not any(base.TOP.glob(f"crates/*/{code}")):
             yield code
     for used, module, names, name in (use for use in USE.findall(text) if use[0] in crates):
-        source = base.TOP / "crates" / used / "src" / f"{module or 'lib'}.rt"
-        items = source.read_text() if source.exists() else ""
+        # a root exports modules of its folders, by their names
+        sources = (base.TOP / "crates" / used / "src").rglob(f"{module or 'lib'}.rt")
+        items = "".join(source.read_text() for source in sources)
         one = r"^pub \w+ (\w+)()()"
         found = re.findall(one, items, re.M) if module else ROOT.findall(items)
         there = {word for each in found for word in NAME.findall(" ".join(each))}

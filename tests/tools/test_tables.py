@@ -47,7 +47,7 @@ def faults():
 def faults_of_code():
     """The same of the code: where a text has a cause in it, one for each cause."""
     found = {}
-    for path in base.TOP.glob("crates/*/src/*.rt"):
+    for path in base.TOP.glob("crates/*/src/**/*.rt"):
         for text in re.findall(r'#\[error\("(.*)"\)\]', path.read_text()):
             found.setdefault(path.stem, []).append(text)
     texts = {text for of_file in found.values() for text in of_file} - {"{0}", "{text}"}

@@ -58,7 +58,7 @@ def in_tests(text):
 
 class WorkedRows(unittest.TestCase):
     def test_of_definitions(self):
-        files = [path for path in base.TOP.glob("crates/*/proofs/*.antt")
+        files = [path for path in base.TOP.glob("crates/*/proofs/**/*.antt")
                  if re.search("Tables|Examples|Rows", path.stem)]
         self.assertGreater(len(files), 8)
         for path in files:

@@ -6,13 +6,13 @@ use Rattle.clap.proofs.OnLiterals.{clap_on_literals}
 use Rattle.clap.specs.Words.{Text, takes}
 use Rattle.clap.specs.Faults.{fault_of}
 use Rattle.clap.specs.declared.error.kind.ErrorKind.TheVariants as kind
-use Rattle.cache_core.specs.Plans.{exponent_of}
+use Rattle.cache_core.specs.system.Plans.{exponent_of}
 use Rattle.cache_core.specs.declared.design.AllocMode.TheVariants.{Always, Never}
 use Rattle.cache_core.specs.declared.design.Repl.TheVariants.{Lru, Fifo, Random}
 use Rattle.cache_core.specs.declared.design.WriteMode.TheVariants.{Back, Through}
-use Rattle.cache_core.specs.declared.plan.CacheName.TheVariants.{L1U}
-use Rattle.cache_core.specs.declared.plan.PlanFault.TheVariants.{NoFirst, MixedFirst, BadGeometry}
-use Rattle.cache_core.specs.declared.plan.PlanFault.TheVariants.{SmallBlock}
+use Rattle.cache_core.specs.declared.system.plan.CacheName.TheVariants.{L1U}
+use Rattle.cache_core.specs.declared.system.plan.PlanFault.TheVariants.{NoFirst, MixedFirst}
+use Rattle.cache_core.specs.declared.system.plan.PlanFault.TheVariants.{BadGeometry, SmallBlock}
 use Rattle.cache_core.specs.Powers.{is_power}
 use Rattle.sweep_core.specs.declared.space.Which.TheVariants.{Bsize, Sets, Assoc, Size}
 use Rattle.sweep_core.specs.declared.space.Cause.TheVariants.{NotPower, Limit, Reversed}

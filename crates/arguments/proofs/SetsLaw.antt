@@ -4,10 +4,10 @@ use Rattle.std.proofs.Common.{None, IfSome}
 use Rattle.std.proofs.Math.Nat.{mul-div_cancel, mul-le-mul, mul_assoc, mul_comm, one-le-pow}
 use Rattle.std.proofs.Math.Nat.{pow-le-pow_right}
 use Rattle.std.proofs.lemmas.Bool.{eqb-true}
-use Rattle.cache_core.proofs.GeometryLaw.{geometry_law}
-use Rattle.cache_core.specs.declared.plan.CacheSpec.{CacheSpec}
+use Rattle.cache_core.proofs.system.plan.GeometryLaw.{geometry_law}
+use Rattle.cache_core.specs.declared.system.plan.CacheSpec.{CacheSpec}
 use Rattle.cache_core.specs.Geometry.{GeometryValue}
-use Rattle.cache_core.specs.Plans.{IsGeometryFor}
+use Rattle.cache_core.specs.system.Plans.{IsGeometryFor}
 use Rattle.arguments.specs.DinJob.{IsGeometryWith, SetsLaw, size_asked}
 
 -- a size that is not 0 is the product

@@ -7,14 +7,14 @@ use Rattle.std.specs.Result.{result_map_both}
 use Rattle.std.specs.Str.{bytes_eq}
 use Rattle.clap.specs.Words.{Row, Text}
 use Rattle.cache_core.specs.Geometry.{GeometryValue, IsGeometry}
-use Rattle.cache_core.specs.Plans.{PlannedCaches, geometry_for, plan_of}
+use Rattle.cache_core.specs.system.Plans.{PlannedCaches, geometry_for, plan_of}
 use Rattle.trace_core.specs.declared.line.Format.{Format}
 use Rattle.trace_core.specs.declared.line.Format.TheVariants.{Din as DinFormat}
 use Rattle.cache_core.specs.declared.design.AllocMode.{AllocMode}
 use Rattle.cache_core.specs.declared.design.AllocMode.TheVariants.{Always, Never}
-use Rattle.cache_core.specs.declared.plan.CacheName.{CacheName}
-use Rattle.cache_core.specs.declared.plan.CacheName.TheVariants.{L1I, L1D, L1U, L2U}
-use Rattle.cache_core.specs.declared.plan.CacheSpec.{CacheSpec}
+use Rattle.cache_core.specs.declared.system.plan.CacheName.{CacheName}
+use Rattle.cache_core.specs.declared.system.plan.CacheName.TheVariants.{L1I, L1D, L1U, L2U}
+use Rattle.cache_core.specs.declared.system.plan.CacheSpec.{CacheSpec}
 use Rattle.cache_core.specs.declared.design.Repl.{Repl}
 use Rattle.cache_core.specs.declared.design.Repl.TheVariants.{Lru, Fifo, Random}
 use Rattle.cache_core.specs.declared.design.WriteMode.{WriteMode}

@@ -1,8 +1,8 @@
 -- The faults of the arguments that are neither lack of memory nor clap's.
 use Rattle.std.specs.Prelude.{ℕ, true, Option, Some, None, Result, Ok, Err, option_map}
 use Rattle.clap.specs.Words.{Text}
-use Rattle.cache_core.specs.declared.plan.CacheName.{CacheName}
-use Rattle.cache_core.specs.declared.plan.PlanFault.{PlanFault}
+use Rattle.cache_core.specs.declared.system.plan.CacheName.{CacheName}
+use Rattle.cache_core.specs.declared.system.plan.PlanFault.{PlanFault}
 use Rattle.sweep_core.specs.declared.space.SpaceFault.{SpaceFault}
 use Rattle.arguments.specs.declared.faults.WordsFault.{WordsFault}
 use Rattle.arguments.specs.declared.faults.WordsFault.TheVariants as fault

@@ -7,8 +7,8 @@ use Rattle.std.proofs.lemmas.List.Sums.{sum_by_push}
 use Rattle.trace_core.specs.declared.events.Ref.{Ref}
 use Rattle.trace_core.specs.declared.events.Event.{Event}
 use Rattle.trace_core.specs.declared.events.Event.TheVariants as event
-use Rattle.cache_core.specs.Machine.{Machine, MachineState, start, run, next, step}
-use Rattle.cache_core.specs.Machine.{with_effects_from, with_effects}
+use Rattle.cache_core.specs.cache.Machine.{Machine, MachineState, start, run, next, step}
+use Rattle.cache_core.specs.cache.Machine.{with_effects_from, with_effects}
 
 pub count_by_push : {X : Type 0} (p : X → Bool) (xs : List X) (x : X) →
     count_by p (xs ++ x ∷ []) ≡ count_by p xs + cond (p x) 1 0

@@ -9,7 +9,7 @@ use Rattle.cache_core.specs.Geometry.{GeometryValue, geometry_value}
 use Rattle.cache_core.specs.Windows.{window, occurrences, occurrences_after, distinct}
 use Rattle.cache_core.specs.Windows.{distinct_of_set, has_last, distance, blocks_seen, counts}
 use Rattle.cache_core.specs.Windows.{probes, held}
-use Rattle.cache_core.specs.Machine.{effects, counts_in}
+use Rattle.cache_core.specs.cache.Machine.{effects, counts_in}
 use Rattle.cache_core.specs.LruLaws.{lru_machine}
 
 abbrev read : ℕ → Event

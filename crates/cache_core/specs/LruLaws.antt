@@ -7,7 +7,8 @@ use Rattle.cache_core.specs.declared.design.WriteMode.{WriteMode}
 use Rattle.cache_core.specs.declared.design.AllocMode.TheVariants.{Always}
 use Rattle.cache_core.specs.declared.design.Repl.TheVariants.{Lru}
 use Rattle.cache_core.specs.Geometry.{GeometryValue, block_of}
-use Rattle.cache_core.specs.Machine.{Machine, MachineState, run, step, effects, counts_in, is_block}
+use Rattle.cache_core.specs.cache.Machine.{Machine, MachineState, run, step, effects, counts_in}
+use Rattle.cache_core.specs.cache.Machine.{is_block}
 use Rattle.cache_core.specs.Windows.{Occurrence, window, occurrences, is_hit, is_evict, counts}
 
 -- the machine of an LRU cache with write-allocate

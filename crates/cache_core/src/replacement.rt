@@ -1,7 +1,10 @@
 //! Replacement: which slot of a full set is evicted.
+pub(crate) mod chosen;
+pub(crate) mod named;
+
 ghost use Rattle.std.specs.Prelude.{◌≡◌, ◌≤◌, ◌<◌, ◌+◌, ◌∷◌, ℕ, length, take, remove, slice_get};
 ghost use Rattle.std.specs.Prelude.{Option, Some, None};
-ghost use Rattle.cache_core.specs.Order.{Touches, TakesIn, random_numbers_after};
+ghost use Rattle.cache_core.specs.cache.Order.{Touches, TakesIn, random_numbers_after};
 
 use crate::design::Repl;
 use crate::outcome::Slot;
@@ -143,7 +146,7 @@ impl Model for Random {
 }
 
 impl Random {
-    ghost use Rattle.cache_core.specs.RandomNumbers.{generator_of, random_number};
+    ghost use Rattle.cache_core.specs.replacement.RandomNumbers.{generator_of, random_number};
 
     /// The policy with the generator of a seed. It draws a number only if a full set has to
     /// give up a slot.
@@ -169,7 +172,7 @@ impl Random {
 
 impl Replacement for Random {
     ghost use Rattle.cache_core.specs.declared.design.Repl.TheVariants.{Random as RandomRepl};
-    ghost use Rattle.cache_core.specs.RandomNumbers.{random_number};
+    ghost use Rattle.cache_core.specs.replacement.RandomNumbers.{random_number};
 
     ghost policy = { λ _. Some RandomRepl };
 

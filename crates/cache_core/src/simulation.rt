@@ -1,8 +1,10 @@
 //! An LRU cache with its counts.
-ghost use Rattle.std.specs.Prelude.{◌≡◌};
-ghost use Rattle.cache_core.specs.internal.Lookups.{lookup_of};
+pub mod simulate;
 
-use crate::chosen_cache::ChosenCache;
+ghost use Rattle.std.specs.Prelude.{◌≡◌};
+ghost use Rattle.cache_core.specs.internal.cache.Lookups.{lookup_of};
+
+use crate::cache::chosen::ChosenCache;
 use crate::design::{AllocMode, WriteMode};
 use crate::geometry::Geometry;
 use crate::outcome::{Counts, Outcome};

@@ -1,24 +1,32 @@
 //! A system of caches.
+pub mod arrival;
+mod below;
+pub mod plan;
+pub mod stats;
+mod system_cache;
+
 ghost use Rattle.std.specs.Prelude.{◌≡◌, ◌≤◌, ◌<◌, ◌+◌, ◌^◌, ℕ, List, length, ◌∷◌, [], IfOk};
 ghost use Rattle.std.specs.Prelude.{Option, ◌++◌, Some, None, true, MatchBool};
-ghost use Rattle.cache_core.specs.internal.SystemSteps.{AccessesFirst, AccessesFirstLevel};
-ghost use Rattle.cache_core.specs.internal.SystemSteps.{EmptiesCache, accesses_of, stats_held};
-ghost use Rattle.cache_core.specs.internal.SystemSteps.{IsNewCache, nothing_down, first_name};
-ghost use Rattle.cache_core.specs.internal.SystemSteps.{first_hits_in_front, level_hits_in_front};
-ghost use Rattle.cache_core.specs.declared.arrival.Arrival.TheVariants.{Cache};
-ghost use Rattle.cache_core.specs.internal.SystemStands.{PlannedCacheStandsFor};
-ghost use Rattle.cache_core.specs.Arrivals.{Saw, cache_arrivals, first_arrivals, flushes};
-ghost use Rattle.cache_core.specs.Plans.{PlannedCaches, IsPlan, IsPlannedCache};
-ghost use Rattle.cache_core.specs.Systems.{events_for};
-ghost use Rattle.cache_core.specs.declared.plan.CacheName.TheVariants.{L1I, L1D, L1U};
-ghost use Rattle.cache_core.specs.declared.plan.PlannedCache.{PlannedCache};
+ghost use Rattle.cache_core.specs.internal.system.SystemSteps.{AccessesFirst, AccessesFirstLevel};
+ghost use Rattle.cache_core.specs.internal.system.SystemSteps.{EmptiesCache, accesses_of};
+ghost use Rattle.cache_core.specs.internal.system.SystemSteps.{stats_held, IsNewCache};
+ghost use Rattle.cache_core.specs.internal.system.SystemSteps.{nothing_down, first_name};
+ghost use Rattle.cache_core.specs.internal.system.SystemSteps.{first_hits_in_front};
+ghost use Rattle.cache_core.specs.internal.system.SystemSteps.{level_hits_in_front};
+ghost use Rattle.cache_core.specs.declared.system.arrival.Arrival.TheVariants.{Cache};
+ghost use Rattle.cache_core.specs.internal.system.SystemStands.{PlannedCacheStandsFor};
+ghost use Rattle.cache_core.specs.system.Arrivals.{Saw, cache_arrivals, first_arrivals, flushes};
+ghost use Rattle.cache_core.specs.system.Plans.{PlannedCaches, IsPlan, IsPlannedCache};
+ghost use Rattle.cache_core.specs.system.Systems.{events_for};
+ghost use Rattle.cache_core.specs.declared.system.plan.CacheName.TheVariants.{L1I, L1D, L1U};
+ghost use Rattle.cache_core.specs.declared.system.plan.PlannedCache.{PlannedCache};
 ghost use Rattle.trace_core.specs.declared.events.Event.{Event};
 
-use crate::arrival::{Arrival, MAX_ARRIVALS, Nobody, Observer};
-use crate::below::{Memory, descend_all};
-use crate::plan::{CacheName, Plan, PlannedCache};
-use crate::stats::{CacheStats, Stats};
-use crate::system_cache::SystemCache;
+use crate::system::arrival::{Arrival, MAX_ARRIVALS, Nobody, Observer};
+use crate::system::below::{Memory, descend_all};
+use crate::system::plan::{CacheName, Plan, PlannedCache};
+use crate::system::stats::{CacheStats, Stats};
+use crate::system::system_cache::SystemCache;
 use std::alloc::{AllocError, Global};
 use std::marker::Model;
 use trace_core::{Access, MAX_LINES, Ref};
@@ -40,12 +48,12 @@ pub struct System {
 }
 
 impl Model for System {
-    ghost use Rattle.cache_core.specs.internal.SystemSteps.{SystemValue};
+    ghost use Rattle.cache_core.specs.internal.system.SystemSteps.{SystemValue};
 
     ghost Value = { SystemValue };
 
-    ghost use Rattle.cache_core.specs.internal.SystemSteps.{IsSystem};
-    ghost use Rattle.cache_core.specs.internal.SystemFields.{system_value};
+    ghost use Rattle.cache_core.specs.internal.system.SystemSteps.{IsSystem};
+    ghost use Rattle.cache_core.specs.internal.system.SystemFields.{system_value};
 
     ghost view = { system_value };
 
@@ -53,12 +61,12 @@ impl Model for System {
 }
 
 impl System {
-    ghost use Rattle.cache_core.specs.SystemSteps.{HasWritten};
-    ghost use Rattle.cache_core.specs.internal.SystemSteps.{stats_of};
+    ghost use Rattle.cache_core.specs.system.SystemSteps.{HasWritten};
+    ghost use Rattle.cache_core.specs.internal.system.SystemSteps.{stats_of};
     ghost use Rattle.trace_core.specs.declared.events.Event.TheVariants as event;
-    ghost use Rattle.cache_core.specs.Systems.{system_run};
-    ghost use Rattle.cache_core.specs.Arrivals.{arrivals_of};
-    ghost use Rattle.cache_core.specs.internal.SystemStands.{SystemStandsFor};
+    ghost use Rattle.cache_core.specs.system.Systems.{system_run};
+    ghost use Rattle.cache_core.specs.system.Arrivals.{arrivals_of};
+    ghost use Rattle.cache_core.specs.internal.system.SystemStands.{SystemStandsFor};
 
     /// A system of the caches of a plan, all empty; each with random replacement has a generator of
     /// its own, of this seed. Takes the memory of all its caches; it fails only if there is too

@@ -6,7 +6,7 @@ use Rattle.std.proofs.lemmas.List.{get_or-take, take_all, take_more, take_more_s
 use Rattle.std.proofs.lemmas.Option.{slice_get-get_or}
 use Rattle.std.proofs.lemmas.List.Sorted.{IsPermutation-sym, IsPermutation-to_front}
 use Rattle.cache_core.specs.declared.outcome.Slot.{Slot}
-use Rattle.cache_core.specs.Order.{TakesIn}
+use Rattle.cache_core.specs.cache.Order.{TakesIn}
 
 pub last_exchanged : (s : List Slot) (n : ℕ) (slot none : Slot) → n ≡ length s → 0 < length s
     → TakesIn None 0 (length s) (take n s) slot (Some (slice_index_or s (length s - 1) none))

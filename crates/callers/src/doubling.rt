@@ -5,7 +5,7 @@ ghost use Rattle.cache_core.specs.Geometry.{IsGeometry, geometry_value};
 ghost use Rattle.cache_core.specs.Windows.{counts};
 
 use cache_core::Counts;
-use cache_core::laws::more_ways_miss_no_more;
+use cache_laws::more_ways_miss_no_more;
 use profile_core::laws::stands_after;
 use profile_core::{MAX_REFERENCES, Profile};
 use std::alloc::{AllocError, Global};

@@ -2,9 +2,9 @@
 ghost use Rattle.std.specs.Prelude.{◌≡◌, ◌<◌, ℕ, List, ◌++◌, length};
 ghost use Rattle.trace_core.specs.declared.events.Event.{Event};
 ghost use Rattle.trace_core.specs.declared.events.Event.TheVariants as event;
-ghost use Rattle.cache_core.specs.Plans.{PlannedCaches, IsPlan};
-ghost use Rattle.cache_core.specs.internal.SystemStands.{SystemStandsFor};
-ghost use Rattle.cache_core.specs.Arrivals.{arrivals_of};
+ghost use Rattle.cache_core.specs.system.Plans.{PlannedCaches, IsPlan};
+ghost use Rattle.cache_core.specs.internal.system.SystemStands.{SystemStandsFor};
+ghost use Rattle.cache_core.specs.system.Arrivals.{arrivals_of};
 
 use cache_core::{Arrival, MAX_ARRIVALS, MAX_STEPS, Observer, System};
 use trace_core::Ref;
@@ -17,7 +17,7 @@ pub struct Counter {
 
 impl Observer for Counter {
     ghost use Rattle.std.specs.Prelude.{◌≡◌, ◌-◌, length};
-    ghost use Rattle.cache_core.specs.declared.arrival.TheConstants.{MAX_ARRIVALS};
+    ghost use Rattle.cache_core.specs.declared.system.arrival.TheConstants.{MAX_ARRIVALS};
 
     ghost has_seen = { λ counter arrivals. counter.seen ≡ length arrivals };
 

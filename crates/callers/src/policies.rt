@@ -1,9 +1,9 @@
 //! A cache under a policy of one's own.
 ghost use Rattle.std.specs.Prelude.{◌≡◌, ◌≤◌, IfOk};
-ghost use Rattle.cache_core.specs.internal.Slab.{empty_sets};
+ghost use Rattle.cache_core.specs.internal.cache.Slab.{empty_sets};
 
-use cache_core::laws::slots_are_kept;
 use cache_core::{AllocMode, Cache, Geometry, Lru, Replacement, Slot, WriteMode};
+use cache_laws::slots_are_kept;
 use std::alloc::{AllocError, Global};
 
 /// LRU insertion (Qureshi and others 2007): a new slot is placed last, and is evicted next unless

@@ -12,8 +12,8 @@ use Rattle.cache_core.specs.declared.design.Repl.{Repl}
 use Rattle.cache_core.specs.declared.design.Repl.TheVariants.{Lru, Fifo}
 use Rattle.cache_core.specs.declared.design.WriteMode.TheVariants.{Back}
 use Rattle.cache_core.specs.declared.design.AllocMode.TheVariants.{Always}
-use Rattle.cache_core.specs.declared.plan.PlannedCache.{PlannedCache}
-use Rattle.cache_core.specs.Plans.{PlannedCaches}
+use Rattle.cache_core.specs.declared.system.plan.PlannedCache.{PlannedCache}
+use Rattle.cache_core.specs.system.Plans.{PlannedCaches}
 use Rattle.cache_core.specs.Geometry.{geometry_value}
 use Rattle.cache_core.specs.Windows.{window, occurrences_after, distinct, distinct_of_set, counts}
 use Rattle.commands.specs.CsimText.{csim_text, csim_lines, lines_after, summary}

@@ -6,12 +6,12 @@ use Rattle.trace_core.specs.declared.events.Kind.TheVariants.{All}
 use Rattle.trace_core.specs.declared.line.Format.{Format}
 use Rattle.trace_core.specs.Reading.{events}
 use Rattle.trace_core.specs.Task.{Task}
-use Rattle.cache_core.specs.declared.stats.CacheStats.{CacheStats}
-use Rattle.cache_core.specs.declared.stats.Stats.{Stats}
-use Rattle.cache_core.specs.declared.plan.CacheName.{CacheName}
-use Rattle.cache_core.specs.declared.plan.CacheName.TheVariants.{L1I, L1D, L1U, L2U}
-use Rattle.cache_core.specs.Plans.{PlannedCaches, cache_name}
-use Rattle.cache_core.specs.Systems.{system_run}
+use Rattle.cache_core.specs.declared.system.stats.CacheStats.{CacheStats}
+use Rattle.cache_core.specs.declared.system.stats.Stats.{Stats}
+use Rattle.cache_core.specs.declared.system.plan.CacheName.{CacheName}
+use Rattle.cache_core.specs.declared.system.plan.CacheName.TheVariants.{L1I, L1D, L1U, L2U}
+use Rattle.cache_core.specs.system.Plans.{PlannedCaches, cache_name}
+use Rattle.cache_core.specs.system.Systems.{system_run}
 
 -- a name, and its number after it
 abbrev pub field : List ℕ → ℕ → List ℕ

@@ -12,11 +12,12 @@ use Rattle.trace_core.specs.Line.{din_label}
 use Rattle.trace_core.specs.Reading.{events}
 use Rattle.trace_core.specs.Task.{Task}
 use Rattle.trace_core.specs.Text.{hexadecimal}
-use Rattle.cache_core.specs.declared.arrival.Victim.{Victim}
-use Rattle.cache_core.specs.declared.arrival.Arrival.{Arrival}
-use Rattle.cache_core.specs.declared.arrival.Arrival.TheVariants.{Cache, Memory, Bypassed, Flush}
-use Rattle.cache_core.specs.Plans.{PlannedCaches, cache_name}
-use Rattle.cache_core.specs.Arrivals.{arrivals}
+use Rattle.cache_core.specs.declared.system.arrival.Victim.{Victim}
+use Rattle.cache_core.specs.declared.system.arrival.Arrival.{Arrival}
+use Rattle.cache_core.specs.declared.system.arrival.Arrival.TheVariants.{Cache, Memory, Bypassed}
+use Rattle.cache_core.specs.declared.system.arrival.Arrival.TheVariants.{Flush}
+use Rattle.cache_core.specs.system.Plans.{PlannedCaches, cache_name}
+use Rattle.cache_core.specs.system.Arrivals.{arrivals}
 
 -- the label and the address, as a din trace has them
 abbrev pub reference_text : Ref → List ℕ

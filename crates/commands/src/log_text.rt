@@ -2,7 +2,7 @@
 ghost use Rattle.std.specs.Prelude.{◌≡◌, ◌+◌, ◌≤◌, [], ◌++◌, length};
 ghost use Rattle.commands.specs.LogText.{reference_text, victim_text, result_text};
 ghost use Rattle.commands.specs.LogText.{arrival_line};
-ghost use Rattle.cache_core.specs.Plans.{cache_name};
+ghost use Rattle.cache_core.specs.system.Plans.{cache_name};
 
 use crate::text::push_word;
 use cache_core::{Arrival, CacheName, MAX_ARRIVALS, Observer, Victim};

@@ -7,7 +7,7 @@ use Rattle.std.proofs.lemmas.List.{append-nil}
 use Rattle.std.proofs.lemmas.Result.{IfOk-weaker}
 use Rattle.clap.specs.Words.{AddsArg, AddsInTurn, AddsSubcommand, App, Rule, app_of, rule_of}
 use Rattle.clap.specs.Words.{with_rule, with_subcommand, Shape, Text, new_app}
-use Rattle.cache_core.specs.declared.plan.CacheName.{CacheName}
+use Rattle.cache_core.specs.declared.system.plan.CacheName.{CacheName}
 use Rattle.clap.specs.declared.builder.arg.Arg.{Arg}
 use Rattle.clap.specs.declared.builder.command.Command.{Command}
 use Rattle.clap.specs.declared.builder.command.Command.TheViews.{out-Command}

@@ -3,9 +3,9 @@ use Rattle.std.specs.Prelude.{ℕ, true, false, List, [], ◌∷◌, ◌++◌, S
 use Rattle.clap.specs.Words.{App, Rule, Shape, Text, new_rule}
 use Rattle.clap.specs.Simple.{new_shape}
 use Rattle.clap.specs.declared.builder.action.ArgAction.TheVariants.{Set, SetTrue}
-use Rattle.cache_core.specs.Plans.{cache_name}
-use Rattle.cache_core.specs.declared.plan.CacheName.{CacheName}
-use Rattle.cache_core.specs.declared.plan.CacheName.TheVariants.{L1I, L1D, L1U, L2U}
+use Rattle.cache_core.specs.system.Plans.{cache_name}
+use Rattle.cache_core.specs.declared.system.plan.CacheName.{CacheName}
+use Rattle.cache_core.specs.declared.system.plan.CacheName.TheVariants.{L1I, L1D, L1U, L2U}
 
 -- an option of one letter, with this name
 abbrev pub by_letter : Text → ℕ → Rule

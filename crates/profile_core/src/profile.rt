@@ -1,19 +1,25 @@
 //! A profile: one pass over references that counts for every associativity up to a depth.
+mod histograms;
+mod hit_sums;
+mod kept_profile;
+mod stack_profile;
+
 ghost use Rattle.std.specs.Prelude.{◌≡◌, ◌+◌, ◌-◌, ◌*◌, ◌^◌, ◌<◌, ◌≤◌, List, IfOk, true, false};
 ghost use Rattle.std.specs.Prelude.{length, take, drop, sum};
 ghost use Rattle.trace_core.specs.declared.events.Event.{Event};
 ghost use Rattle.cache_core.specs.Geometry.{IsGeometry, geometry_value, block_of};
 ghost use Rattle.cache_core.specs.Windows.{occurrences, counts, probes, held};
-ghost use Rattle.profile_core.specs.internal.State.{empty, after_reference, after_flush};
-ghost use Rattle.profile_core.specs.internal.State.{fed_of, held_of, counts_at, hit_sums_at};
-ghost use Rattle.profile_core.specs.internal.State.{weighed, AreHistogramsOf};
-ghost use Rattle.profile_core.specs.internal.Fronts.{is_front_of, after_unless_front, after_fronts};
-ghost use Rattle.profile_core.specs.internal.Fronts.{is_refined, after_batch, fed_of_batch, IsFit};
-ghost use Rattle.profile_core.specs.internal.ProfileStandsFor.{ProfileStandsFor};
+ghost use Rattle.profile_core.specs.internal.profile.State.{empty, after_reference, after_flush};
+ghost use Rattle.profile_core.specs.internal.profile.State.{fed_of, held_of, counts_at};
+ghost use Rattle.profile_core.specs.internal.profile.State.{hit_sums_at, weighed, AreHistogramsOf};
+ghost use Rattle.profile_core.specs.internal.profile.Fronts.{is_front_of, after_unless_front};
+ghost use Rattle.profile_core.specs.internal.profile.Fronts.{after_fronts, is_refined, after_batch};
+ghost use Rattle.profile_core.specs.internal.profile.Fronts.{fed_of_batch, IsFit};
+ghost use Rattle.profile_core.specs.internal.profile.ProfileStandsFor.{ProfileStandsFor};
 
-use crate::histograms::Histograms;
-pub use crate::hit_sums::HitSums;
-use crate::kept_profile::KeptProfile;
+use crate::profile::histograms::Histograms;
+pub use crate::profile::hit_sums::HitSums;
+use crate::profile::kept_profile::KeptProfile;
 use cache_core::{Counts, Geometry};
 use std::alloc::{AllocError, Global};
 use std::marker::Model;
@@ -36,8 +42,8 @@ impl Drop for Profile {
 }
 
 impl Model for Profile {
-    ghost use Rattle.profile_core.specs.internal.State.{ProfileState};
-    ghost use Rattle.profile_core.specs.internal.KeptProfile.{profile_kept};
+    ghost use Rattle.profile_core.specs.internal.profile.State.{ProfileState};
+    ghost use Rattle.profile_core.specs.internal.profile.KeptProfile.{profile_kept};
 
     ghost Value = { ProfileState };
 

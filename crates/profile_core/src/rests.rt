@@ -1,11 +1,14 @@
 //! The rest of each set's row of blocks, which is all but its first number, in whatever way it is
 //! stored.
+pub(crate) mod slotted;
+pub(crate) mod sparse;
+
 ghost use Rattle.std.specs.Prelude.{◌≡◌, ◌+◌, ◌-◌, ◌<◌, ◌≤◌, ◌∷◌, false, nat_eq, length, take};
 ghost use Rattle.std.specs.List.{remove};
-ghost use Rattle.profile_core.specs.internal.Moves.{index_of, rest_touch_of};
-ghost use Rattle.profile_core.specs.internal.Rows.{RowsValue, row_for, with_row};
+ghost use Rattle.profile_core.specs.internal.set_lists.Moves.{index_of, rest_touch_of};
+ghost use Rattle.profile_core.specs.internal.rows.Rows.{RowsValue, row_for, with_row};
 
-use crate::recency::Touch;
+use crate::set_lists::recency::Touch;
 
 /// A rest for each set, of `stride` numbers. The first two blocks of a set's list are stored
 /// elsewhere; the others are the first numbers of the set's rest.

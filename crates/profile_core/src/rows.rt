@@ -1,10 +1,14 @@
 //! A row of blocks for each set, in whatever way the rows are stored.
-ghost use Rattle.std.specs.Prelude.{◌≡◌, ◌<◌, false, length, slice_index, slice_set};
-ghost use Rattle.profile_core.specs.internal.Moves.{is_front, is_second, touch_of};
-ghost use Rattle.profile_core.specs.internal.Lists.{IsRow, IsBroughtInRow};
-ghost use Rattle.profile_core.specs.internal.Rows.{RowsValue, row_for, with_row, list_in_row};
+pub(crate) mod plain;
+pub(crate) mod row;
+pub(crate) mod split;
 
-use crate::recency::Touch;
+ghost use Rattle.std.specs.Prelude.{◌≡◌, ◌<◌, false, length, slice_index, slice_set};
+ghost use Rattle.profile_core.specs.internal.set_lists.Moves.{is_front, is_second, touch_of};
+ghost use Rattle.profile_core.specs.internal.set_lists.Lists.{IsRow, IsBroughtInRow};
+ghost use Rattle.profile_core.specs.internal.rows.Rows.{RowsValue, row_for, with_row, list_in_row};
+
+use crate::set_lists::recency::Touch;
 
 /// Rows of `stride` numbers, one for each set.
 pub trait RowStore: Drop {

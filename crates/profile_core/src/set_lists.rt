@@ -1,10 +1,13 @@
 //! The calls that a profile makes on its lists, in whatever way they are kept.
+pub(crate) mod long_lists;
+pub(crate) mod recency;
+
 ghost use Rattle.std.specs.Prelude.{◌≡◌, ◌*◌, ◌<◌, ◌≤◌, [], true, false, length, replicate, sum_by};
 ghost use Rattle.std.specs.Prelude.{slice_index, slice_index_or, IsTrue, ◌↔◌};
-ghost use Rattle.profile_core.specs.internal.Moves.{is_front, is_second, touch_of};
-ghost use Rattle.profile_core.specs.internal.Lists.{Lists, lists_after_touch};
+ghost use Rattle.profile_core.specs.internal.set_lists.Moves.{is_front, is_second, touch_of};
+ghost use Rattle.profile_core.specs.internal.set_lists.Lists.{Lists, lists_after_touch};
 
-use crate::recency::Touch;
+use crate::set_lists::recency::Touch;
 
 /// A recency list for each set, the most recent block first (LRU stacks, Mattson 1970).
 pub trait SetLists: Drop {

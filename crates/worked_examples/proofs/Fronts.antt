@@ -5,7 +5,7 @@ use Rattle.std.specs.Prelude.{slice_index_or, slice_set}
 use Rattle.std.proofs.lemmas.List.{take_all}
 use Rattle.std.proofs.lemmas.List.Sorted.{IsPermutation-refl}
 use Rattle.cache_core.specs.declared.outcome.Slot.{Slot}
-use Rattle.cache_core.specs.Order.{TakesIn}
+use Rattle.cache_core.specs.cache.Order.{TakesIn}
 
 pub front_exchanged : (s : List Slot) (n : ℕ) (slot none : Slot) → n ≡ length s → 0 < length s
     → TakesIn None 0 (length s) (take n s) slot (Some (slice_index_or s 0 none))

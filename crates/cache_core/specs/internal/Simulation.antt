@@ -12,10 +12,10 @@ use Rattle.cache_core.specs.declared.simulation.Lookup.TheVariants.{Hit, Miss, M
 use Rattle.cache_core.specs.declared.simulation.Simulation.{Simulation}
 use Rattle.cache_core.specs.Geometry.{GeometryValue}
 use Rattle.cache_core.specs.LruLaws.{lru_machine}
-use Rattle.cache_core.specs.Order.{Contents}
-use Rattle.cache_core.specs.Slab.{CacheValue, contents_of}
+use Rattle.cache_core.specs.cache.Order.{Contents}
+use Rattle.cache_core.specs.cache.Slab.{CacheValue, contents_of}
 use Rattle.cache_core.specs.Windows.{counts}
-use Rattle.cache_core.specs.internal.Stands.{CacheStandsFor}
+use Rattle.cache_core.specs.internal.cache.Stands.{CacheStandsFor}
 
 -- the policy of a cache under LRU, which draws no numbers
 abbrev pub lru_policy : LruPolicy → Option Repl

@@ -5,7 +5,7 @@ use Rattle.clap.specs.Words.{App, Rule, Shape, app_of, new_rule, rule_of}
 use Rattle.clap.specs.declared.builder.arg.Arg.{Arg}
 use Rattle.clap.specs.declared.builder.command.Command.{Command}
 use Rattle.clap.specs.declared.builder.command.Command.TheViews.{out-Command}
-use Rattle.cache_core.specs.declared.plan.CacheName.{CacheName}
+use Rattle.cache_core.specs.declared.system.plan.CacheName.{CacheName}
 use Rattle.options.specs.declared.app.CommandText.{CommandText}
 use Rattle.options.specs.declared.app.OptionsOf.{OptionsOf}
 use Rattle.options.specs.declared.app.OptionsOf.TheVariants.{Csim, Din, Sweep}

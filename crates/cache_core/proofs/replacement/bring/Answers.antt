@@ -1,5 +1,5 @@
 -- A prefix turned right by one brings the element to the front.
-use Rattle.cache_core.proofs.Lawful.{brought}
+use Rattle.cache_core.proofs.replacement.Lawful.{brought}
 use Rattle.cache_core.proofs.replacement.bring.Goals as goal
 
 pub returns : goal.returns

@@ -1,5 +1,5 @@
 -- The new slot comes to the front.
-use Rattle.cache_core.proofs.Lawful.{new_in_front}
+use Rattle.cache_core.proofs.replacement.Lawful.{new_in_front}
 use Rattle.cache_core.proofs.replacement.put_in_front.Goals as goal
 
 pub returns-clause-order : goal.returns-clause-order

@@ -1,9 +1,9 @@
 -- A first-level cache, where it is there, is seen as the machine has it.
 use Rattle.std.proofs.Common.{List, subst}
-use Rattle.cache_core.specs.declared.arrival.Arrival.{Arrival}
-use Rattle.cache_core.specs.Arrivals.{Saw}
-use Rattle.cache_core.specs.internal.SystemStands.{PlannedCacheStandsFor}
-use Rattle.cache_core.proofs.Observed.{entered}
+use Rattle.cache_core.specs.declared.system.arrival.Arrival.{Arrival}
+use Rattle.cache_core.specs.system.Arrivals.{Saw}
+use Rattle.cache_core.specs.internal.system.SystemStands.{PlannedCacheStandsFor}
+use Rattle.cache_core.proofs.system.Observed.{entered}
 use Rattle.cache_core.proofs.system.access_first.Goals as goal
 
 pub returns-in-Some-clause-seen : goal.returns-in-Some-clause-seen

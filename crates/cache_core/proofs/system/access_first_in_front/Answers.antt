@@ -3,19 +3,19 @@ use Rattle.std.proofs.Common.{◌≡◌, ℕ, List, [], ◌∷◌, Bool, true, f
 use Rattle.std.proofs.Common.{sym, ap, ◌∙◌, subst}
 use Rattle.std.proofs.lemmas.Bool.{true≢false}
 use Rattle.trace_core.specs.declared.events.Event.{Event}
-use Rattle.cache_core.specs.declared.arrival.Arrival.TheVariants.{Cache}
-use Rattle.cache_core.specs.declared.plan.CacheName.{CacheName}
-use Rattle.cache_core.specs.declared.plan.PlannedCache.{PlannedCache}
-use Rattle.cache_core.specs.Arrivals.{cache_arrivals}
-use Rattle.cache_core.specs.Plans.{IsPlannedCache}
-use Rattle.cache_core.specs.internal.SystemStands.{PlannedCacheStandsFor}
-use Rattle.cache_core.proofs.Observed.{entered}
+use Rattle.cache_core.specs.declared.system.arrival.Arrival.TheVariants.{Cache}
+use Rattle.cache_core.specs.declared.system.plan.CacheName.{CacheName}
+use Rattle.cache_core.specs.declared.system.plan.PlannedCache.{PlannedCache}
+use Rattle.cache_core.specs.system.Arrivals.{cache_arrivals}
+use Rattle.cache_core.specs.system.Plans.{IsPlannedCache}
+use Rattle.cache_core.specs.internal.system.SystemStands.{PlannedCacheStandsFor}
+use Rattle.cache_core.proofs.system.Observed.{entered}
 use Rattle.std.specs.Prelude.{MatchBool}
 use Rattle.trace_core.specs.declared.events.Ref.{Ref}
-use Rattle.cache_core.specs.declared.system_cache.SystemCache.{SystemCache}
-use Rattle.cache_core.specs.internal.CacheSteps.{Enters}
-use Rattle.cache_core.specs.internal.Order.{hit_in_front}
-use Rattle.cache_core.specs.internal.SystemSteps.{AccessesFirst, nothing_down}
+use Rattle.cache_core.specs.declared.system.system_cache.SystemCache.{SystemCache}
+use Rattle.cache_core.specs.internal.system.CacheSteps.{Enters}
+use Rattle.cache_core.specs.internal.cache.Order.{hit_in_front}
+use Rattle.cache_core.specs.internal.system.SystemSteps.{AccessesFirst, nothing_down}
 use Rattle.cache_core.proofs.system.access_first_in_front.Goals as goal
 
 held : (b : Bool) (cache : Option SystemCache) (old new : SystemCache) (ref : Ref) →

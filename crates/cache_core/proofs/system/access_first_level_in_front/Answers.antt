@@ -1,11 +1,12 @@
 -- A reference that finds its block in front is made at the one cache that takes it, and is seen
 -- there.
 use Rattle.std.proofs.Common.{true, None, [], ◌∷◌, sym, ap, ◌∙◌}
-use Rattle.cache_core.specs.declared.arrival.Arrival.TheVariants.{Cache}
-use Rattle.cache_core.specs.declared.plan.CacheName.TheVariants.{L1I, L1D, L1U}
-use Rattle.cache_core.specs.Systems.{events_for}
-use Rattle.cache_core.proofs.FirstLevelLaw.{unified_takes, fetch_cache_takes, data_cache_takes}
-use Rattle.cache_core.proofs.Observed.{is_planned, seen_unified, seen_fetch, seen_data}
+use Rattle.cache_core.specs.declared.system.arrival.Arrival.TheVariants.{Cache}
+use Rattle.cache_core.specs.declared.system.plan.CacheName.TheVariants.{L1I, L1D, L1U}
+use Rattle.cache_core.specs.system.Systems.{events_for}
+use Rattle.cache_core.proofs.system.FirstLevelLaw.{unified_takes, fetch_cache_takes}
+use Rattle.cache_core.proofs.system.FirstLevelLaw.{data_cache_takes}
+use Rattle.cache_core.proofs.system.Observed.{is_planned, seen_unified, seen_fetch, seen_data}
 use Rattle.cache_core.proofs.system.access_first_level_in_front.Goals as goal
 
 pub returns-in-L1U-clause-seen : goal.returns-in-L1U-clause-seen

@@ -1,9 +1,9 @@
 -- A cache that is there is emptied, and seen so.
 use Rattle.std.proofs.Common.{List, refl, subst}
-use Rattle.cache_core.specs.declared.arrival.Arrival.{Arrival}
-use Rattle.cache_core.specs.Arrivals.{Saw}
-use Rattle.cache_core.specs.internal.SystemStands.{PlannedCacheStandsFor}
-use Rattle.cache_core.proofs.Observed.{emptied}
+use Rattle.cache_core.specs.declared.system.arrival.Arrival.{Arrival}
+use Rattle.cache_core.specs.system.Arrivals.{Saw}
+use Rattle.cache_core.specs.internal.system.SystemStands.{PlannedCacheStandsFor}
+use Rattle.cache_core.proofs.system.Observed.{emptied}
 use Rattle.cache_core.proofs.system.empty.Goals as goal
 
 pub returns-in-Some-clause-value : goal.returns-in-Some-clause-value

@@ -7,7 +7,7 @@ use Rattle.trace_core.specs.declared.events.Ref.{Ref}
 use Rattle.cache_core.specs.declared.design.WriteMode.TheVariants.{Back}
 use Rattle.cache_core.specs.Geometry.{GeometryValue, geometry_value}
 use Rattle.cache_core.specs.LruLaws.{lru_machine}
-use Rattle.cache_core.specs.Machine.{counts_in, effects}
+use Rattle.cache_core.specs.cache.Machine.{counts_in, effects}
 use Rattle.callers.proofs.simulations.three_lines_miss_ten.Goals as goal
 
 -- a read of a block of 16 bytes

@@ -14,7 +14,7 @@ use Rattle.trace_core.proofs.WholeTraces.{reads-none, reads-more, reads-end, rea
 use Rattle.trace_core.proofs.WholeTraces.{run-stopped, run-finished, run-unfinished, run-broken}
 use Rattle.trace_core.proofs.Written.{Wrote-none}
 use Rattle.cache_core.specs.Windows.{counts}
-use Rattle.cache_core.proofs.Simulating.{simulated_within, within_above}
+use Rattle.cache_core.proofs.simulation.Simulating.{simulated_within, within_above}
 use Rattle.commands.specs.CsimText.{csim_task, csim_lines, csim_text, line_of}
 use Rattle.commands.specs.internal.CsimPass.{lookups_of_pair}
 use Rattle.commands.specs.CsimText.{summary}

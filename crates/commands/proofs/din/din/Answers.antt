@@ -8,7 +8,7 @@ use Rattle.trace_core.specs.Task.{entries_of}
 use Rattle.trace_core.proofs.Performing.{err_is, Performs-ok, Performs-trace, Performs-write}
 use Rattle.trace_core.proofs.WholeTraces.{read-from, run-stopped, run-finished, run-unfinished}
 use Rattle.trace_core.proofs.Written.{Wrote-none}
-use Rattle.cache_core.specs.Systems.{system_run}
+use Rattle.cache_core.specs.system.Systems.{system_run}
 use Rattle.commands.specs.DinText.{din_task, report_of}
 use Rattle.commands.proofs.din.din.Given as given
 use Rattle.commands.proofs.din.din.Goals as goal

@@ -1,4 +1,4 @@
-use Rattle.profile_core.proofs.Fronts.{near_refined}
+use Rattle.profile_core.proofs.profile.Fronts.{near_refined}
 use Rattle.profile_core.proofs.laws.distance_0_is_refined.Goals as goal
 
 pub returns : goal.returns

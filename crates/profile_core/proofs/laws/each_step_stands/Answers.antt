@@ -1,4 +1,4 @@
-use Rattle.profile_core.proofs.Stands.{new_stands, reference_stands, flush_stands}
+use Rattle.profile_core.proofs.profile.Stands.{new_stands, reference_stands, flush_stands}
 use Rattle.profile_core.proofs.laws.each_step_stands.Goals as goal
 
 pub returns-clause-new : goal.returns-clause-new

@@ -1,4 +1,4 @@
-use Rattle.profile_core.proofs.Counting.{probes_at_most}
+use Rattle.profile_core.proofs.profile.Counting.{probes_at_most}
 use Rattle.profile_core.proofs.laws.probes_bounded.Goals as goal
 
 pub returns : goal.returns

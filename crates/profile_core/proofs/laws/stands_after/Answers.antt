@@ -1,4 +1,4 @@
-use Rattle.profile_core.proofs.Runs.{stands_after}
+use Rattle.profile_core.proofs.profile.Runs.{stands_after}
 use Rattle.profile_core.proofs.laws.stands_after.Goals as goal
 
 pub returns : goal.returns

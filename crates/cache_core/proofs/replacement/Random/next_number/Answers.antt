@@ -2,7 +2,8 @@
 use Rattle.rand_pcg.specs.Lcg.{Lcg}
 use Rattle.rand_pcg.specs.Pcg.{pcg32}
 use Rattle.std.proofs.Common.{ℕ, ap, ◌∙◌, sym}
-use Rattle.cache_core.proofs.RandomNumberLemmas.{random_number-first, random_number-rest}
+use Rattle.cache_core.proofs.replacement.RandomNumberLemmas.{random_number-first}
+use Rattle.cache_core.proofs.replacement.RandomNumberLemmas.{random_number-rest}
 use Rattle.cache_core.proofs.replacement.Random.next_number.Goals as goal
 
 pub returns-clause-number : goal.returns-clause-number

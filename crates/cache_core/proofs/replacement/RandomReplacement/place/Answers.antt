@@ -1,6 +1,6 @@
 -- Random takes the next free way, or the way that its next random number names.
 use Rattle.std.proofs.Common.{arith}
-use Rattle.cache_core.proofs.Lawful.{exchange_full}
+use Rattle.cache_core.proofs.replacement.Lawful.{exchange_full}
 use Rattle.cache_core.proofs.replacement.RandomReplacement.place.Goals as goal
 
 pub returns-clause-order : goal.returns-clause-order

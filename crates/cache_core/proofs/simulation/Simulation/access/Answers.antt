@@ -1,6 +1,6 @@
 -- Each lookup leads to the list with its reference behind it.
 use Rattle.cache_core.specs.declared.simulation.Lookup.TheVariants.{Hit, Miss, MissEviction}
-use Rattle.cache_core.proofs.Simulating.{simulates_lookup}
+use Rattle.cache_core.proofs.simulation.Simulating.{simulates_lookup}
 use Rattle.cache_core.proofs.simulation.Simulation.access.Goals as goal
 
 pub returns-in-Hit-clause-stands : goal.returns-in-Hit-clause-stands

@@ -1,7 +1,7 @@
 -- A new system stands for no event.
 use Rattle.std.proofs.Common.{refl, subst, arith}
-use Rattle.cache_core.specs.internal.SystemSteps.{IsNewCache}
-use Rattle.cache_core.proofs.SystemLaw.{new_law, none_counted}
+use Rattle.cache_core.specs.internal.system.SystemSteps.{IsNewCache}
+use Rattle.cache_core.proofs.system.SystemLaw.{new_law, none_counted}
 use Rattle.cache_core.proofs.system.System.new.Goals as goal
 
 pub invariant_of-result : goal.invariant_of-result

@@ -2,14 +2,14 @@
 -- and is seen once.
 use Rattle.std.proofs.Common.{◌≡◌, List, [], ◌∷◌, ◌++◌, Some, None, true, arith, sym, ap, ◌∙◌}
 use Rattle.std.proofs.Common.{subst, refl, append-nil}
-use Rattle.cache_core.specs.declared.arrival.Arrival.{Arrival}
-use Rattle.cache_core.specs.declared.arrival.Arrival.TheVariants.{Cache}
-use Rattle.cache_core.specs.Arrivals.{Saw, first_arrivals, lower_arrivals}
-use Rattle.cache_core.specs.internal.SystemStands.{SystemStandsFor}
-use Rattle.cache_core.specs.internal.SystemSteps.{nothing_down}
-use Rattle.cache_core.proofs.Counters.{first_level_grows}
-use Rattle.cache_core.proofs.Observed.{seen_below}
-use Rattle.cache_core.proofs.SystemLaw.{first_after, step_law}
+use Rattle.cache_core.specs.declared.system.arrival.Arrival.{Arrival}
+use Rattle.cache_core.specs.declared.system.arrival.Arrival.TheVariants.{Cache}
+use Rattle.cache_core.specs.system.Arrivals.{Saw, first_arrivals, lower_arrivals}
+use Rattle.cache_core.specs.internal.system.SystemStands.{SystemStandsFor}
+use Rattle.cache_core.specs.internal.system.SystemSteps.{nothing_down}
+use Rattle.cache_core.proofs.system.Counters.{first_level_grows}
+use Rattle.cache_core.proofs.system.Observed.{seen_below}
+use Rattle.cache_core.proofs.system.SystemLaw.{first_after, step_law}
 use Rattle.cache_core.proofs.system.System.step_observed.Goals as goal
 
 pub invariant_of-self : goal.invariant_of-self

@@ -1,14 +1,14 @@
 -- A step keeps the bounds on the counts, and is one reference at the first level and what is sent
 -- down from it. So it is seen.
 use Rattle.std.proofs.Common.{List, Some, None, arith, refl, sym, subst}
-use Rattle.cache_core.specs.declared.arrival.Arrival.{Arrival}
-use Rattle.cache_core.specs.Arrivals.{Saw}
-use Rattle.cache_core.specs.Systems.{lower_events}
-use Rattle.cache_core.specs.internal.SystemStands.{SystemStandsFor}
-use Rattle.cache_core.specs.internal.SystemSteps.{present_refs}
-use Rattle.cache_core.proofs.Counters.{first_level_grows, all_grow}
-use Rattle.cache_core.proofs.Observed.{saw_both, seen_below, seen_bypassed}
-use Rattle.cache_core.proofs.SystemLaw.{first_after, step_law}
+use Rattle.cache_core.specs.declared.system.arrival.Arrival.{Arrival}
+use Rattle.cache_core.specs.system.Arrivals.{Saw}
+use Rattle.cache_core.specs.system.Systems.{lower_events}
+use Rattle.cache_core.specs.internal.system.SystemStands.{SystemStandsFor}
+use Rattle.cache_core.specs.internal.system.SystemSteps.{present_refs}
+use Rattle.cache_core.proofs.system.Counters.{first_level_grows, all_grow}
+use Rattle.cache_core.proofs.system.Observed.{saw_both, seen_below, seen_bypassed}
+use Rattle.cache_core.proofs.system.SystemLaw.{first_after, step_law}
 use Rattle.cache_core.proofs.system.System.step_seen.Goals as goal
 
 pub invariant_of-self : goal.invariant_of-self

@@ -1,10 +1,10 @@
 -- The numbers of a part of the distances: all hits without those further away, or those of the
 -- histogram.
 use Rattle.std.proofs.Common.{◌≡◌, ◌+◌, ◌-◌, ◌∙◌, length, sum, take, drop, ap, arith}
-use Rattle.profile_core.specs.declared.histograms.Histograms.{Histograms}
-use Rattle.profile_core.specs.internal.State.{ProfileState, AreHistogramsOf}
-use Rattle.profile_core.specs.internal.State.{distances_of, compared_behind}
-use Rattle.profile_core.proofs.Feeding.{sum-distances}
+use Rattle.profile_core.specs.declared.profile.histograms.Histograms.{Histograms}
+use Rattle.profile_core.specs.internal.profile.State.{ProfileState, AreHistogramsOf}
+use Rattle.profile_core.specs.internal.profile.State.{distances_of, compared_behind}
+use Rattle.profile_core.proofs.profile.Feeding.{sum-distances}
 use Rattle.profile_core.proofs.HitSums.{part-le, sum-rest}
 use Rattle.profile_core.proofs.profile.Profile.hits_between.Goals as goal
 use Rattle.profile_core.proofs.profile.Profile.hits_between.Goals.{After-total}

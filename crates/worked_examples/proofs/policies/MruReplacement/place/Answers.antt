@@ -1,5 +1,5 @@
 use Rattle.std.proofs.Common.{◌+◌, arith}
-use Rattle.cache_core.proofs.Lawful.{written}
+use Rattle.cache_core.proofs.replacement.Lawful.{written}
 use Rattle.worked_examples.proofs.Fronts.{front_exchanged}
 use Rattle.worked_examples.proofs.policies.MruReplacement.place.Goals as goal
 

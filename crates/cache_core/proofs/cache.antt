@@ -1,0 +1,12 @@
+pub mod Slabs
+pub mod Lines
+pub mod SetLaw
+pub mod Visits
+pub mod StateLaw
+pub mod FlushLaw
+pub mod SoundLaw
+pub mod RunLaw
+pub mod DirtyLaw
+pub mod FrontLaw
+pub mod DownLaw
+pub mod MachineRows

@@ -1,0 +1,14 @@
+pub mod SlotsApart
+pub mod IndexedLaw
+pub mod HeldLaw
+pub mod WaysLaw
+pub mod PolicySlots
+pub mod IndexedDeeds
+pub mod IndexedEmptying
+pub mod SlotOrderLaw
+pub mod SlotOrderDeeds
+pub mod IndexedPopping
+pub mod IndexedVisit
+pub mod IndexedFront
+pub mod IndexedAccess
+pub mod IndexedEmpty

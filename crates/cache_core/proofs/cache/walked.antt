@@ -1,0 +1,2 @@
+pub mod SearchLaw
+pub mod SlabFlush

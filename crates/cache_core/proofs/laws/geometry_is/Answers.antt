@@ -1,6 +1,0 @@
--- The geometry of a cache that is asked for, as a function and as a relation.
-use Rattle.cache_core.proofs.GeometryLaw.{geometry_law}
-use Rattle.cache_core.proofs.laws.geometry_is.Goals as goal
-
-pub returns : goal.returns
-returns c = geometry_law

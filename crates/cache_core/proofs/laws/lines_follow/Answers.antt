@@ -1,6 +1,0 @@
--- What a line of a cache must send arrives next at the level below.
-use Rattle.cache_core.proofs.FollowLaw.{follow_law}
-use Rattle.cache_core.proofs.laws.lines_follow.Goals as goal
-
-pub returns : goal.returns
-returns c = follow_law

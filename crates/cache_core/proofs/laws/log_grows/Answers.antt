@@ -1,6 +1,0 @@
--- The log of more events begins with that of fewer.
-use Rattle.cache_core.proofs.LinesLaw.{growth_law}
-use Rattle.cache_core.proofs.laws.log_grows.Goals as goal
-
-pub returns : goal.returns
-returns c = growth_law

@@ -1,6 +1,0 @@
--- What arrives at memory is what the last level sends.
-use Rattle.cache_core.proofs.MemoryLaw.{memory_law}
-use Rattle.cache_core.proofs.laws.memory_gets_what_is_sent.Goals as goal
-
-pub returns : goal.returns
-returns c = memory_law

@@ -1,0 +1,3 @@
+pub mod LruSet
+pub mod LruRun
+pub mod Simulating

@@ -1,0 +1,3 @@
+pub mod Exponents
+pub mod GeometryLaw
+mod PlanRows

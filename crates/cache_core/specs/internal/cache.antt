@@ -1,0 +1,7 @@
+pub mod Order
+pub mod Slab
+pub mod Stands
+pub mod Lookups
+pub mod SlotOrder
+pub mod Indexed
+pub mod ChosenCaches

@@ -1,0 +1,5 @@
+pub mod Counted
+pub mod CacheSteps
+pub mod SystemSteps
+pub mod SystemFields
+pub mod SystemStands

@@ -1,0 +1,3 @@
+pub mod RandomNumbers
+pub mod Rules
+pub mod AnyPolicy

@@ -1,0 +1,7 @@
+pub mod Plans
+pub mod CacheStats
+pub mod Systems
+pub mod Arrivals
+pub mod SystemSteps
+pub mod ArrivalStats
+pub mod LogLaws

@@ -1,0 +1,10 @@
+pub mod MoreWays
+pub mod LogLaw
+pub mod LogParts
+pub mod MemoryLaw
+pub mod TakenLaw
+pub mod FollowLaw
+pub mod LinesLaw
+pub mod FlushLines
+pub mod SlotSums
+pub mod AnyLaw

@@ -1,0 +1,214 @@
+-- A profile after a reference: where the reference finds its block, and what the numbers say then.
+use Rattle.std.proofs.Common.{◌≡◌, ℕ, zero, suc, ◌+◌, ◌-◌, ◌<◌, ◌≤◌, ◌^◌, cond, Bool, true, false}
+use Rattle.std.proofs.Common.{not, eqb, ◌||◌, List, [], ◌∷◌, length, take, get_or, set, sum}
+use Rattle.std.proofs.Common.{refl, sym, ◌∙◌, ap, subst, arith}
+use Rattle.std.proofs.lemmas.Bool.{ltb-true, eqb-true}
+use Rattle.std.proofs.lemmas.List.{set-get_or, take_all}
+use Rattle.std.proofs.lemmas.List.Sums.{sum_by-cons, sum_by-set}
+use Rattle.std.specs.List.{remove}
+use Rattle.std.specs.Prelude.{replicate}
+use Rattle.std.proofs.lemmas.List.{length-replicate}
+use Rattle.cache_core.proofs.Lists.{list_any_is}
+use Rattle.cache_core.specs.Geometry.{GeometryValue, set_of_block}
+use Rattle.profile_core.specs.declared.set_lists.recency.Touch.TheVariants.{Behind, New}
+use Rattle.profile_core.specs.internal.set_lists.Moves.{index_of, is_in, is_front, is_second}
+use Rattle.profile_core.specs.internal.set_lists.Moves.{move_to_front, touch_of}
+use Rattle.profile_core.specs.internal.set_lists.Lists.{Lists}
+use Rattle.profile_core.specs.internal.profile.State.{ProfileState, IsSound, list_of, one_more_at}
+use Rattle.profile_core.specs.internal.profile.State.{after_reference, fed_of, weighed}
+use Rattle.profile_core.specs.internal.profile.State.{compared_behind, distances_of, empty}
+use Rattle.profile_core.proofs.Elements.{all_same}
+use Rattle.profile_core.proofs.rows.Bringing.{absent_at}
+use Rattle.profile_core.proofs.rows.Shifting.{other_front, index_behind, index-le}
+use Rattle.profile_core.proofs.profile.Weighing.{weighed-zeros, sum-zeros}
+
+behind_at : (b : Bool) (distance p n : ℕ) → Behind distance ≡ cond b (Behind p) (New n) →
+    (b ≡ true) × (distance ≡ p)
+behind_at true distance p n e = (refl, cc)
+behind_at false distance p n e = absurd (cc)
+
+new_at : (b : Bool) (len p n : ℕ) → New len ≡ cond b (Behind p) (New n) → (b ≡ false) × (len ≡ n)
+new_at true len p n h = absurd (cc)
+new_at false len p n h = (refl, cc)
+
+-- a reference to x finds its block at a stack distance
+pub record FoundAt (x distance : ℕ) (xs : List ℕ) : Type 0 where
+  pub inside : is_in x xs ≡ true
+  pub distance_is : index_of x xs ≡ distance
+  pub within : distance < length xs
+
+pub found_front : (x : ℕ) (xs : List ℕ) → is_front x xs ≡ true → FoundAt x 0 xs
+found_front x [] front = absurd (cc)
+found_front x (y ∷ ys) front = record {
+  inside = ap (λ b. b || is_in x ys) front;
+  distance_is = ap (λ b. cond (not b) (1 + index_of x ys) 0) front;
+  within = omega arith;
+}
+
+pub front_stays : (x e : ℕ) (xs : List ℕ) → is_front x xs ≡ true → length xs ≤ e →
+    take e (move_to_front x xs) ≡ xs
+front_stays x e [] front short = absurd (cc)
+front_stays x e (y ∷ ys) front short =
+    ap (λ i. take e (x ∷ remove (y ∷ ys) i)) (found_front x (y ∷ ys) front).distance_is ∙
+    ap (λ z. take e (z ∷ ys)) (sym (eqb-true y x front))
+    ∙ take_all e (y ∷ ys) short
+
+pub found_behind : (x distance : ℕ) (xs : List ℕ) → Behind distance ≡ touch_of x xs →
+    FoundAt x distance xs
+found_behind x distance xs touch =
+    let at = behind_at (is_in x xs) distance (index_of x xs) (length xs) touch in
+    let lt : index_of x xs < length xs = ltb-true (index_of x xs) (length xs)
+    (sym (list_any_is (λ z. eqb z x) xs) ∙ at.0) in
+    record { inside = at.0; distance_is = sym at.1; within = omega (arith, at.1, lt) }
+
+pub found_second : (x : ℕ) (xs : List ℕ) → is_front x xs ≡ false → is_second x xs ≡ true →
+    FoundAt x 1 xs
+found_second x [] other second = absurd (cc)
+found_second x (y ∷ []) other second = absurd (cc)
+found_second x (y ∷ z ∷ zs) other second =
+    let here : index_of x (z ∷ zs) ≡ 0 = ap (λ b. cond (not b) (1 + index_of x zs) 0) second in
+    record {
+      inside = ap (λ b. b || is_in x (z ∷ zs)) other ∙ ap (λ b. b || is_in x zs) second;
+      distance_is = index_behind x y (z ∷ zs) (other_front x y (z ∷ zs) other) ∙ ap suc here;
+      within = omega arith;
+    }
+
+-- behind the front, the distance is not 0
+pub behind_front : (x distance : ℕ) (xs : List ℕ) → is_front x xs ≡ false →
+    FoundAt x distance xs → 1 ≤ distance
+behind_front x distance [] other f = absurd (omega (arith, f.within))
+behind_front x distance (y ∷ ys) other f =
+    omega (arith, index_behind x y ys (other_front x y ys other), f.distance_is)
+
+pub record FoundNowhere (x len : ℕ) (xs : List ℕ) : Type 0 where
+  pub outside : is_in x xs ≡ false
+  pub index_is : index_of x xs ≡ length xs
+  pub len_is : len ≡ length xs
+
+pub found_nowhere : (x len : ℕ) (xs : List ℕ) → New len ≡ touch_of x xs → FoundNowhere x len xs
+found_nowhere x len xs touch =
+    let at = new_at (is_in x xs) len (index_of x xs) (length xs) touch in
+    record {
+      outside = at.0;
+      index_is = absent_at (is_in x xs) (index_of x xs) (length xs) (list_any_is (λ z. eqb z x) xs)
+          at.0 (index-le x xs);
+      len_is = at.1;
+    }
+
+-- The histogram of those found behind the front: it has an entry for distance 0, which stays 0.
+pub first-raised : (behind : List ℕ) (distance n : ℕ) → 1 ≤ distance →
+    take 1 (set behind distance n) ≡ take 1 behind
+first-raised [] distance n some = refl
+first-raised (y ∷ bs) zero n some = absurd (omega (arith, some))
+first-raised (y ∷ bs) (suc distance) n some = refl
+
+pub raised_behind : (behind : List ℕ) (distance n h : ℕ) → 1 ≤ distance →
+    n ≡ get_or behind distance 0
+    → set (set behind distance (n + 1)) 0 h ≡ one_more_at (set behind 0 h) distance
+raised_behind [] distance n h some read = refl
+raised_behind (y ∷ bs) zero n h some read = absurd (omega (arith, some))
+raised_behind (y ∷ bs) (suc distance) n h some read = ap (λ m. h ∷ set bs distance (m + 1)) read
+
+pub sum-distances : (probes : ℕ) (behind missed : List ℕ) → take 1 behind ≡ 0 ∷ []
+    → sum (distances_of probes behind missed) ≡ probes - compared_behind behind missed + sum behind
+sum-distances probes [] missed first = absurd (cc)
+sum-distances probes (y ∷ bs) missed first =
+    let none : y ≡ 0 = cc in
+    let h : ℕ = probes - compared_behind (y ∷ bs) missed in
+    omega (arith, sum_by-cons (λ n. n) h bs, sum_by-cons (λ n. n) y bs, none)
+
+-- one reference more, found at a distance or not found in a list of n blocks
+sum-raise : (ns : List ℕ) (i : ℕ) → i < length ns → sum (one_more_at ns i) ≡ sum ns + 1
+sum-raise ns i lt = omega (arith, sum_by-set (λ m. m) ns i (get_or ns i 0 + 1) 0 lt)
+
+one_of_both : (b : Bool) (ds ms : List ℕ) (i n : ℕ) → (b ≡ true → i < length ds) → n < length ms
+    → sum (cond b (one_more_at ds i) ds) + sum (cond b ms (one_more_at ms n)) ≡ sum ds + sum ms + 1
+one_of_both true ds ms i n here le = omega (arith, sum-raise ds i (here refl))
+one_of_both false ds ms i n here le = omega (arith, sum-raise ms n le)
+
+pub after_fed : (v : ProfileState) (x : ℕ) →
+    length (list_of v (set_of_block v.geometry x)) ≤ length v.distances
+    → length (list_of v (set_of_block v.geometry x)) < length v.misses_by_occupancy →
+    fed_of (after_reference v x) ≡ fed_of v + 1
+after_fed v x near far = grind (arith, one_of_both, ltb-true, list_any_is)
+
+-- The state after a reference, part by part.
+module _ (v : ProfileState) (x k : ℕ) (of_set : k ≡ set_of_block v.geometry x) where
+  abbrev xs : List ℕ
+  xs = list_of v (set_of_block v.geometry x)
+
+  pub found_step : (distance probes' : ℕ) (lists' : List (List ℕ)) (distances' : List ℕ) →
+      FoundAt x distance (list_of v k)
+      → lists' ≡ set v.lists k (take v.geometry.e (move_to_front x (list_of v k))) →
+      distances' ≡ one_more_at v.distances distance
+      → probes' ≡ v.probes + (distance + 1)
+      → record v { lists = lists'; distances = distances'; probes = probes' } ≡ after_reference v x
+  found_step distance probes' lists' distances' found moved raised more = grind arith
+
+  pub nowhere_step : (len n probes' : ℕ) (lists' : List (List ℕ)) (distances' : List ℕ) →
+      FoundNowhere x len (list_of v k)
+      → lists' ≡ set v.lists k (take v.geometry.e (move_to_front x (list_of v k))) →
+      distances' ≡ v.distances
+      → n ≡ get_or v.misses_by_occupancy len 0 → probes' ≡ v.probes + len
+      → record v {
+        lists = lists';
+        distances = distances';
+        misses_by_occupancy =
+            set v.misses_by_occupancy len (n + 1);
+        probes = probes';
+      }
+      ≡ after_reference v x
+  nowhere_step len n probes' lists' distances' found moved same read more = grind arith
+
+  -- the front, which stays
+  pub front_step : (distances' : List ℕ) → is_front x (list_of v k) ≡ true →
+      length (list_of v k) ≤ v.geometry.e → distances' ≡ one_more_at v.distances 0
+      → record v { distances = distances'; probes = v.probes + 1 } ≡ after_reference v x
+  front_step distances' front short raised =
+      grind (arith, found_step, found_front, front_stays, set-get_or)
+
+-- A new profile, whose lists are empty and whose numbers are all 0
+first-zero : (n : ℕ) → 1 ≤ n → take {A = ℕ} 1 (replicate n 0) ≡ 0 ∷ []
+first-zero zero some = absurd (omega (arith, some))
+first-zero (suc n) some = refl
+
+-- a profile that was fed nothing
+pub new_is : (g : GeometryValue) (lists : Lists) (behind missed : List ℕ) →
+    lists.lists ≡ replicate (2 ^ g.s) [] → behind ≡ replicate g.e 0 →
+    missed ≡ replicate (g.e + 1) 0 →
+    record {
+      geometry = g;
+      lists = lists.lists;
+      distances = distances_of 0 behind missed;
+      misses_by_occupancy = missed;
+      probes = 0;
+    } ≡ empty g
+new_is g lists behind missed sets near far =
+    let none : 0 - compared_behind behind missed ≡ get_or behind 0 0 =
+    omega (arith, ap (λ ns. get_or ns 0 0) near, all_same {A = ℕ} g.e 0 0) in
+    let same : distances_of 0 behind missed ≡ replicate g.e 0 =
+    ap (λ n. set behind 0 n) none ∙ set-get_or behind 0 0 ∙ near in
+    cc (sets, same, far)
+
+pub new_sound : (g : GeometryValue) (lists : Lists) (behind missed : List ℕ) → lists.depth ≡ g.e →
+    lists.lists ≡ replicate (2 ^ g.s) []
+    → 1 ≤ g.e → behind ≡ replicate g.e 0 → missed ≡ replicate (g.e + 1) 0 →
+    IsSound g lists behind missed 0
+new_sound g lists behind missed depth sets some near far =
+    let near_none = ap (weighed 1) near ∙ weighed-zeros 1 g.e in
+    let far_none = ap (weighed 0) far ∙ weighed-zeros 0 (g.e + 1) in
+    let near_sum = ap sum near ∙ sum-zeros g.e in
+    let far_sum = ap sum far ∙ sum-zeros (g.e + 1) in
+    let first = ap (take 1) near ∙ first-zero g.e some in
+    record {
+      depth = depth;
+      set_count = ap length sets ∙ length-replicate (2 ^ g.s) [];
+      short = λ k. subst (λ (ls : List (List ℕ)). length (get_or ls k []) ≤ g.e) (sym sets)
+          (omega (arith, ap length (all_same {A = List ℕ} (2 ^ g.s) k [])));
+      behind_count = ap length near ∙ length-replicate g.e 0;
+      none_in_front = first;
+      occupancy_count = ap length far ∙ length-replicate (g.e + 1) 0;
+      told = omega (arith, near_none, far_none);
+      fed = omega (arith, sum-distances 0 behind missed first, near_sum, far_sum);
+      compared = omega arith;
+    }

@@ -1,0 +1,27 @@
+-- Each reference is fed, or left out if it finds its block in front.
+use Rattle.std.proofs.Common.{◌<◌, ◌∙◌, sym, length, arith}
+use Rattle.profile_core.proofs.profile.Batches.{fed_front, fed_behind}
+use Rattle.profile_core.proofs.profile.stack_profile.StackProfile.feed_each.Goals as goal
+use Rattle.profile_core.proofs.profile.stack_profile.StackProfile.feed_each.Goals.{
+  then-not-feed_unless_front,
+  else-not-feed_unless_front,
+}
+
+pub loop-at-preserved : goal.loop-at-preserved
+loop-at-preserved g c =
+    let so_far = c.loop-at.invariant in
+    let fed = c.feed_unless_front.ensures in
+    let inside : c.loop-at.at < length c.args.addrs.now = omega (
+      arith,
+      c.loop-at-test.true,
+      c.loop-at.auto.at-end,
+      so_far.before.same_length,
+    ) in
+    elim c.if-not-feed_unless_front.branch [
+      | then-not-feed_unless_front w ↦
+          rw (w.addrs-is, w.fed-is) (fed_behind so_far inside _ fed.step fed.more
+          (sym fed.front ∙ w.if-not-feed_unless_front.true))
+      | else-not-feed_unless_front w ↦
+          rw (w.addrs-is, w.fed-is) (fed_front so_far inside _ fed.step fed.more
+          (sym fed.front ∙ w.if-not-feed_unless_front.false))
+    ]

@@ -1,0 +1,35 @@
+-- Each reference is fed to the first, to both, or to none.
+use Rattle.std.proofs.Common.{◌<◌, ◌∙◌, sym, length, arith}
+use Rattle.profile_core.proofs.profile.Batches.{both_front, next_front, both_behind}
+use Rattle.profile_core.proofs.profile.stack_profile.StackProfile.feed_each_to_two.Goals as goal
+use Rattle.profile_core.proofs.profile.stack_profile.StackProfile.feed_each_to_two.Goals.{
+  else-not-feed_unless_front,
+  then-not-feed_unless_front+then-not-feed_unless_front-2,
+  then-not-feed_unless_front+else-not-feed_unless_front-2,
+}
+
+pub loop-at-preserved : goal.loop-at-preserved
+loop-at-preserved g c =
+    let so_far = c.loop-at.invariant in
+    let fed = c.feed_unless_front.ensures in
+    let inside : c.loop-at.at < length c.args.addrs.now = omega (
+      arith,
+      c.loop-at-test.true,
+      c.loop-at.auto.at-end,
+      so_far.before.same_length,
+    ) in
+    elim c.if-not-feed_unless_front.branch [
+      | then-not-feed_unless_front+then-not-feed_unless_front-2 w ↦
+          let second = w.feed_unless_front-then-not-feed_unless_front.ensures in
+          rw (w.addrs-is, w.left-is, w.next-is) (both_behind so_far inside _ fed.step fed.more
+          (sym fed.front ∙ w.if-not-feed_unless_front.true) _ second.step second.more
+          (sym second.front ∙ w.if-not-feed_unless_front-2.true))
+      | then-not-feed_unless_front+else-not-feed_unless_front-2 w ↦
+          let second = w.feed_unless_front-then-not-feed_unless_front.ensures in
+          rw (w.addrs-is, w.left-is, w.next-is) (next_front so_far inside _ fed.step fed.more
+          (sym fed.front ∙ w.if-not-feed_unless_front.true) _ second.step second.more
+          (sym second.front ∙ w.if-not-feed_unless_front-2.false))
+      | else-not-feed_unless_front w ↦
+          rw (w.addrs-is, w.left-is, w.next-is) (both_front so_far inside _ fed.step fed.more
+          (sym fed.front ∙ w.if-not-feed_unless_front.false))
+    ]

@@ -1,0 +1,7 @@
+pub mod RestBringing
+pub mod Places
+pub mod SparseRestLemmas
+pub mod SlotLemmas
+pub mod Marks
+pub mod SlottedRestLemmas
+pub mod SlottedBehind

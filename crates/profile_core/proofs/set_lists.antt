@@ -1,0 +1,5 @@
+pub mod ListLemmas
+pub mod Writing
+pub mod ListParts
+pub mod LongListLemmas
+pub mod LongListBringing

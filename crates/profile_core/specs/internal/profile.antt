@@ -1,0 +1,4 @@
+pub mod Fronts
+pub mod KeptProfile
+pub mod ProfileStandsFor
+pub mod State

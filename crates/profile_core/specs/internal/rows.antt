@@ -1,0 +1,3 @@
+pub mod PlainRows
+pub mod Rows
+pub mod SplitRows
