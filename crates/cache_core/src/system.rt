@@ -230,7 +230,7 @@ impl System {
     }
 }
 
-/// Which first-level cache takes a reference, if it is there: the unified cache of a system that has
+/// Which first-level cache takes a reference, if it is there: the unified cache where a system has
 /// one; otherwise the instruction cache at a fetch, and the data cache at a read or a write.
 #[inline(always)]
 fn first_name(u: &Option<SystemCache>, reference: Ref) -> CacheName

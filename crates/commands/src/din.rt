@@ -1,5 +1,6 @@
 //! The command `din`.
-ghost use Rattle.std.specs.Prelude.{◌≡◌, ◌≤◌, ◌+◌, IfOk, MatchResult, flat_map};
+ghost use Rattle.std.specs.Prelude.{◌≡◌, ◌≤◌, ◌<◌, ◌+◌, ◌∷◌, [], IfOk, MatchResult, flat_map};
+ghost use Rattle.trace_core.specs.declared.events.Event.TheVariants as event;
 ghost use Rattle.trace_core.specs.Events.{events_of};
 ghost use Rattle.trace_core.specs.Reader.{new_progress};
 ghost use Rattle.trace_core.specs.Task.{HasRead, Performs};
@@ -14,7 +15,8 @@ use cache_core::{Plan, Stats, System};
 use std::alloc::Global;
 use trace_core::text::Text;
 use trace_core::{
-    Entry, Format, Kind, Lines, MAX_LINES, ReaderState, RunFault, Sink, Source, TraceFault, refs_of,
+    Entry, Format, Kind, Lines, MAX_LINES, ReaderState, Ref, RunFault, Sink, Source, TraceFault,
+    refs_of,
 };
 
 /// Runs a trace through the caches of a plan, and writes the report after its end; then the sink is
@@ -80,9 +82,20 @@ fn step(system: &mut System, entry: Entry)
             let (first, second) = refs_of(item);
             system.step(first);
             if let Some(second) = second {
-                system.step(second);
+                step_second(system, second);
             }
         }
         Entry::Flush => system.flush(),
     }
+}
+
+/// Steps the caches through the second reference of an entry. Few entries have one: it is a
+/// function of its own, so that the code for the others is small enough to be inlined.
+#[inline(never)]
+fn step_second(system: &mut System, reference: Ref)
+    requires { system.old.steps < MAX_STEPS }
+    ensures stands { AddsEvents system.old (event.Reference reference ∷ []) system.new }
+    ensures steps { system.new.steps ≡ system.old.steps + 1 }
+{
+    system.step(reference);
 }

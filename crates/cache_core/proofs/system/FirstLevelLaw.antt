@@ -38,32 +38,16 @@ present_refs_two (x ∷ y ∷ z ∷ xs) h = absurd (omega arith)
 -- what the name of the cache that takes a reference says of the system and of the reference
 pub unified_takes : (u : Option SystemCache) (ref : Ref) (name : CacheName) →
     name ≡ first_name u ref → name ≡ L1U → is_some u ≡ true
-unified_takes u ref name is n = by_case (is_some u) (is_fetch ref.access) (sym is ∙ n)
-  where
-    by_case : (b f : Bool) → cond b L1U (cond f L1I L1D) ≡ L1U → b ≡ true
-    by_case true f n = refl
-    by_case false true n = absurd cc
-    by_case false false n = absurd cc
+unified_takes u ref name is n = grind arith
 
 pub fetch_cache_takes : (u : Option SystemCache) (ref : Ref) (name : CacheName) →
     name ≡ first_name u ref → name ≡ L1I → (is_some u ≡ false) × (is_fetch ref.access ≡ true)
-fetch_cache_takes u ref name is n = by_case (is_some u) (is_fetch ref.access) (sym is ∙ n)
-  where
-    by_case : (b f : Bool) → cond b L1U (cond f L1I L1D) ≡ L1I → (b ≡ false) × (f ≡ true)
-    by_case true f n = absurd cc
-    by_case false true n = (refl, refl)
-    by_case false false n = absurd cc
+fetch_cache_takes u ref name is n = grind arith
 
 pub data_cache_takes : (u : Option SystemCache) (ref : Ref) (name : CacheName) →
     name ≡ first_name u ref → name ≢ L1U → name ≢ L1I →
     (is_some u ≡ false) × (is_fetch ref.access ≡ false) × (name ≡ L1D)
-data_cache_takes u ref name is not_u not_i = by_case (is_some u) (is_fetch ref.access) is
-  where
-    by_case : (b f : Bool) → name ≡ cond b L1U (cond f L1I L1D) →
-        (b ≡ false) × (f ≡ false) × (name ≡ L1D)
-    by_case true f n = absurd (not_u n)
-    by_case false true n = absurd (not_i n)
-    by_case false false n = (refl, refl, n)
+data_cache_takes u ref name is not_u not_i = grind arith
 
 -- one cache
 pub record Kept (m : Machine) (events : List Event) (cache : SystemCache) : Type 0 where

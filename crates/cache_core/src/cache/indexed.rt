@@ -94,7 +94,7 @@ impl<P: NamedPolicy> IndexedCache<P> {
     }
 
     /// Makes one access, and returns its outcome.
-    #[inline(never)]
+    #[inline(always)]
     pub(crate) fn access(&mut self, reference: Ref) -> Outcome
         ensures step { Accesses (contents_of P.policy P.words self.old) reference result
             (contents_of P.policy P.words self.new) }

@@ -13,7 +13,7 @@ pub returns-in-L1U-clause-seen : goal.returns-in-L1U-clause-seen
 returns-in-L1U-clause-seen g c = λ plan seed events good i d u.
     let ref = c.args.reference in
     let there = unified_takes c.args.u.now ref _ c.first_name-name.ensures c.in-L1U.is in
-    let seen = ap (λ name. cache_arrivals seed name plan.u (events_for L1U events) ref) c.in-L1U.is ∙
+    let seen = ap (λ n. cache_arrivals seed n plan.u (events_for L1U events) ref) c.in-L1U.is ∙
     seen_unified plan seed events ref good (is_planned seed plan.u _ c.args.u.now u ∙ there) in
     subst (λ (xs : List Arrival). Saw g.O.Observer.has_seen c.args.observer.now xs
     c.access_first.new.observer) seen (c.access_first.ensures.seen seed plan.u _ good.u u)
@@ -22,7 +22,7 @@ pub returns-in-L1I-clause-seen : goal.returns-in-L1I-clause-seen
 returns-in-L1I-clause-seen g c = λ plan seed events good i d u.
     let ref = c.args.reference in
     let takes = fetch_cache_takes c.args.u.now ref _ c.first_name-name.ensures c.in-L1I.is in
-    let seen = ap (λ name. cache_arrivals seed name plan.i (events_for L1I events) ref) c.in-L1I.is ∙
+    let seen = ap (λ n. cache_arrivals seed n plan.i (events_for L1I events) ref) c.in-L1I.is ∙
     seen_fetch plan seed events ref good (is_planned seed plan.u _ c.args.u.now u ∙ takes.0)
     takes.1 in
     subst (λ (xs : List Arrival). Saw g.O.Observer.has_seen c.args.observer.now xs
@@ -34,7 +34,7 @@ returns-in_default-clause-seen g c = λ plan seed events good i d u.
     let ref = c.args.reference in
     let takes = data_cache_takes c.args.u.now ref _ c.first_name-name.ensures
     c.in_default.not-L1U c.in_default.not-L1I in
-    let seen = ap (λ name. cache_arrivals seed name plan.d (events_for L1D events) ref) takes.2 ∙
+    let seen = ap (λ n. cache_arrivals seed n plan.d (events_for L1D events) ref) takes.2 ∙
     seen_data plan seed events ref good (is_planned seed plan.u _ c.args.u.now u ∙ takes.0)
     takes.1 in
     subst (λ (xs : List Arrival). Saw g.O.Observer.has_seen c.args.observer.now xs

@@ -108,7 +108,9 @@ fn use_slot(dirty: &mut [bool], order: &mut SlotOrder, set: usize, slot: usize, 
     order.touch(set, slot);
 }
 
-/// Puts a block into its set, and returns the slot that leaves a full set.
+/// Puts a block into its set, and returns the slot that leaves a full set. It is a function of its
+/// own, so that the path of a hit stays short.
+#[inline(never)]
 fn place<P: NamedPolicy>(
     design: Design,
     policy: &mut P,

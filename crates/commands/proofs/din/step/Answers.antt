@@ -7,7 +7,7 @@ use Rattle.commands.proofs.din.step.Goals as goal
 pub returns-in-Some-clause-stands : goal.returns-in-Some-clause-stands
 returns-in-Some-clause-stands c =
     rw (two_events All c.in-Item.is c.refs_of-second.ensures c.in-Some.is)
-    (adds_both c.step.ensures.stands c.step-in-Some.ensures.stands)
+    (adds_both c.step.ensures.stands c.step_second.ensures.stands)
 
 pub returns-in_default-clause-stands : goal.returns-in_default-clause-stands
 returns-in_default-clause-stands c =
