@@ -293,7 +293,7 @@ impl Profile {
     }
 
     /// How many blocks the lists hold.
-    #[tactic(auto, using(crate::proofs::Counting::held_is))]
+    #[tactic(auto, using(crate::proofs::profile::Counting::held_is))]
     pub fn held(&self) -> u64
         ensures value { result ≡ held_of self.now }
         ensures trace { (es : List Event) → ProfileStandsFor es self.now
