@@ -85,20 +85,21 @@ impl SystemCache {
         ensures room { O.room observer.old ≤ O.room observer.new + 1 }
     {
         let geometry = self.cache.geometry();
-        // A hit is counted apart from a miss: so the compiler knows its outcome.
-        match self.cache.access_held(reference) {
+        // A hit is counted apart from a miss: so the compiler knows its outcome. There is one call
+        // of the observer, which is inlined.
+        let outcome = match self.cache.access_held(reference) {
             Some(outcome) => {
                 self.stats.count_access(reference.access, &outcome);
-                observer.see(arrival_at(name, geometry, reference, &outcome));
                 outcome
             }
             None => {
                 let outcome = self.cache.access_missing(reference);
                 self.stats.count_access(reference.access, &outcome);
-                observer.see(arrival_at(name, geometry, reference, &outcome));
                 outcome
             }
-        }
+        };
+        observer.see(arrival_at(name, geometry, reference, &outcome));
+        outcome
     }
 
     /// Empties the cache. Its dirty lines count as copybacks.
