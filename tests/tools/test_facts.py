@@ -72,8 +72,7 @@ class Manual(base.ToolTest):
         self.assertEqual(len(told), 5)
         self.assertEqual(sorted(said), sorted(told))
         caches = limits.told_by_the_manual(limits.CACHES)
-        line, set_, ways, *indexed, searched, instead, far, near, set_far = caches
-        self.assertEqual(instead, line)
+        line, set_, ways, *indexed = caches
         self.assertEqual(ways, constant("cache_core", "cache/chosen.rt", "INDEXED_WAYS"))
         in_order, random = (
             f"{of_line:g}{{}} for each line, {of_set:g} for each set and {more:g} more"
@@ -83,11 +82,10 @@ class Manual(base.ToolTest):
             f"{line:g} bytes for each line and {set_:g} for each set",
             f"{ways:g} ways or more takes {in_order.format(' bytes')}, and under random "
             f"replacement {random.format('')}",
-            f"more than {searched:g} ways takes the first for {near:g} ways, at most {far:g} bytes "
-            f"for each line more, and {set_far:g} more for each set",
         ):
             self.assertIn(part, text)
-        self.assertIn(f"at most {far:g} bytes per block", lists)
+        [far] = {it for it in told if re.search(r"\d\.\d+\*S\*A", it)}
+        self.assertIn(f"at most {far.split('*')[0]} bytes per block", lists)
 
     def test_digits(self):
         """How many an address and a size have, by how many the code reads."""
