@@ -232,7 +232,7 @@ class Others(Wrong):
             "a sweep of eight block sizes and 2^20 sets, in all", "din with 2^20 sets, in all",
             "csim with 2^20 sets, in all",
             "csim with 2^20 sets", "a table of 65,536 rows", "20,000 references of log",
-            "csim with S = 1048576 and A = 1",
+            "csim with S = 1048576 and A = 1, replacement l",
         ):
             self.assertIn(name, bad)
 
