@@ -164,7 +164,7 @@ class TheLedger(ToolTest):
         for file, old, new in (
             ("crates/cache_core/src/geometry.rt", "/// ", "/// Not "),
             ("crates/cache_core/specs/Geometry.antt", "-- the size in", "-- no size in"),
-            ("crates/cache_core/CALLING.md", "16 lines", "15 lines"),
+            ("crates/cache_core/CALLING.md", "16 bytes for each line", "15 bytes for each line"),
             ("crates/sweep_core/src/feeding.rt", moved, r"\1\3\2"),
             ("crates/sweep_core/src/pass.rt", "fn feed_kept", "fn feed_those_kept"),
             (f"crates/{WORKED}", "fn ", "fn other_"), ("tests/limits", "# ", "# Some "),
