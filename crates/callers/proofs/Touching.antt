@@ -10,8 +10,8 @@ use Rattle.trace_core.specs.declared.events.Event.{Event}
 use Rattle.trace_core.specs.declared.events.Kind.TheVariants.{All}
 use Rattle.cache_core.specs.Geometry.{GeometryValue}
 use Rattle.cache_core.specs.Windows.{held}
-use Rattle.profile_core.specs.internal.profile.State.{ProfileState, empty, after_event}
-use Rattle.profile_core.specs.internal.profile.ProfileStandsFor.{ProfileStandsFor}
+use Rattle.profile_core.specs.profile.State.{ProfileState, empty, after_event}
+use Rattle.profile_core.specs.profile.ProfileStandsFor.{ProfileStandsFor}
 
 -- the events of some entries
 abbrev pub events_in : List (ℕ × Entry) → List Event

@@ -4,7 +4,7 @@ ghost use Rattle.trace_core.specs.Events.{events_of};
 ghost use Rattle.trace_core.specs.Reading.{events};
 ghost use Rattle.cache_core.specs.Geometry.{geometry_value};
 ghost use Rattle.cache_core.specs.Windows.{held};
-ghost use Rattle.profile_core.specs.internal.profile.State.{after_event, fed_of};
+ghost use Rattle.profile_core.specs.profile.State.{after_event, fed_of};
 
 use profile_core::laws::{events_keep_the_geometry, new_profile_was_fed_nothing, stands_after};
 use profile_core::{MAX_REFERENCES, Profile};

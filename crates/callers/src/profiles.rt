@@ -1,6 +1,6 @@
 //! One profile for many associativities.
 ghost use Rattle.std.specs.Prelude.{◌≡◌, ◌≤◌, ◌+◌};
-ghost use Rattle.profile_core.specs.internal.profile.State.{counts_at};
+ghost use Rattle.profile_core.specs.profile.State.{counts_at};
 
 use cache_core::Counts;
 use profile_core::Profile;

@@ -2,8 +2,7 @@
 use Rattle.std.proofs.Common.{◌≡◌, ℕ, zero, suc, ◌+◌, ◌-◌, ◌≤◌, List, [], ◌∷◌, set, length}
 use Rattle.std.proofs.Common.{length-drop, take, drop, sum, refl, sym, ◌∙◌, ap, arith}
 use Rattle.cache_core.specs.declared.outcome.Counts.{Counts}
-use Rattle.profile_core.specs.internal.profile.State.{ProfileState, HitSumsState, hit_sums_at}
-use Rattle.profile_core.specs.internal.profile.State.{counts_at}
+use Rattle.profile_core.specs.profile.State.{ProfileState, HitSumsState, hit_sums_at, counts_at}
 use Rattle.std.proofs.lemmas.List.{take-take, take_all, drop-take}
 use Rattle.std.proofs.lemmas.List.Sums.{sum_by-take-drop, sum_by-take-le}
 

@@ -9,11 +9,10 @@ ghost use Rattle.trace_core.specs.declared.events.Event.TheVariants as event;
 ghost use Rattle.cache_core.specs.Geometry.{GeometryValue, IsGeometry, block_of};
 ghost use Rattle.cache_core.specs.Windows.{occurrences, counts, probes, has_last, distance};
 ghost use Rattle.cache_core.specs.LruLaws.{occurrence_after};
-ghost use Rattle.profile_core.specs.internal.profile.State.{ProfileState, empty, after_reference};
-ghost use Rattle.profile_core.specs.internal.profile.State.{after_flush, after_event, fed_of};
-ghost use Rattle.profile_core.specs.internal.profile.State.{counts_at};
-ghost use Rattle.profile_core.specs.internal.profile.Fronts.{is_front_of, is_refined};
-ghost use Rattle.profile_core.specs.internal.profile.ProfileStandsFor.{ProfileStandsFor};
+ghost use Rattle.profile_core.specs.profile.State.{ProfileState, empty, after_reference};
+ghost use Rattle.profile_core.specs.profile.State.{after_flush, after_event, fed_of, counts_at};
+ghost use Rattle.profile_core.specs.profile.Fronts.{is_front_of, is_refined};
+ghost use Rattle.profile_core.specs.profile.ProfileStandsFor.{ProfileStandsFor};
 
 /// A new profile stands for no events; a reference fed is a reference added, and a flush a flush
 /// added.

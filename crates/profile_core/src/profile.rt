@@ -9,13 +9,12 @@ ghost use Rattle.std.specs.Prelude.{length, take, drop, sum};
 ghost use Rattle.trace_core.specs.declared.events.Event.{Event};
 ghost use Rattle.cache_core.specs.Geometry.{IsGeometry, geometry_value, block_of};
 ghost use Rattle.cache_core.specs.Windows.{occurrences, counts, probes, held};
-ghost use Rattle.profile_core.specs.internal.profile.State.{empty, after_reference, after_flush};
-ghost use Rattle.profile_core.specs.internal.profile.State.{fed_of, held_of, counts_at};
-ghost use Rattle.profile_core.specs.internal.profile.State.{hit_sums_at, weighed, AreHistogramsOf};
-ghost use Rattle.profile_core.specs.internal.profile.Fronts.{is_front_of, after_unless_front};
-ghost use Rattle.profile_core.specs.internal.profile.Fronts.{after_fronts, is_refined, after_batch};
-ghost use Rattle.profile_core.specs.internal.profile.Fronts.{fed_of_batch, IsFit};
-ghost use Rattle.profile_core.specs.internal.profile.ProfileStandsFor.{ProfileStandsFor};
+ghost use Rattle.profile_core.specs.profile.State.{empty, after_reference, after_flush, fed_of};
+ghost use Rattle.profile_core.specs.profile.State.{held_of, counts_at, hit_sums_at};
+ghost use Rattle.profile_core.specs.profile.Fronts.{is_front_of, after_unless_front, after_fronts};
+ghost use Rattle.profile_core.specs.profile.Fronts.{is_refined, after_batch, fed_of_batch};
+ghost use Rattle.profile_core.specs.profile.ProfileStandsFor.{ProfileStandsFor};
+ghost use Rattle.profile_core.specs.internal.profile.StackProfile.{weighed, AreHistogramsOf, IsFit};
 
 use crate::profile::histograms::Histograms;
 pub use crate::profile::hit_sums::HitSums;
@@ -42,7 +41,7 @@ impl Drop for Profile {
 }
 
 impl Model for Profile {
-    ghost use Rattle.profile_core.specs.internal.profile.State.{ProfileState};
+    ghost use Rattle.profile_core.specs.profile.State.{ProfileState};
     ghost use Rattle.profile_core.specs.internal.profile.KeptProfile.{profile_kept};
 
     ghost Value = { ProfileState };

@@ -5,7 +5,8 @@ pub(crate) mod sparse;
 
 ghost use Rattle.std.specs.Prelude.{◌≡◌, ◌+◌, ◌-◌, ◌<◌, ◌≤◌, ◌∷◌, false, nat_eq, length, take};
 ghost use Rattle.std.specs.List.{remove};
-ghost use Rattle.profile_core.specs.internal.set_lists.Moves.{index_of, rest_touch_of};
+ghost use Rattle.profile_core.specs.profile.RecencyList.{index_of};
+ghost use Rattle.profile_core.specs.internal.set_lists.Moves.{rest_touch_of};
 ghost use Rattle.profile_core.specs.internal.rows.Rows.{RowsValue, row_for, with_row};
 
 use crate::set_lists::recency::Touch;

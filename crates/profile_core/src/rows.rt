@@ -4,7 +4,8 @@ pub(crate) mod row;
 pub(crate) mod split;
 
 ghost use Rattle.std.specs.Prelude.{◌≡◌, ◌<◌, false, length, slice_index, slice_set};
-ghost use Rattle.profile_core.specs.internal.set_lists.Moves.{is_front, is_second, touch_of};
+ghost use Rattle.profile_core.specs.profile.RecencyList.{is_front};
+ghost use Rattle.profile_core.specs.internal.set_lists.Moves.{is_second, touch_of};
 ghost use Rattle.profile_core.specs.internal.set_lists.Lists.{IsRow, IsBroughtInRow};
 ghost use Rattle.profile_core.specs.internal.rows.Rows.{RowsValue, row_for, with_row, list_in_row};
 

@@ -4,7 +4,8 @@ pub(crate) mod recency;
 
 ghost use Rattle.std.specs.Prelude.{◌≡◌, ◌*◌, ◌<◌, ◌≤◌, [], true, false, length, replicate, sum_by};
 ghost use Rattle.std.specs.Prelude.{slice_index, slice_index_or, IsTrue, ◌↔◌};
-ghost use Rattle.profile_core.specs.internal.set_lists.Moves.{is_front, is_second, touch_of};
+ghost use Rattle.profile_core.specs.profile.RecencyList.{is_front};
+ghost use Rattle.profile_core.specs.internal.set_lists.Moves.{is_second, touch_of};
 ghost use Rattle.profile_core.specs.internal.set_lists.Lists.{Lists, lists_after_touch};
 
 use crate::set_lists::recency::Touch;

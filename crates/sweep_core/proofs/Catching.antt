@@ -9,9 +9,10 @@ use Rattle.trace_core.specs.declared.events.Event.TheVariants as event
 use Rattle.trace_core.specs.declared.events.Kind.{Kind}
 use Rattle.trace_core.specs.Events.{is_kept}
 use Rattle.cache_core.specs.Geometry.{IsGeometry, block_of}
-use Rattle.profile_core.specs.internal.profile.State.{empty, fed_of, after_event, after_reference}
-use Rattle.profile_core.specs.internal.profile.Fronts.{after_fronts, profile_with_fronts}
-use Rattle.profile_core.specs.internal.profile.Fronts.{is_refined, IsFit, Leads, after_unless_front}
+use Rattle.profile_core.specs.profile.State.{empty, fed_of, after_event, after_reference}
+use Rattle.profile_core.specs.profile.Fronts.{after_fronts, is_refined, after_unless_front}
+use Rattle.profile_core.specs.internal.profile.StackProfile.{IsFit}
+use Rattle.profile_core.specs.internal.profile.CountedFronts.{profile_with_fronts, Leads}
 use Rattle.profile_core.proofs.profile.Fronts.{fronts_none, fit_of, fit_behind, leads_after}
 use Rattle.profile_core.proofs.profile.Fronts.{caught_more, fed_more as profile-fed_more}
 use Rattle.profile_core.proofs.profile.Runs.{stands_after}

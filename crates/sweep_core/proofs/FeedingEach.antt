@@ -10,9 +10,9 @@ use Rattle.std.proofs.lemmas.List.{get_or-drop}
 use Rattle.std.proofs.lemmas.List.Edits.{map_over_more}
 use Rattle.std.proofs.lemmas.Bool.{cases_lt}
 use Rattle.cache_core.specs.Geometry.{block_of}
-use Rattle.profile_core.specs.internal.profile.State.{ProfileState}
-use Rattle.profile_core.specs.internal.profile.Fronts.{after_batch, fed_of_batch}
-use Rattle.profile_core.specs.internal.profile.Fronts.{after_unless_front, is_front_of}
+use Rattle.profile_core.specs.profile.State.{ProfileState}
+use Rattle.profile_core.specs.profile.Fronts.{after_batch, fed_of_batch, after_unless_front}
+use Rattle.profile_core.specs.profile.Fronts.{is_front_of}
 use Rattle.sweep_core.specs.declared.profiles.PairProfile.{PairProfile}
 use Rattle.sweep_core.specs.internal.Feeding.{pair_after_batch, AlwaysLeads, AreAlwaysLed}
 use Rattle.sweep_core.specs.internal.Feeding.{IsFedToTwo, IsGiven}

@@ -5,8 +5,8 @@ use Rattle.std.specs.List.{AllByRecursion as Each}
 use Rattle.std.proofs.Math.ListN.{set}
 use Rattle.std.proofs.lemmas.List.Edits.{map_over_more}
 use Rattle.cache_core.specs.Geometry.{block_of}
-use Rattle.profile_core.specs.internal.profile.State.{ProfileState, after_reference}
-use Rattle.profile_core.specs.internal.profile.Fronts.{after_unless_front, is_front_of}
+use Rattle.profile_core.specs.profile.State.{ProfileState, after_reference}
+use Rattle.profile_core.specs.profile.Fronts.{after_unless_front, is_front_of}
 use Rattle.sweep_core.specs.declared.profiles.PairProfile.{PairProfile}
 use Rattle.sweep_core.specs.internal.Feeding.{pair_after_batch, AlwaysLeads, AreAlwaysLed}
 use Rattle.sweep_core.proofs.Lists.{Each-weaker}

@@ -9,7 +9,7 @@ use Rattle.std.proofs.lemmas.List.{length-drop, get_or_read, take_at, take_all}
 use Rattle.std.proofs.lemmas.List.Sums.{position_or_len_is}
 use Rattle.cache_core.specs.Geometry.{GeometryValue}
 use Rattle.cache_core.proofs.Lists.{cases}
-use Rattle.profile_core.specs.internal.profile.Fronts.{is_refined}
+use Rattle.profile_core.specs.profile.Fronts.{is_refined}
 use Rattle.sweep_core.specs.declared.profiles.PairProfile.{PairProfile}
 use Rattle.sweep_core.specs.declared.request.Request.{Request}
 use Rattle.sweep_core.specs.internal.Pass.{SweepStandsFor, WasFed}

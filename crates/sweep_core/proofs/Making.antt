@@ -20,7 +20,7 @@ use Rattle.sweep_core.specs.internal.Pass.{SweepStandsFor, WasFed}
 use Rattle.sweep_core.proofs.Lists.{Each-append, Each-take, Each-weaker, filter-all}
 use Rattle.sweep_core.specs.internal.Walk.{HasDepth}
 use Rattle.cache_core.specs.Geometry.{IsGeometry, geometry_value}
-use Rattle.profile_core.specs.internal.profile.State.{empty}
+use Rattle.profile_core.specs.profile.State.{empty}
 use Rattle.sweep_core.proofs.Validity.{IsLimited}
 use Rattle.sweep_core.proofs.Depths.{geometry-of, depth-is, same-geometry}
 use Rattle.sweep_core.proofs.Members.{table-each}

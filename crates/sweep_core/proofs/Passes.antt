@@ -14,7 +14,7 @@ use Rattle.trace_core.specs.declared.events.Item.{Item}
 use Rattle.trace_core.specs.declared.events.Kind.{Kind}
 use Rattle.trace_core.specs.declared.events.Ref.{Ref}
 use Rattle.trace_core.proofs.EntryEvents.{events_more, one_event, two_events}
-use Rattle.profile_core.specs.internal.profile.State.{after_event}
+use Rattle.profile_core.specs.profile.State.{after_event}
 use Rattle.sweep_core.specs.declared.profiles.PairProfile.{PairProfile}
 use Rattle.sweep_core.specs.internal.Pass.{profiles_after, kept_events}
 

@@ -10,9 +10,9 @@ use Rattle.std.proofs.lemmas.List.{take_more, take_all}
 use Rattle.std.proofs.lemmas.Nat.{pow-add}
 use Rattle.cache_core.specs.Geometry.{block_of}
 use Rattle.cache_core.proofs.Lists.{cases}
-use Rattle.profile_core.specs.internal.profile.State.{ProfileState, after_reference}
-use Rattle.profile_core.specs.internal.profile.Fronts.{after_unless_front, is_front_of, after_batch}
-use Rattle.profile_core.specs.internal.profile.Fronts.{IsFit}
+use Rattle.profile_core.specs.profile.State.{ProfileState, after_reference}
+use Rattle.profile_core.specs.profile.Fronts.{after_unless_front, is_front_of, after_batch}
+use Rattle.profile_core.specs.internal.profile.StackProfile.{IsFit}
 use Rattle.profile_core.proofs.profile.Fronts.{front_again}
 use Rattle.sweep_core.specs.declared.profiles.PairProfile.{PairProfile}
 use Rattle.sweep_core.specs.internal.Pass.{pair_after_flush}

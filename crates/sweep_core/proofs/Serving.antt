@@ -11,7 +11,7 @@ use Rattle.cache_core.specs.declared.outcome.Counts.{Counts}
 use Rattle.cache_core.specs.Geometry.{geometry_value}
 use Rattle.cache_core.specs.Windows.{counts}
 use Rattle.cache_core.specs.Powers.{log2}
-use Rattle.profile_core.specs.internal.profile.State.{ProfileState, hit_sums_at, counts_at}
+use Rattle.profile_core.specs.profile.State.{ProfileState, hit_sums_at, counts_at}
 use Rattle.profile_core.proofs.profile.Counting.{counts_are}
 use Rattle.sweep_core.specs.declared.space.Config.{Config}
 use Rattle.sweep_core.specs.declared.request.Request.{Request}

@@ -24,7 +24,7 @@ use Rattle.trace_core.proofs.Tasks.{ReadWhole, if_known}
 use Rattle.trace_core.proofs.Performing.{Stopped-at, Performs-trace}
 use Rattle.trace_core.proofs.Written.{Wrote-none}
 use Rattle.cache_core.specs.Geometry.{GeometryValue}
-use Rattle.profile_core.specs.internal.profile.State.{empty, fed_of}
+use Rattle.profile_core.specs.profile.State.{empty, fed_of}
 use Rattle.sweep_core.specs.declared.request.Request.{Request}
 use Rattle.sweep_core.specs.declared.profiles.PairProfile.{PairProfile}
 use Rattle.sweep_core.specs.SweepText.{table_text, header_of, csv_rows, configs_of, rows_of}

@@ -12,10 +12,11 @@ use Rattle.trace_core.specs.declared.events.Event.TheVariants as event
 use Rattle.trace_core.specs.declared.events.Kind.{Kind}
 use Rattle.trace_core.specs.Events.{is_kept}
 use Rattle.cache_core.specs.Geometry.{block_of}
-use Rattle.profile_core.specs.internal.profile.State.{ProfileState, fed_of, after_reference}
-use Rattle.profile_core.specs.internal.profile.State.{most_references}
-use Rattle.profile_core.specs.internal.profile.Fronts.{after_unless_front, is_front_of, after_batch}
-use Rattle.profile_core.specs.internal.profile.Fronts.{Leads, fed_of_batch}
+use Rattle.profile_core.specs.profile.State.{ProfileState, fed_of, after_reference}
+use Rattle.profile_core.specs.profile.Fronts.{after_unless_front, is_front_of, after_batch}
+use Rattle.profile_core.specs.profile.Fronts.{fed_of_batch}
+use Rattle.profile_core.specs.internal.profile.StackProfile.{most_references}
+use Rattle.profile_core.specs.internal.profile.CountedFronts.{Leads}
 use Rattle.sweep_core.specs.declared.profiles.PairProfile.{PairProfile}
 use Rattle.sweep_core.specs.internal.Pass.{profiles_after, kept_events}
 use Rattle.sweep_core.specs.internal.Feeding.{HaveFollowers, AreLed, IsFresh, profiles_with_fronts}

@@ -11,7 +11,7 @@
 //! end.
 ghost use Rattle.std.specs.Prelude.{◌≡◌, ◌+◌, ◌^◌, ◌<◌, ◌≤◌, ◌∷◌, [], length, take, drop};
 ghost use Rattle.std.specs.List.{AllByRecursion};
-ghost use Rattle.profile_core.specs.internal.profile.State.{fed_of};
+ghost use Rattle.profile_core.specs.profile.State.{fed_of};
 ghost use Rattle.sweep_core.specs.internal.Feeding.{follower_count, with_followers};
 ghost use Rattle.sweep_core.specs.internal.Feeding.{AreAlwaysLed, profiles_after_batch};
 ghost use Rattle.sweep_core.specs.internal.Feeding.{IsFedToTwo, IsGiven, first_leads_rest};

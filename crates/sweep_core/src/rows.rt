@@ -1,7 +1,7 @@
 //! The rows of a sweep: each configuration with its counts.
 ghost use Rattle.std.specs.Prelude.{◌≡◌, ◌-◌, ◌≤◌};
 ghost use Rattle.std.specs.List.{AllByRecursion};
-ghost use Rattle.profile_core.specs.internal.profile.State.{counts_at, hit_sums_at};
+ghost use Rattle.profile_core.specs.profile.State.{counts_at, hit_sums_at};
 ghost use Rattle.sweep_core.specs.internal.Runs.{IsWalk, next_ways};
 
 // Callers know it by this path too.

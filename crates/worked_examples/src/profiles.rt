@@ -1,6 +1,6 @@
 //! Profiles: one pass counts what a separate cache of every associativity counts.
 ghost use Rattle.std.specs.Prelude.{◌≡◌, ◌≤◌, ◌+◌, ◌^◌, IfOk, length};
-ghost use Rattle.profile_core.specs.internal.profile.State.{fed_of};
+ghost use Rattle.profile_core.specs.profile.State.{fed_of};
 
 use cache_core::simulate::simulate;
 use cache_core::{Counts, Geometry};

@@ -6,9 +6,9 @@ use Rattle.std.proofs.lemmas.Grind.{take_at_read}
 use Rattle.std.proofs.lemmas.List.{drop-set-lt, drop-drop, append-nil, get_or-drop, take_more_set}
 use Rattle.std.proofs.lemmas.List.Sums.{fold-append}
 use Rattle.cache_core.specs.Geometry.{block_of}
-use Rattle.profile_core.specs.internal.profile.State.{ProfileState, fed_of, after_reference}
-use Rattle.profile_core.specs.internal.profile.Fronts.{is_front_of, after_unless_front, after_batch}
-use Rattle.profile_core.specs.internal.profile.Fronts.{fed_of_batch}
+use Rattle.profile_core.specs.profile.State.{ProfileState, fed_of, after_reference}
+use Rattle.profile_core.specs.profile.Fronts.{is_front_of, after_unless_front, after_batch}
+use Rattle.profile_core.specs.profile.Fronts.{fed_of_batch}
 
 -- some addresses, at most n, were fed to profile v, which is w now, and did not find `left` in
 -- front

@@ -14,8 +14,8 @@ use Rattle.cache_core.specs.Windows.{Occurrence, distinct_of_set, has_last, dist
 use Rattle.cache_core.specs.Windows.{is_hit, window, occurrences, probes, held, counts}
 use Rattle.cache_core.proofs.Occurrences.{occurrences_from, occurrences-from}
 use Rattle.cache_core.specs.declared.outcome.Counts.{Counts}
-use Rattle.profile_core.specs.internal.profile.State.{ProfileState, fed_of, held_of, counts_at}
-use Rattle.profile_core.specs.internal.profile.ProfileStandsFor.{ProfileStandsFor}
+use Rattle.profile_core.specs.profile.State.{ProfileState, fed_of, held_of, counts_at}
+use Rattle.profile_core.specs.profile.ProfileStandsFor.{ProfileStandsFor}
 use Rattle.profile_core.proofs.profile.Sums.{sum-counts}
 use Rattle.profile_core.proofs.profile.Steps.{Finds, finds}
 

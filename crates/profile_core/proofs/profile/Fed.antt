@@ -9,12 +9,13 @@ use Rattle.std.proofs.lemmas.List.{get_or_read}
 use Rattle.cache_core.specs.Geometry.{GeometryValue, set_of_block}
 use Rattle.profile_core.specs.declared.set_lists.recency.Touch.TheVariants.{Behind, New}
 use Rattle.profile_core.specs.declared.profile.histograms.Histograms.{Histograms}
-use Rattle.profile_core.specs.internal.set_lists.Moves.{is_front, move_to_front, touch_of}
+use Rattle.profile_core.specs.profile.RecencyList.{is_front, move_to_front}
+use Rattle.profile_core.specs.internal.set_lists.Moves.{touch_of}
 use Rattle.profile_core.specs.internal.set_lists.Lists.{Lists, lists_after_touch}
-use Rattle.profile_core.specs.internal.profile.State.{ProfileState, IsSound, IsNext, list_of}
-use Rattle.profile_core.specs.internal.profile.State.{fed_of, after_reference, compared_behind}
-use Rattle.profile_core.specs.internal.profile.State.{distances_of, most_references, profile_of}
-use Rattle.profile_core.specs.internal.profile.State.{AreSound}
+use Rattle.profile_core.specs.profile.State.{ProfileState, list_of, fed_of, after_reference}
+use Rattle.profile_core.specs.internal.profile.StackProfile.{IsSound, IsNext, compared_behind}
+use Rattle.profile_core.specs.internal.profile.StackProfile.{distances_of, most_references}
+use Rattle.profile_core.specs.internal.profile.StackProfile.{profile_of, AreSound}
 use Rattle.profile_core.proofs.profile.Feeding.{FoundAt, FoundNowhere, behind_front, first-raised}
 use Rattle.profile_core.proofs.profile.Feeding.{raised_behind, sum-distances, after_fed, found_step}
 use Rattle.profile_core.proofs.profile.Feeding.{nowhere_step, found_behind, found_nowhere}

@@ -11,12 +11,13 @@ use Rattle.std.proofs.lemmas.List.{length-replicate}
 use Rattle.cache_core.proofs.Lists.{list_any_is}
 use Rattle.cache_core.specs.Geometry.{GeometryValue, set_of_block}
 use Rattle.profile_core.specs.declared.set_lists.recency.Touch.TheVariants.{Behind, New}
-use Rattle.profile_core.specs.internal.set_lists.Moves.{index_of, is_in, is_front, is_second}
-use Rattle.profile_core.specs.internal.set_lists.Moves.{move_to_front, touch_of}
+use Rattle.profile_core.specs.profile.RecencyList.{index_of, is_in, is_front, move_to_front}
+use Rattle.profile_core.specs.internal.set_lists.Moves.{is_second, touch_of}
 use Rattle.profile_core.specs.internal.set_lists.Lists.{Lists}
-use Rattle.profile_core.specs.internal.profile.State.{ProfileState, IsSound, list_of, one_more_at}
-use Rattle.profile_core.specs.internal.profile.State.{after_reference, fed_of, weighed}
-use Rattle.profile_core.specs.internal.profile.State.{compared_behind, distances_of, empty}
+use Rattle.profile_core.specs.profile.State.{ProfileState, list_of, one_more_at, after_reference}
+use Rattle.profile_core.specs.profile.State.{fed_of, empty}
+use Rattle.profile_core.specs.internal.profile.StackProfile.{IsSound, weighed, compared_behind}
+use Rattle.profile_core.specs.internal.profile.StackProfile.{distances_of}
 use Rattle.profile_core.proofs.Elements.{all_same}
 use Rattle.profile_core.proofs.rows.Bringing.{absent_at}
 use Rattle.profile_core.proofs.rows.Shifting.{other_front, index_behind, index-le}

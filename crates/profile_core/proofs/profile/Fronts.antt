@@ -18,15 +18,15 @@ use Rattle.cache_core.specs.Geometry.{GeometryValue, IsGeometry, block_of, set_o
 use Rattle.cache_core.specs.Windows.{Occurrence, distinct_of_set, window, has_last, distance}
 use Rattle.cache_core.specs.LruLaws.{occurrence_after}
 use Rattle.cache_core.proofs.Lists.{cases}
-use Rattle.profile_core.specs.internal.set_lists.Moves.{is_front, is_in, index_of}
-use Rattle.profile_core.specs.internal.profile.State.{ProfileState, IsSound, empty, list_of}
-use Rattle.profile_core.specs.internal.profile.State.{one_more_at, fed_of, after_reference}
-use Rattle.profile_core.specs.internal.profile.State.{after_flush, after_event, most_references}
-use Rattle.profile_core.specs.internal.profile.State.{compared_behind, distances_of}
-use Rattle.profile_core.specs.internal.profile.Fronts.{is_front_of, after_unless_front}
-use Rattle.profile_core.specs.internal.profile.Fronts.{after_fronts, profile_with_fronts}
-use Rattle.profile_core.specs.internal.profile.Fronts.{is_refined, IsFit, Leads}
-use Rattle.profile_core.specs.internal.profile.ProfileStandsFor.{ProfileStandsFor}
+use Rattle.profile_core.specs.profile.RecencyList.{is_front, is_in, index_of}
+use Rattle.profile_core.specs.profile.State.{ProfileState, empty, list_of, one_more_at, fed_of}
+use Rattle.profile_core.specs.profile.State.{after_reference, after_flush, after_event}
+use Rattle.profile_core.specs.profile.Fronts.{is_front_of, after_unless_front, after_fronts}
+use Rattle.profile_core.specs.profile.Fronts.{is_refined}
+use Rattle.profile_core.specs.profile.ProfileStandsFor.{ProfileStandsFor}
+use Rattle.profile_core.specs.internal.profile.StackProfile.{IsSound, most_references}
+use Rattle.profile_core.specs.internal.profile.StackProfile.{compared_behind, distances_of, IsFit}
+use Rattle.profile_core.specs.internal.profile.CountedFronts.{profile_with_fronts, Leads}
 use Rattle.profile_core.specs.internal.set_lists.Lists.{Lists}
 use Rattle.profile_core.proofs.profile.Feeding.{found_front, after_fed, front_step, sum-distances}
 use Rattle.profile_core.proofs.profile.Fed.{state_of}

@@ -6,8 +6,8 @@ use Rattle.trace_core.specs.declared.events.Event.{Event}
 use Rattle.trace_core.specs.declared.events.Event.TheVariants as event
 use Rattle.cache_core.specs.Geometry.{geometry_value}
 use Rattle.cache_core.specs.declared.outcome.Counts.{Counts}
-use Rattle.profile_core.specs.internal.profile.State.{ProfileState, empty, after_event, fed_of}
-use Rattle.profile_core.specs.internal.profile.State.{held_of, counts_at}
+use Rattle.profile_core.specs.profile.State.{ProfileState, empty, after_event, fed_of, held_of}
+use Rattle.profile_core.specs.profile.State.{counts_at}
 
 abbrev reads : List ℕ → List Event
 reads addrs = map (λ addr. event.Reference (record { access = access.Read; addr = addr })) addrs

@@ -5,8 +5,8 @@ use Rattle.std.specs.Prelude.{fold}
 use Rattle.trace_core.specs.declared.events.Event.{Event}
 use Rattle.trace_core.specs.declared.events.Event.TheVariants as event
 use Rattle.cache_core.specs.Geometry.{GeometryValue, IsGeometry}
-use Rattle.profile_core.specs.internal.profile.State.{ProfileState, empty, after_event}
-use Rattle.profile_core.specs.internal.profile.ProfileStandsFor.{ProfileStandsFor}
+use Rattle.profile_core.specs.profile.State.{ProfileState, empty, after_event}
+use Rattle.profile_core.specs.profile.ProfileStandsFor.{ProfileStandsFor}
 use Rattle.profile_core.proofs.profile.Stands.{new_stands, reference_stands, flush_stands}
 
 pub event_stands : (es : List Event) (v : ProfileState) (e : Event) → ProfileStandsFor es v →

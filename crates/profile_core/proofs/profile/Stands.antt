@@ -19,11 +19,10 @@ use Rattle.cache_core.specs.Geometry.{GeometryValue, IsGeometry, block_of, set_o
 use Rattle.cache_core.specs.LruLaws.{occurrence_after}
 use Rattle.cache_core.specs.Windows.{Occurrence, distinct_of_set, has_last, distance, blocks_seen}
 use Rattle.cache_core.specs.Windows.{is_hit, window, occurrences, occurrences_after, probes}
-use Rattle.profile_core.specs.internal.set_lists.Moves.{index_of, is_in, move_to_front}
-use Rattle.profile_core.specs.internal.profile.State.{ProfileState, empty, list_of, one_more_at}
-use Rattle.profile_core.specs.internal.profile.State.{after_reference_in_list, after_reference}
-use Rattle.profile_core.specs.internal.profile.State.{after_flush}
-use Rattle.profile_core.specs.internal.profile.ProfileStandsFor.{ProfileStandsFor}
+use Rattle.profile_core.specs.profile.RecencyList.{index_of, is_in, move_to_front}
+use Rattle.profile_core.specs.profile.State.{ProfileState, empty, list_of, one_more_at}
+use Rattle.profile_core.specs.profile.State.{after_reference_in_list, after_reference, after_flush}
+use Rattle.profile_core.specs.profile.ProfileStandsFor.{ProfileStandsFor}
 use Rattle.profile_core.proofs.profile.Steps.{raise_if, raise_unless, Finds, finds, distance_within}
 use Rattle.profile_core.proofs.profile.Steps.{probes_within}
 

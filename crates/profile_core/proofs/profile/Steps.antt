@@ -8,8 +8,8 @@ use Rattle.cache_core.proofs.Lists.{is, list_any_is, position_or_len-take}
 use Rattle.cache_core.proofs.Distances.{has_last_is, distance_is}
 use Rattle.cache_core.specs.Geometry.{GeometryValue, set_of_block}
 use Rattle.cache_core.specs.Windows.{Occurrence, distinct_of_set, has_last, distance, blocks_seen}
-use Rattle.profile_core.specs.internal.profile.State.{one_more_at}
-use Rattle.profile_core.specs.internal.set_lists.Moves.{index_of, is_in}
+use Rattle.profile_core.specs.profile.RecencyList.{index_of, is_in}
+use Rattle.profile_core.specs.profile.State.{one_more_at}
 
 -- a block at distance d in a list of n, seen through its first m
 pub hit_within : (d n m : ℕ) → d ≤ n → (ltb d n && ltb d m) ≡ ltb (min d m) (min m n)

@@ -7,7 +7,7 @@ use Rattle.std.proofs.Math.Seq.{drop-cons}
 use Rattle.std.proofs.lemmas.List.{get_or_read}
 use Rattle.std.proofs.lemmas.List.Sums.{sum_by-cons, get_or-le-sum_by}
 use Rattle.std.specs.Prelude.{replicate}
-use Rattle.profile_core.specs.internal.profile.State.{weighed}
+use Rattle.profile_core.specs.internal.profile.StackProfile.{weighed}
 
 pub raised_fits : (ns : List ℕ) (i n : ℕ) → i < length ns → n ≡ get_or ns i n → n ≤ sum ns
 raised_fits ns i n lt read = omega (

@@ -12,7 +12,8 @@ use Rattle.std.proofs.lemmas.List.Sums.{fails_before_first}
 use Rattle.std.proofs.lemmas.Nat.{shr-shr, shr_le}
 use Rattle.std.proofs.lemmas.Simd.{leading_from_mask_l, trailing_mask_l}
 use Rattle.profile_core.specs.declared.set_lists.recency.Touch.TheVariants.{Behind, New}
-use Rattle.profile_core.specs.internal.set_lists.Moves.{is_in, touch_of}
+use Rattle.profile_core.specs.profile.RecencyList.{is_in}
+use Rattle.profile_core.specs.internal.set_lists.Moves.{touch_of}
 use Rattle.profile_core.specs.internal.rests.Slots.{mark_of, ordered_numbers, IsOrder}
 use Rattle.profile_core.proofs.rests.SlotLemmas.{length-ordered_numbers, ordered_numbers_at}
 use Rattle.profile_core.proofs.rests.SlotLemmas.{found_at, found_nowhere, touch_found, touch_new}

@@ -3,7 +3,8 @@ use Rattle.std.proofs.Common.{◌≡◌, ℕ, suc, ◌+◌, ◌<◌, ◌≤◌, 
 use Rattle.std.proofs.Common.{take, drop, set, ◌∙◌, ap, arith, add-one}
 use Rattle.std.specs.List.{remove}
 use Rattle.profile_core.specs.declared.rows.row.Shifted.TheVariants.{Found, Out}
-use Rattle.profile_core.specs.internal.set_lists.Moves.{index_of, shifted_of}
+use Rattle.profile_core.specs.profile.RecencyList.{index_of}
+use Rattle.profile_core.specs.internal.set_lists.Moves.{shifted_of}
 use Rattle.profile_core.proofs.rows.Bringing.{IsShifted, shifted_index, shifted_last, row_found}
 use Rattle.profile_core.proofs.rows.Bringing.{row_grown, size}
 use Rattle.profile_core.proofs.rows.Shifting.{index_behind, other_front}

@@ -15,7 +15,8 @@ use Rattle.std.specs.Simd.Lanes.{sel_l, top, zip2, put_chunk}
 use Rattle.std.specs.List.{remove}
 use Rattle.profile_core.specs.declared.set_lists.recency.Touch.TheVariants.{Behind, New}
 use Rattle.profile_core.specs.declared.rests.slotted.TheConstants.{TURNS, FIRST_LANE}
-use Rattle.profile_core.specs.internal.set_lists.Moves.{index_of, is_in, touch_of}
+use Rattle.profile_core.specs.profile.RecencyList.{index_of, is_in}
+use Rattle.profile_core.specs.internal.set_lists.Moves.{touch_of}
 use Rattle.profile_core.specs.internal.rests.Slots.{mark_of, ordered_numbers, IsOrder}
 use Rattle.profile_core.proofs.Elements.{all_same}
 use Rattle.profile_core.proofs.rows.Shifting.{index_found, index_end, is_found, is_absent}

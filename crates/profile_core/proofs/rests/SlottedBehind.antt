@@ -6,7 +6,8 @@ use Rattle.std.proofs.lemmas.Bool.{cases_lt}
 use Rattle.std.proofs.lemmas.List.{take_all, take-take, length-take-le}
 use Rattle.profile_core.specs.declared.set_lists.recency.Touch.TheVariants.{Behind, New}
 use Rattle.profile_core.specs.declared.rests.slotted.Slots.{Slots}
-use Rattle.profile_core.specs.internal.set_lists.Moves.{index_of, touch_of}
+use Rattle.profile_core.specs.profile.RecencyList.{index_of}
+use Rattle.profile_core.specs.internal.set_lists.Moves.{touch_of}
 use Rattle.profile_core.specs.internal.rests.Slots.{ordered_numbers}
 use Rattle.profile_core.proofs.profile.Feeding.{FoundAt, FoundNowhere, found_behind, found_nowhere}
 use Rattle.profile_core.proofs.rows.Shifting.{length-remove, remove_end}

@@ -11,8 +11,8 @@ use Rattle.std.proofs.lemmas.Bool.{ltb-true}
 use Rattle.std.proofs.lemmas.List.{take_all, take_at, length-take-le}
 use Rattle.cache_core.proofs.Lists.{list_any_is}
 use Rattle.profile_core.specs.declared.rows.row.Shifted.TheVariants.{Found, Out}
-use Rattle.profile_core.specs.internal.set_lists.Moves.{index_of, is_front, is_second}
-use Rattle.profile_core.specs.internal.set_lists.Moves.{move_to_front, shifted_of}
+use Rattle.profile_core.specs.profile.RecencyList.{index_of, is_front, move_to_front}
+use Rattle.profile_core.specs.internal.set_lists.Moves.{is_second, shifted_of}
 use Rattle.profile_core.specs.internal.set_lists.Lists.{IsBroughtInRow}
 use Rattle.profile_core.proofs.rows.Shifting.{other_front, index_behind, index-le, length-remove}
 use Rattle.profile_core.proofs.rows.Shifting.{remove_end}

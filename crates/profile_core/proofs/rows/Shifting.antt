@@ -10,7 +10,8 @@ use Rattle.std.proofs.lemmas.List.{take_all, drop_all}
 use Rattle.std.proofs.lemmas.List.Sums.{position_or_len_is, prefix_len-le-length}
 use Rattle.cache_core.proofs.Lists.{list_any_is}
 use Rattle.profile_core.specs.declared.rows.row.Shifted.TheVariants.{Found, Out}
-use Rattle.profile_core.specs.internal.set_lists.Moves.{index_of, is_in, is_front, shifted_of}
+use Rattle.profile_core.specs.profile.RecencyList.{index_of, is_in, is_front}
+use Rattle.profile_core.specs.internal.set_lists.Moves.{shifted_of}
 
 -- the list as it stands when i blocks of xs were passed, y in front: the block at i, and one step
 pub passed_at : (y : ℕ) (xs : List ℕ) (i : ℕ) → i < length xs →

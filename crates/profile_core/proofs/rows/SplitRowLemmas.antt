@@ -7,8 +7,8 @@ use Rattle.std.specs.List.{remove}
 use Rattle.std.specs.Prelude.{replicate}
 use Rattle.std.proofs.lemmas.Bool.{ne_eqb}
 use Rattle.std.proofs.lemmas.List.{take_all, get_or-replicate, length-replicate, set-get_or}
-use Rattle.profile_core.specs.internal.set_lists.Moves.{index_of, is_in, is_front, is_second}
-use Rattle.profile_core.specs.internal.set_lists.Moves.{move_to_front, touch_of, rest_touch_of}
+use Rattle.profile_core.specs.profile.RecencyList.{index_of, is_in, is_front, move_to_front}
+use Rattle.profile_core.specs.internal.set_lists.Moves.{is_second, touch_of, rest_touch_of}
 use Rattle.profile_core.specs.internal.rows.Rows.{RowsValue, rows_by_set, row_for, with_row}
 use Rattle.profile_core.specs.internal.rows.Rows.{blank_rows, list_in_row}
 use Rattle.profile_core.specs.internal.set_lists.Lists.{IsBroughtInRow}

@@ -7,8 +7,8 @@ use Rattle.std.proofs.lemmas.Bool.{eqb-true}
 use Rattle.std.proofs.lemmas.List.{take_all, take_at, length-take-le, take_more, append_assoc}
 use Rattle.std.proofs.lemmas.List.Edits.{remove-append_left, remove-append_right}
 use Rattle.deep_list.specs.Deep.{IsOnce}
-use Rattle.profile_core.specs.internal.set_lists.Moves.{index_of, is_in, is_front, is_second}
-use Rattle.profile_core.specs.internal.set_lists.Moves.{move_to_front, touch_of}
+use Rattle.profile_core.specs.profile.RecencyList.{index_of, is_in, is_front, move_to_front}
+use Rattle.profile_core.specs.internal.set_lists.Moves.{is_second, touch_of}
 use Rattle.profile_core.specs.declared.set_lists.recency.Touch.TheVariants.{Behind, New}
 use Rattle.profile_core.proofs.rows.Shifting.{length-remove}
 

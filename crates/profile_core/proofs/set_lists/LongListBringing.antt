@@ -7,8 +7,8 @@ use Rattle.std.specs.List.{remove}
 use Rattle.std.proofs.lemmas.Bool.{ltb-true, ltb-false}
 use Rattle.std.proofs.lemmas.List.{length-take-le, get_or_read}
 use Rattle.deep_list.specs.Deep.{Deep, list_after_exchange}
-use Rattle.profile_core.specs.internal.set_lists.Moves.{index_of, is_in, move_to_front, touch_of}
-use Rattle.profile_core.specs.internal.set_lists.Moves.{rest_touch_of}
+use Rattle.profile_core.specs.profile.RecencyList.{index_of, is_in, move_to_front}
+use Rattle.profile_core.specs.internal.set_lists.Moves.{touch_of, rest_touch_of}
 use Rattle.profile_core.specs.declared.set_lists.recency.Touch.{Touch}
 use Rattle.profile_core.specs.declared.set_lists.long_lists.InRow.TheVariants.{Settled, Full}
 use Rattle.profile_core.specs.internal.set_lists.Lists.{Lists, lists_after_touch}

@@ -9,7 +9,8 @@ use Rattle.std.specs.List.{sum_by}
 use Rattle.std.proofs.lemmas.List.{take_all, length-replicate, length-map, set-get_or}
 use Rattle.std.proofs.lemmas.List.Sums.{sum_by-cons}
 use Rattle.deep_list.specs.Deep.{Deep, IsOnce}
-use Rattle.profile_core.specs.internal.set_lists.Moves.{is_in, is_front, is_second, move_to_front}
+use Rattle.profile_core.specs.profile.RecencyList.{is_in, is_front, move_to_front}
+use Rattle.profile_core.specs.internal.set_lists.Moves.{is_second}
 use Rattle.profile_core.specs.internal.set_lists.Lists.{Lists, lists_after_touch}
 use Rattle.profile_core.proofs.Elements.{all_set, all_same}
 use Rattle.profile_core.proofs.rows.Shifting.{length-remove}

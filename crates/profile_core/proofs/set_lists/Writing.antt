@@ -7,7 +7,8 @@ use Rattle.std.proofs.lemmas.Bool.{ne_eqb}
 use Rattle.std.proofs.lemmas.List.{set-get_or, get_or-set_other}
 use Rattle.cache_core.specs.internal.Touched.{TouchedValue, Covers, after_count, with_set}
 use Rattle.cache_core.proofs.TouchedSets.{covers_change}
-use Rattle.profile_core.specs.internal.set_lists.Moves.{is_front, is_second, move_to_front}
+use Rattle.profile_core.specs.profile.RecencyList.{is_front, move_to_front}
+use Rattle.profile_core.specs.internal.set_lists.Moves.{is_second}
 use Rattle.profile_core.specs.internal.rows.Rows.{RowsValue, row_for, with_row, list_in_row}
 use Rattle.profile_core.specs.internal.set_lists.Lists.{lists_in, IsListed, IsBroughtInRow}
 use Rattle.profile_core.proofs.rows.Bringing.{row_exchanged, second_long}

@@ -1,4 +1,3 @@
-pub mod Fronts
+pub mod CountedFronts
 pub mod KeptProfile
-pub mod ProfileStandsFor
-pub mod State
+pub mod StackProfile

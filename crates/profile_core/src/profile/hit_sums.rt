@@ -14,7 +14,7 @@ pub struct HitSums {
 }
 
 impl Model for HitSums {
-    ghost use Rattle.profile_core.specs.internal.profile.State.{HitSumsState};
+    ghost use Rattle.profile_core.specs.profile.State.{HitSumsState};
 
     ghost Value = { HitSumsState };
 

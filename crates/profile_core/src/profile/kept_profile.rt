@@ -1,7 +1,7 @@
 //! The ways in which a profile can keep its lists.
 ghost use Rattle.std.specs.Prelude.{◌≡◌, IfOk};
 ghost use Rattle.profile_core.specs.internal.profile.KeptProfile.{profile_kept};
-ghost use Rattle.profile_core.specs.internal.profile.State.{empty};
+ghost use Rattle.profile_core.specs.profile.State.{empty};
 
 use crate::profile::stack_profile::StackProfile;
 use crate::rests::slotted::SlottedRests;

@@ -3,13 +3,12 @@
 ghost use Rattle.std.specs.Prelude.{◌≡◌, ◌+◌, ◌*◌, ◌^◌, ◌<◌, ◌≤◌, IfOk, true, false, length, take};
 ghost use Rattle.std.specs.Prelude.{replicate, [], slice_index};
 ghost use Rattle.cache_core.specs.Geometry.{block_of, set_of_block};
+ghost use Rattle.profile_core.specs.profile.State.{empty, after_reference, after_flush, list_of};
+ghost use Rattle.profile_core.specs.profile.State.{fed_of, held_of};
+ghost use Rattle.profile_core.specs.profile.Fronts.{is_front_of, after_unless_front, after_fronts};
+ghost use Rattle.profile_core.specs.profile.Fronts.{after_batch, fed_of_batch};
 ghost use Rattle.profile_core.specs.internal.set_lists.Moves.{is_second};
-ghost use Rattle.profile_core.specs.internal.profile.State.{empty, after_reference, after_flush};
-ghost use Rattle.profile_core.specs.internal.profile.State.{list_of, fed_of, held_of, IsNext};
-ghost use Rattle.profile_core.specs.internal.profile.State.{AreHistogramsOf};
-ghost use Rattle.profile_core.specs.internal.profile.Fronts.{is_front_of, after_unless_front};
-ghost use Rattle.profile_core.specs.internal.profile.Fronts.{after_fronts, after_batch};
-ghost use Rattle.profile_core.specs.internal.profile.Fronts.{fed_of_batch, IsFit};
+ghost use Rattle.profile_core.specs.internal.profile.StackProfile.{IsNext, AreHistogramsOf, IsFit};
 
 use crate::profile::MAX_REFERENCES;
 use crate::profile::histograms::Histograms;
@@ -29,7 +28,8 @@ pub struct StackProfile<L: SetLists> {
 }
 
 impl<L: SetLists> Model for StackProfile<L> {
-    ghost use Rattle.profile_core.specs.internal.profile.State.{ProfileState, profile_of, AreSound};
+    ghost use Rattle.profile_core.specs.profile.State.{ProfileState};
+    ghost use Rattle.profile_core.specs.internal.profile.StackProfile.{profile_of, AreSound};
 
     ghost Value = { ProfileState };
 

@@ -5,7 +5,8 @@ ghost use Rattle.std.specs.Prelude.{slice_index, slice_index_or, ◌==◌, IfOk,
 ghost use Rattle.std.specs.Prelude.{ℕ};
 ghost use Rattle.std.specs.Simd.Lanes.{mask_l};
 ghost use Rattle.std.specs.List.{remove};
-ghost use Rattle.profile_core.specs.internal.set_lists.Moves.{index_of, touch_of, rest_touch_of};
+ghost use Rattle.profile_core.specs.profile.RecencyList.{index_of};
+ghost use Rattle.profile_core.specs.internal.set_lists.Moves.{touch_of, rest_touch_of};
 ghost use Rattle.profile_core.specs.internal.rows.Rows.{blank_rows};
 ghost use Rattle.profile_core.specs.internal.rests.Slots.{mark_of, ordered_numbers, IsOrder};
 ghost use Rattle.profile_core.specs.internal.rests.SlottedRests.{no_slots, ArePlaced};

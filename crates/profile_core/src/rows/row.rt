@@ -2,8 +2,9 @@
 
 ghost use Rattle.std.specs.Prelude.{◌≡◌, ◌+◌, ◌-◌, ◌^◌, ◌<◌, ◌≤◌, ◌∷◌, false, nat_eq, length, take};
 ghost use Rattle.std.specs.List.{remove};
-ghost use Rattle.profile_core.specs.internal.set_lists.Moves.{index_of, is_front, is_second};
-ghost use Rattle.profile_core.specs.internal.set_lists.Moves.{touch_of, shifted_of, rest_touch_of};
+ghost use Rattle.profile_core.specs.profile.RecencyList.{index_of, is_front};
+ghost use Rattle.profile_core.specs.internal.set_lists.Moves.{is_second, touch_of, shifted_of};
+ghost use Rattle.profile_core.specs.internal.set_lists.Moves.{rest_touch_of};
 ghost use Rattle.profile_core.specs.internal.set_lists.Lists.{IsRow, IsBroughtInRow};
 
 use crate::set_lists::recency::Touch;

@@ -4,8 +4,8 @@
 ghost use Rattle.std.specs.Prelude.{◌≡◌, ◌*◌, ◌^◌, ◌<◌, ◌≤◌, [], false, length, replicate, sum_by};
 ghost use Rattle.std.specs.Prelude.{map, IfOk, slice_index_or};
 ghost use Rattle.deep_list.specs.Deep.{list_after_exchange};
-ghost use Rattle.profile_core.specs.internal.set_lists.Moves.{is_in, is_front, is_second};
-ghost use Rattle.profile_core.specs.internal.set_lists.Moves.{rest_touch_of};
+ghost use Rattle.profile_core.specs.profile.RecencyList.{is_in, is_front};
+ghost use Rattle.profile_core.specs.internal.set_lists.Moves.{is_second, rest_touch_of};
 ghost use Rattle.profile_core.specs.internal.set_lists.LongLists.{in_row_of, empty_deep};
 ghost use Rattle.profile_core.specs.internal.set_lists.Lists.{lists_after_touch};
 

@@ -5,10 +5,10 @@ use Rattle.std.specs.Prelude.{◌≡◌, ⊤, ℕ, Bool, true, false, not, ◌==
 use Rattle.std.specs.Prelude.{List, [], ◌∷◌, length, take, map, slice_index_or, slice_set}
 use Rattle.std.specs.List.{AllByRecursion, position_or_len}
 use Rattle.cache_core.specs.Geometry.{GeometryValue, IsGeometry}
-use Rattle.profile_core.specs.internal.profile.State.{ProfileState, empty, fed_of}
-use Rattle.profile_core.specs.internal.profile.Fronts.{after_batch, fed_of_batch}
-use Rattle.profile_core.specs.internal.profile.Fronts.{profile_with_fronts, is_refined, IsFit}
-use Rattle.profile_core.specs.internal.profile.Fronts.{Leads}
+use Rattle.profile_core.specs.profile.State.{ProfileState, empty, fed_of}
+use Rattle.profile_core.specs.profile.Fronts.{after_batch, fed_of_batch, is_refined}
+use Rattle.profile_core.specs.internal.profile.StackProfile.{IsFit}
+use Rattle.profile_core.specs.internal.profile.CountedFronts.{profile_with_fronts, Leads}
 use Rattle.sweep_core.specs.declared.profiles.PairProfile.{PairProfile}
 
 -- how many of some profiles refine a geometry, counted from the first up to one that doesn't

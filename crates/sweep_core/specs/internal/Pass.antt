@@ -14,7 +14,7 @@ use Rattle.trace_core.specs.declared.fault.TraceFault.{TraceFault}
 use Rattle.trace_core.specs.declared.state.ReaderState.{ReaderState}
 use Rattle.trace_core.specs.declared.state.ReaderState.TheVariants as state
 use Rattle.cache_core.specs.Geometry.{IsGeometry}
-use Rattle.profile_core.specs.internal.profile.State.{empty, after_flush, after_event}
+use Rattle.profile_core.specs.profile.State.{empty, after_flush, after_event}
 use Rattle.sweep_core.specs.declared.space.Config.{Config}
 use Rattle.sweep_core.specs.declared.request.Request.{Request}
 use Rattle.sweep_core.specs.declared.profiles.PairProfile.{PairProfile}

@@ -4,7 +4,7 @@ use Rattle.std.specs.Prelude.{◌≡◌, ℕ, zero, suc, ◌+◌, ◌*◌, ◌^�
 use Rattle.std.specs.Prelude.{List, [], ◌∷◌, ◌++◌, Option, None, Some, IfSome, map, flat_map}
 use Rattle.std.specs.List.{AllByRecursion}
 use Rattle.cache_core.specs.declared.outcome.Counts.{Counts}
-use Rattle.profile_core.specs.internal.profile.State.{ProfileState, counts_at, hit_sums_at}
+use Rattle.profile_core.specs.profile.State.{ProfileState, counts_at, hit_sums_at}
 use Rattle.sweep_core.specs.declared.space.Config.{Config}
 use Rattle.sweep_core.specs.declared.profiles.PairProfile.{PairProfile}
 use Rattle.sweep_core.specs.declared.rows.PairWalk.{PairWalk}

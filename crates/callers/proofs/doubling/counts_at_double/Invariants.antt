@@ -1,7 +1,7 @@
 use Rattle.std.proofs.Common.{◌≡◌, ◌*◌, map, take, fold}
 use Rattle.trace_core.specs.declared.events.Event.TheVariants as event
 use Rattle.cache_core.specs.Geometry.{geometry_value}
-use Rattle.profile_core.specs.internal.profile.State.{empty, after_event, fed_of}
+use Rattle.profile_core.specs.profile.State.{empty, after_event, fed_of}
 use Rattle.callers.proofs.doubling.counts_at_double.Given as goal
 
 -- the profile was fed the references so far

@@ -7,7 +7,7 @@ use Rattle.trace_core.specs.declared.events.Kind.TheVariants.{All}
 use Rattle.trace_core.specs.declared.limits.TheConstants.{MAX_LINES}
 use Rattle.cache_core.specs.Geometry.{geometry_value}
 use Rattle.cache_core.specs.Windows.{held}
-use Rattle.profile_core.specs.internal.profile.State.{empty, after_event, fed_of}
+use Rattle.profile_core.specs.profile.State.{empty, after_event, fed_of}
 use Rattle.callers.proofs.Touching.{events_in, fed_more, held_at_end, if_known}
 use Rattle.callers.proofs.pages.pages_touched.Goals as goal
 

@@ -3,7 +3,7 @@ use Rattle.trace_core.specs.Reader.{Reached}
 use Rattle.trace_core.specs.declared.events.Entry.{Entry}
 use Rattle.trace_core.specs.declared.limits.TheConstants.{MAX_LINES}
 use Rattle.cache_core.specs.Geometry.{geometry_value}
-use Rattle.profile_core.specs.internal.profile.State.{empty, after_event, fed_of}
+use Rattle.profile_core.specs.profile.State.{empty, after_event, fed_of}
 use Rattle.callers.proofs.Touching.{events_in}
 use Rattle.callers.proofs.pages.pages_touched.Given as goal
 

@@ -1,7 +1,7 @@
 -- One more number of a histogram is added up.
 use Rattle.std.proofs.Common.{◌≡◌, ◌+◌, ◌*◌, drop, get_or, ◌∙◌, sym, ap, arith}
 use Rattle.std.proofs.lemmas.List.{drop_all}
-use Rattle.profile_core.specs.internal.profile.State.{weighed}
+use Rattle.profile_core.specs.internal.profile.StackProfile.{weighed}
 use Rattle.profile_core.proofs.profile.Weighing.{weighed-next, weighed-none}
 use Rattle.profile_core.proofs.profile.weighed.Goals as goal
 use Rattle.profile_core.proofs.profile.weighed.Goals.{In-loop-index}

@@ -1,6 +1,6 @@
 -- What was added up, and what is left.
 use Rattle.std.proofs.Common.{◌≡◌, ◌+◌, drop}
-use Rattle.profile_core.specs.internal.profile.State.{weighed}
+use Rattle.profile_core.specs.internal.profile.StackProfile.{weighed}
 use Rattle.profile_core.proofs.profile.weighed.Given as goal
 
 abbrev pub invariant-loop-index : goal.invariant-loop-index

@@ -4,7 +4,7 @@ use Rattle.profile_core.specs.declared.profile.kept_profile.KeptProfile.TheVaria
 use Rattle.profile_core.specs.declared.profile.kept_profile.KeptProfile.TheVariants.{InSlots}
 use Rattle.profile_core.specs.declared.profile.kept_profile.KeptProfile.TheVariants.{InSparseRows}
 use Rattle.profile_core.specs.declared.profile.kept_profile.KeptProfile.TheVariants.{Long}
-use Rattle.profile_core.specs.internal.profile.State.{ProfileState}
+use Rattle.profile_core.specs.profile.State.{ProfileState}
 
 -- the profile that is kept
 abbrev pub profile_kept : KeptProfile → ProfileState

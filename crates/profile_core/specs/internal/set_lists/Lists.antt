@@ -2,7 +2,7 @@
 use Rattle.std.specs.Prelude.{ℕ, ◌≡◌, ◌≤◌, ◌<◌, ◌+◌, ◌*◌, ◌^◌, List, [], ◌∷◌, length, take}
 use Rattle.std.specs.Prelude.{slice_index_or, slice_set}
 use Rattle.cache_core.specs.internal.Touched.{TouchedValue, Covers}
-use Rattle.profile_core.specs.internal.set_lists.Moves.{move_to_front}
+use Rattle.profile_core.specs.profile.RecencyList.{move_to_front}
 use Rattle.profile_core.specs.internal.rows.Rows.{RowsValue, AreLong}
 
 -- a list for each set, of at most `depth` blocks each

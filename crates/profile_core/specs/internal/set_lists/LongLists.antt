@@ -4,7 +4,8 @@ use Rattle.std.specs.Prelude.{◌*◌, ◌^◌, List, [], ◌∷◌, ◌++◌, l
 use Rattle.deep_list.specs.Deep.{Deep, IsOnce}
 use Rattle.profile_core.specs.declared.set_lists.long_lists.InRow.{InRow}
 use Rattle.profile_core.specs.declared.set_lists.long_lists.InRow.TheVariants.{Settled, Full}
-use Rattle.profile_core.specs.internal.set_lists.Moves.{is_in, touch_of}
+use Rattle.profile_core.specs.profile.RecencyList.{is_in}
+use Rattle.profile_core.specs.internal.set_lists.Moves.{touch_of}
 use Rattle.profile_core.specs.internal.set_lists.Lists.{Lists}
 
 -- each list with the blocks behind it

@@ -1,32 +1,14 @@
--- A block in a recency list.
-use Rattle.std.specs.Prelude.{ℕ, ◌+◌, ◌-◌, ◌==◌, Bool, false, List, [], ◌∷◌, length, drop}
-use Rattle.std.specs.Prelude.{if◌then◌else◌, slice_index}
-use Rattle.std.specs.List.{list_any, position_or_len, remove}
+-- Where a block is in a recency list, as the code reports it.
+use Rattle.std.specs.Prelude.{ℕ, ◌+◌, ◌-◌, Bool, List, length, drop, if◌then◌else◌, slice_index}
 use Rattle.profile_core.specs.declared.set_lists.recency.Touch.{Touch}
 use Rattle.profile_core.specs.declared.set_lists.recency.Touch.TheVariants.{Behind, New}
 use Rattle.profile_core.specs.declared.rows.row.Shifted.{Shifted}
 use Rattle.profile_core.specs.declared.rows.row.Shifted.TheVariants.{Found, Out}
-
--- the index of x in a list, which is its stack distance, or the list's length
-abbrev pub index_of : ℕ → List ℕ → ℕ
-index_of x xs = position_or_len (λ y. y == x) xs
-
--- whether x stands in a list
-abbrev pub is_in : ℕ → List ℕ → Bool
-is_in x xs = list_any (λ y. y == x) xs
-
--- whether x is the front of a list
-abbrev pub is_front : ℕ → List ℕ → Bool
-is_front x [] = false
-is_front x (y ∷ ys) = y == x
+use Rattle.profile_core.specs.profile.RecencyList.{index_of, is_in, is_front}
 
 -- whether x is the second of a list
 abbrev pub is_second : ℕ → List ℕ → Bool
 is_second x xs = is_front x (drop 1 xs)
-
--- the list with x in front, and no longer where it was
-abbrev pub move_to_front : ℕ → List ℕ → List ℕ
-move_to_front x xs = x ∷ remove xs (index_of x xs)
 
 -- where a reference to x finds its block, which is not the front
 abbrev pub touch_of : ℕ → List ℕ → Touch

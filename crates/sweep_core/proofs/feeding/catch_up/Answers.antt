@@ -2,7 +2,7 @@
 use Rattle.std.proofs.Common.{◌≡◌, sym, ap, ◌∙◌, get_or, ◌-◌}
 use Rattle.std.proofs.Math.ListN.{set}
 use Rattle.std.proofs.lemmas.List.Edits.{map_over_more}
-use Rattle.profile_core.specs.internal.profile.Fronts.{after_fronts}
+use Rattle.profile_core.specs.profile.Fronts.{after_fronts}
 use Rattle.sweep_core.specs.internal.Feeding.{pair_with_fronts}
 use Rattle.sweep_core.proofs.feeding.catch_up.Goals as goal
 

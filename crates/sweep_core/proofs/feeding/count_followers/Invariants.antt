@@ -1,6 +1,6 @@
 -- The profiles so far refine the one.
 use Rattle.std.proofs.Common.{◌≡◌, ◌<◌, ℕ, true, get_or}
-use Rattle.profile_core.specs.internal.profile.Fronts.{is_refined}
+use Rattle.profile_core.specs.profile.Fronts.{is_refined}
 use Rattle.sweep_core.specs.declared.profiles.PairProfile.{PairProfile}
 use Rattle.sweep_core.proofs.feeding.count_followers.Given as goal
 

@@ -4,7 +4,7 @@ use Rattle.std.proofs.Common.{drop, min, length-append, ℕ, List, refl}
 use Rattle.std.specs.List.{AllByRecursion as Each}
 use Rattle.std.proofs.lemmas.List.{length-take, length-drop, get_or_default}
 use Rattle.profile_core.specs.declared.profile.TheConstants.{MAX_REFERENCES}
-use Rattle.profile_core.specs.internal.profile.State.{fed_of}
+use Rattle.profile_core.specs.profile.State.{fed_of}
 use Rattle.sweep_core.specs.declared.profiles.PairProfile.{PairProfile}
 use Rattle.sweep_core.proofs.FeedingEach.{Serves, followers-within, each_drop, each_take}
 use Rattle.sweep_core.proofs.FeedingEach.{serves_led, serves_all, of_equal, fed_both, unfed}

@@ -1,8 +1,8 @@
 -- The profile at an index, and the next.
 use Rattle.std.proofs.Common.{◌≡◌, ◌+◌, ◌∙◌, ◌++◌, List, get_or, set, sym, ap, arith}
 use Rattle.std.proofs.lemmas.List.{get_or-take, get_or-drop}
-use Rattle.profile_core.specs.internal.profile.State.{ProfileState}
-use Rattle.profile_core.specs.internal.profile.Fronts.{after_batch, fed_of_batch}
+use Rattle.profile_core.specs.profile.State.{ProfileState}
+use Rattle.profile_core.specs.profile.Fronts.{after_batch, fed_of_batch}
 use Rattle.sweep_core.specs.declared.profiles.PairProfile.{PairProfile}
 use Rattle.sweep_core.specs.internal.Feeding.{pair_after_batch}
 use Rattle.sweep_core.proofs.FeedingEach.{set_neighbours}

@@ -1,5 +1,5 @@
 use Rattle.std.proofs.Common.{◌≡◌}
-use Rattle.profile_core.specs.internal.profile.State.{hit_sums_at}
+use Rattle.profile_core.specs.profile.State.{hit_sums_at}
 use Rattle.worked_examples.proofs.profiles.expect_counts.Given as goal
 
 abbrev pub invariant-loop-i : goal.invariant-loop-i

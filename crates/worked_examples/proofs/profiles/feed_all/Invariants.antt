@@ -1,5 +1,5 @@
 use Rattle.std.proofs.Common.{◌≡◌, ◌+◌}
-use Rattle.profile_core.specs.internal.profile.State.{fed_of}
+use Rattle.profile_core.specs.profile.State.{fed_of}
 use Rattle.worked_examples.proofs.profiles.feed_all.Given as goal
 
 abbrev pub invariant-loop-addr : goal.invariant-loop-addr

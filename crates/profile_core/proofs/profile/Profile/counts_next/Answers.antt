@@ -1,6 +1,6 @@
 -- The next counts of a sums: the step that the code takes, and what it leaves.
 use Rattle.std.proofs.Common.{◌-◌, ◌≤◌, ◌^◌, ◌∙◌, ap, sum, take, drop, arith}
-use Rattle.profile_core.specs.internal.profile.State.{fed_of}
+use Rattle.profile_core.specs.profile.State.{fed_of}
 use Rattle.profile_core.proofs.HitSums.{IsStep, step_of, part-le, hits_after, free_after, within}
 use Rattle.profile_core.proofs.HitSums.{counts_after}
 use Rattle.profile_core.proofs.profile.Counting.{counts_are}

@@ -1,6 +1,6 @@
 -- The references fed: those found, and those not found.
 use Rattle.std.proofs.Common.{◌≡◌, ◌+◌, ◌∙◌, sum, ap, arith}
-use Rattle.profile_core.specs.internal.profile.State.{fed_of}
+use Rattle.profile_core.specs.profile.State.{fed_of}
 use Rattle.profile_core.proofs.profile.Counting.{fed_is}
 use Rattle.profile_core.proofs.profile.Profile.fed.Goals as goal
 use Rattle.profile_core.proofs.profile.Profile.fed.Goals.{After-total}

@@ -1,8 +1,8 @@
 -- A reference is fed, and counted where it finds its block in front.
 use Rattle.std.proofs.Common.{◌≡◌, ◌∙◌, cond, sym, ap}
 use Rattle.cache_core.specs.Geometry.{block_of}
-use Rattle.profile_core.specs.internal.profile.State.{after_reference, fed_of}
-use Rattle.profile_core.specs.internal.profile.Fronts.{after_fronts}
+use Rattle.profile_core.specs.profile.State.{after_reference, fed_of}
+use Rattle.profile_core.specs.profile.Fronts.{after_fronts}
 use Rattle.profile_core.proofs.profile.Fronts.{front_reference, reference_fed}
 use Rattle.profile_core.proofs.profile.Profile.feed.Goals as goal
 use Rattle.profile_core.proofs.profile.Profile.feed.Goals.{After-block_of-block, After-count_fronts}

@@ -1,7 +1,8 @@
 -- The references that were found, told by the comparisons and the other numbers.
 use Rattle.std.proofs.Common.{◌+◌, ◌≤◌, ◌∙◌, sum, ap, arith}
 use Rattle.profile_core.specs.declared.profile.histograms.Histograms.{Histograms}
-use Rattle.profile_core.specs.internal.profile.State.{ProfileState, weighed, AreHistogramsOf}
+use Rattle.profile_core.specs.profile.State.{ProfileState}
+use Rattle.profile_core.specs.internal.profile.StackProfile.{weighed, AreHistogramsOf}
 use Rattle.profile_core.proofs.profile.Feeding.{sum-distances}
 use Rattle.profile_core.proofs.profile.Weighing.{weighed-more}
 use Rattle.profile_core.proofs.profile.Profile.hits.Goals as goal

@@ -2,8 +2,9 @@
 -- histogram.
 use Rattle.std.proofs.Common.{◌≡◌, ◌+◌, ◌-◌, ◌∙◌, length, sum, take, drop, ap, arith}
 use Rattle.profile_core.specs.declared.profile.histograms.Histograms.{Histograms}
-use Rattle.profile_core.specs.internal.profile.State.{ProfileState, AreHistogramsOf}
-use Rattle.profile_core.specs.internal.profile.State.{distances_of, compared_behind}
+use Rattle.profile_core.specs.profile.State.{ProfileState}
+use Rattle.profile_core.specs.internal.profile.StackProfile.{AreHistogramsOf, distances_of}
+use Rattle.profile_core.specs.internal.profile.StackProfile.{compared_behind}
 use Rattle.profile_core.proofs.profile.Feeding.{sum-distances}
 use Rattle.profile_core.proofs.HitSums.{part-le, sum-rest}
 use Rattle.profile_core.proofs.profile.Profile.hits_between.Goals as goal

@@ -3,7 +3,7 @@ use Rattle.std.proofs.Common.{◌≡◌, ◌≤◌, ◌+◌, ◌∙◌, [], leng
 use Rattle.std.proofs.Common.{length-take}
 use Rattle.std.specs.List.{AllByRecursion as Each}
 use Rattle.profile_core.specs.declared.profile.TheConstants.{MAX_REFERENCES}
-use Rattle.profile_core.specs.internal.profile.State.{fed_of}
+use Rattle.profile_core.specs.profile.State.{fed_of}
 use Rattle.sweep_core.specs.internal.Feeding.{profiles_after_batch}
 use Rattle.sweep_core.proofs.Waiting.{fed-nil}
 use Rattle.sweep_core.proofs.batch.Batch.feed.Goals as goal

@@ -1,7 +1,7 @@
 -- A reference that is found second: what lists and histograms stand for after it.
 use Rattle.std.proofs.Common.{◌∙◌, ap, refl}
+use Rattle.profile_core.specs.profile.State.{list_of}
 use Rattle.profile_core.specs.internal.set_lists.Moves.{is_second}
-use Rattle.profile_core.specs.internal.profile.State.{list_of}
 use Rattle.profile_core.proofs.profile.Feeding.{found_second}
 use Rattle.profile_core.proofs.profile.Fed.{moved_of, other, found_sound, found_after}
 use Rattle.profile_core.proofs.profile.stack_profile.StackProfile.feed_second.Goals as goal

@@ -1,6 +1,6 @@
 -- A reference of a batch is at most one more.
 use Rattle.std.proofs.Common.{ap, arith}
-use Rattle.profile_core.specs.internal.profile.State.{fed_of}
+use Rattle.profile_core.specs.profile.State.{fed_of}
 use Rattle.profile_core.proofs.profile.Fronts.{fit_inside, reference_fed}
 use Rattle.profile_core.proofs.profile.stack_profile.StackProfile.feed_unless_front.Goals as goal
 

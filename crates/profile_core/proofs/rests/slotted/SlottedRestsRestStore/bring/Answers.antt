@@ -3,7 +3,8 @@ use Rattle.std.proofs.Common.{◌∙◌, ◌-◌, ◌∷◌, ℕ, List, length, 
 use Rattle.std.proofs.Common.{vec_capacity}
 use Rattle.std.specs.List.{remove}
 use Rattle.std.proofs.lemmas.List.{with_items_is}
-use Rattle.profile_core.specs.internal.set_lists.Moves.{index_of, rest_touch_of}
+use Rattle.profile_core.specs.profile.RecencyList.{index_of}
+use Rattle.profile_core.specs.internal.set_lists.Moves.{rest_touch_of}
 use Rattle.profile_core.specs.internal.rows.Rows.{row_for}
 use Rattle.profile_core.specs.internal.rests.SlottedRests.{IsSlotted}
 use Rattle.profile_core.proofs.rows.RowsBySet.{known_row, within, stride_is, put_is, put_others}

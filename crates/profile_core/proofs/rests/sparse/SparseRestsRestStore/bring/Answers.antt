@@ -2,7 +2,8 @@
 use Rattle.std.proofs.Common.{◌∙◌, ◌-◌, ◌∷◌, ℕ, List, length, take, ap, arith}
 use Rattle.std.specs.List.{remove}
 use Rattle.std.proofs.lemmas.List.{with_items_is}
-use Rattle.profile_core.specs.internal.set_lists.Moves.{index_of, rest_touch_of}
+use Rattle.profile_core.specs.profile.RecencyList.{index_of}
+use Rattle.profile_core.specs.internal.set_lists.Moves.{rest_touch_of}
 use Rattle.profile_core.specs.internal.rows.Rows.{row_for}
 use Rattle.profile_core.proofs.rows.RowsBySet.{known_row, within, stride_is, put_is, put_others}
 use Rattle.profile_core.proofs.rests.SparseRestLemmas.{own_of, own_ends, own_lent, own_long}

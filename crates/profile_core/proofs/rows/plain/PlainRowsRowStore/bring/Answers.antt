@@ -1,6 +1,7 @@
 -- A set's row whose list gets a block in front, among the other rows.
 use Rattle.std.proofs.Common.{◌∙◌, ◌∷◌, length, take, ap, arith, subst, sym}
-use Rattle.profile_core.specs.internal.set_lists.Moves.{is_front, is_second, touch_of}
+use Rattle.profile_core.specs.profile.RecencyList.{is_front}
+use Rattle.profile_core.specs.internal.set_lists.Moves.{is_second, touch_of}
 use Rattle.profile_core.specs.internal.set_lists.Lists.{IsRow, IsBroughtInRow}
 use Rattle.profile_core.specs.internal.rows.Rows.{list_in_row}
 use Rattle.profile_core.proofs.rows.PlainRowLemmas.{known, ends, numbers_small, lent, row_size}

@@ -1,7 +1,8 @@
 -- A block that comes to the front of a list, from its row or from behind it, or new.
 use Rattle.std.proofs.Common.{◌∙◌, length, ap, arith}
 use Rattle.deep_list.specs.Deep.{list_after_exchange}
-use Rattle.profile_core.specs.internal.set_lists.Moves.{is_in, rest_touch_of}
+use Rattle.profile_core.specs.profile.RecencyList.{is_in}
+use Rattle.profile_core.specs.internal.set_lists.Moves.{rest_touch_of}
 use Rattle.profile_core.proofs.set_lists.LongListLemmas.{known, within, front_is, second_is, stays}
 use Rattle.profile_core.proofs.set_lists.LongListBringing.{settled_stays, settled_touch, full_is}
 use Rattle.profile_core.proofs.set_lists.LongListBringing.{far_read, last_apart, held_small}

@@ -1,7 +1,8 @@
 -- A block that is behind the second of a set's list, or new, comes to its front.
 use Rattle.std.proofs.Common.{◌<◌, ◌∙◌, sym, ap, arith}
 use Rattle.std.proofs.lemmas.List.{nil_from_length}
-use Rattle.profile_core.specs.internal.set_lists.Moves.{is_front, is_second, touch_of}
+use Rattle.profile_core.specs.profile.RecencyList.{is_front}
+use Rattle.profile_core.specs.internal.set_lists.Moves.{is_second, touch_of}
 use Rattle.profile_core.proofs.set_lists.ListLemmas.{known, depth_is, within, among_fronts}
 use Rattle.profile_core.proofs.set_lists.ListLemmas.{among_rows, row_long, row_small, list_size}
 use Rattle.profile_core.proofs.set_lists.ListLemmas.{len_read}

@@ -1,12 +1,11 @@
 -- References that find their block in front of its set's list. They change no list, and a block in
 -- front in one profile is in front in each that refines it (set refinement: Hill and Smith 1989).
 -- So they can be counted together, later.
-use Rattle.std.specs.Prelude.{ℕ, ◌≡◌, ◌≤◌, ◌+◌, ◌-◌, ◌^◌, ◌==◌, true, length, ◌&&◌, ◌||◌, nat_le}
-use Rattle.std.specs.Prelude.{Bool, if◌then◌else◌, slice_set, slice_index, List, [], ◌∷◌, fold}
+use Rattle.std.specs.Prelude.{ℕ, ◌+◌, ◌==◌, ◌&&◌, ◌||◌, nat_le, Bool, if◌then◌else◌, slice_set}
+use Rattle.std.specs.Prelude.{slice_index, List, [], ◌∷◌, fold}
 use Rattle.cache_core.specs.Geometry.{GeometryValue, block_of, set_of_block}
-use Rattle.profile_core.specs.internal.set_lists.Moves.{is_front}
-use Rattle.profile_core.specs.internal.profile.State.{ProfileState, list_of, fed_of}
-use Rattle.profile_core.specs.internal.profile.State.{after_reference}
+use Rattle.profile_core.specs.profile.RecencyList.{is_front}
+use Rattle.profile_core.specs.profile.State.{ProfileState, list_of, after_reference}
 
 -- whether a reference to block x finds it in front
 abbrev pub is_front_of : ProfileState → ℕ → Bool
@@ -34,24 +33,6 @@ after_fronts n v = record v {
   probes = v.probes + n;
 }
 
--- A profile was fed n references, except some that found their block in front: the profile after
--- these are counted, too.
-abbrev pub profile_with_fronts : ℕ → ProfileState → ProfileState
-profile_with_fronts n v = after_fronts (n - fed_of v) v
-
 -- whether each block in front in one profile is also in front in another that was fed the same
 abbrev pub is_refined : GeometryValue → GeometryValue → Bool
 is_refined g h = g.b == h.b && nat_le g.s h.s || g.s == 0 && nat_le g.b h.b
-
--- a block in front in one profile is also in front in another
-abbrev pub Leads : ProfileState → ProfileState → Type 0
-Leads v w = (addr : ℕ) → is_front_of v (block_of v.geometry addr) ≡ true →
-    is_front_of w (block_of w.geometry addr) ≡ true
-
--- the lengths of a profile's lists and histograms
-pub record IsFit (v : ProfileState) : Type 0 where
-  pub some : 1 ≤ v.geometry.e
-  pub set_count : length v.lists ≡ 2 ^ v.geometry.s
-  pub short : (k : ℕ) → length (list_of v k) ≤ v.geometry.e
-  pub distance_count : length v.distances ≡ v.geometry.e
-  pub occupancy_count : length v.misses_by_occupancy ≡ v.geometry.e + 1

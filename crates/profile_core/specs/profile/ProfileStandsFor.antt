@@ -5,7 +5,7 @@ use Rattle.trace_core.specs.declared.events.Event.{Event}
 use Rattle.cache_core.specs.Geometry.{GeometryValue, IsGeometry}
 use Rattle.cache_core.specs.Windows.{window, occurrences, distinct_of_set, has_last, distance}
 use Rattle.cache_core.specs.Windows.{blocks_seen, is_hit, probes}
-use Rattle.profile_core.specs.internal.profile.State.{ProfileState, list_of}
+use Rattle.profile_core.specs.profile.State.{ProfileState, list_of}
 
 -- how many references found their block at stack distance d
 abbrev pub found_at : GeometryValue → List Event → ℕ → ℕ

@@ -1,0 +1,4 @@
+pub mod Fronts
+pub mod ProfileStandsFor
+pub mod RecencyList
+pub mod State
