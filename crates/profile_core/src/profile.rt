@@ -1,25 +1,26 @@
 //! A profile: one pass over references that counts for every associativity up to a depth.
+mod counts;
 mod histograms;
 mod hit_sums;
 mod kept_profile;
 mod stack_profile;
 
-ghost use Rattle.std.specs.Prelude.{◌≡◌, ◌+◌, ◌-◌, ◌*◌, ◌^◌, ◌<◌, ◌≤◌, List, IfOk, true, false};
-ghost use Rattle.std.specs.Prelude.{length, take, drop, sum};
+ghost use Rattle.std.specs.Prelude.{◌≡◌, ◌+◌, ◌*◌, ◌^◌, ◌<◌, ◌≤◌, List, IfOk, true, false, length};
+ghost use Rattle.std.specs.Prelude.{take};
 ghost use Rattle.trace_core.specs.declared.events.Event.{Event};
 ghost use Rattle.cache_core.specs.Geometry.{IsGeometry, geometry_value, block_of};
-ghost use Rattle.cache_core.specs.Windows.{occurrences, counts, probes, held};
+ghost use Rattle.cache_core.specs.Windows.{held};
 ghost use Rattle.profile_core.specs.profile.State.{empty, after_reference, after_flush, fed_of};
-ghost use Rattle.profile_core.specs.profile.State.{held_of, counts_at, hit_sums_at};
+ghost use Rattle.profile_core.specs.profile.State.{held_of};
 ghost use Rattle.profile_core.specs.profile.Fronts.{is_front_of, after_unless_front, after_fronts};
 ghost use Rattle.profile_core.specs.profile.Fronts.{is_refined, after_batch, fed_of_batch};
 ghost use Rattle.profile_core.specs.profile.ProfileStandsFor.{ProfileStandsFor};
-ghost use Rattle.profile_core.specs.internal.profile.StackProfile.{weighed, AreHistogramsOf, IsFit};
+ghost use Rattle.profile_core.specs.internal.profile.StackProfile.{AreHistogramsOf, IsFit};
 
 use crate::profile::histograms::Histograms;
 pub use crate::profile::hit_sums::HitSums;
 use crate::profile::kept_profile::KeptProfile;
-use cache_core::{Counts, Geometry};
+use cache_core::Geometry;
 use std::alloc::{AllocError, Global};
 use std::marker::Model;
 use trace_core::MAX_LINES;
@@ -65,7 +66,7 @@ impl Profile {
     /// A profile of caches of `2^s` sets of 1 to `depth` lines of `2^b` bytes. It takes all its
     /// memory here: 8 bytes for each of `depth * 2^s` blocks, 4 and a quarter for each set, and 16
     /// for each associativity and 8 more. With a depth of 256 or more it is at most 21.6 bytes for
-    /// each block in place of the first two. Where memory is refused, nothing is kept.
+    /// each block instead of the first two. Where memory is refused, nothing is kept.
     pub fn new(alloc: Global, b: u64, s: u64, depth: u64) -> Result<Profile, AllocError>
         requires { IsGeometry (geometry_value s depth b) }
         ensures { IfOk result (λ profile. profile ≡ empty (geometry_value s depth b)) }
@@ -243,54 +244,6 @@ impl Profile {
         in_any_way!(&mut self.kept, profile => profile.flush())
     }
 
-    /// How many references were fed. It goes over the histograms, `3 * depth` numbers, so it should
-    /// not be called for each reference.
-    pub fn fed(&self) -> u64
-        ensures value { result ≡ fed_of self.now }
-        ensures trace { (es : List Event) → ProfileStandsFor es self.now
-            → result ≡ length (occurrences self.now.geometry es) }
-    {
-        self.hits() + total(&self.histograms().misses_by_occupancy)
-    }
-
-    /// How many references found their block: the comparisons, less `d` for each reference found at
-    /// distance `d`, less `n` for each that missed in a list of `n` blocks.
-    fn hits(&self) -> u64
-        ensures { result ≡ sum self.now.distances }
-    {
-        let histograms = self.histograms();
-        histograms.probes - weighed(&histograms.behind) - weighed(&histograms.misses_by_occupancy)
-    }
-
-    /// How many references hit at a stack distance in `from..to`.
-    fn hits_between(&self, from: usize, to: usize) -> u64
-        requires rising { from ≤ to }
-        requires some { 1 ≤ to }
-        requires within { to ≤ self.now.geometry.e }
-        ensures { result ≡ sum (take (to - from) (drop from self.now.distances)) }
-    {
-        if from == 0 {
-            self.hits() - total(&self.histograms().behind[to..])
-        } else {
-            total(&self.histograms().behind[from..to])
-        }
-    }
-
-    /// The number of comparisons counted. Each reference counts the comparisons of its block with
-    /// the entries of its set's list in a walk up to the block, or over the whole list if the block
-    /// isn't there. This is the cost of the stack algorithm, by which spaces can be compared. The
-    /// profile makes as many comparisons or fewer, though no contract says so: for a reference that
-    /// `count_fronts` counts, one is counted and none is made; and with 12 to 16 ways and up to
-    /// 4,096 sets, or with 256 ways or more, most blocks are found without a walk.
-    pub fn probes(&self) -> u64
-        ensures value { result ≡ self.now.probes }
-        ensures trace { (es : List Event) → ProfileStandsFor es self.now
-            → result ≡ probes self.now.geometry es }
-        ensures at_most { result ≤ fed_of self.now * self.now.geometry.e }
-    {
-        self.histograms().probes
-    }
-
     /// How many blocks the lists hold.
     #[tactic(auto, using(crate::proofs::profile::Counting::held_is))]
     pub fn held(&self) -> u64
@@ -300,62 +253,6 @@ impl Profile {
         ensures at_most { result ≤ self.now.geometry.e * 2 ^ self.now.geometry.s }
     {
         in_any_way!(&self.kept, profile => profile.held())
-    }
-
-    /// The counts of an LRU cache of `e` lines per set, over all references fed. It goes over both
-    /// histograms up to four times. For many associativities of one profile, `counts_next` takes
-    /// less time.
-    pub fn counts(&self, e: u64) -> Counts
-        requires some { 1 ≤ e }
-        requires within { e ≤ self.now.geometry.e }
-        ensures value { result ≡ counts_at self.now e }
-        ensures trace { (es : List Event) → ProfileStandsFor es self.now
-            → result ≡ counts (record self.now.geometry { e = e }) es }
-    {
-        let mut sums = self.begin_sums();
-        self.counts_next(&mut sums, e)
-    }
-
-    /// The sums at associativity 0, with which `counts_next` begins. It takes as long as `fed`.
-    pub fn begin_sums(&self) -> HitSums
-        ensures { result ≡ hit_sums_at self.now 0 }
-    {
-        HitSums {
-            ways: 0,
-            hits: 0,
-            free_misses: 0,
-            fed: self.fed(),
-        }
-    }
-
-    /// Returns the same as `counts`, from sums that `begin_sums` of this profile began. The sums
-    /// are raised to `e` lines per set, so `e` may only rise from call to call, and nothing may be
-    /// fed in between. A call adds only the numbers of the histograms between the two
-    /// associativities. All calls for the same sums, with `begin_sums`, cost about `5 * depth`
-    /// additions.
-    pub fn counts_next(&self, sums: &mut HitSums, e: u64) -> Counts
-        requires some { 1 ≤ e }
-        requires within { e ≤ self.now.geometry.e }
-        requires of_this { sums.old ≡ hit_sums_at self.now sums.old.ways }
-        requires rising { sums.old.ways ≤ e }
-        ensures value { result ≡ counts_at self.now e }
-        ensures trace { (es : List Event) → ProfileStandsFor es self.now
-            → result ≡ counts (record self.now.geometry { e = e }) es }
-        ensures sums { sums.new ≡ hit_sums_at self.now e }
-    {
-        let from = sums.ways;
-        let to = e as usize;
-        let hits = self.hits_between(from, to);
-        let free = total(&self.histograms().misses_by_occupancy[from..to]);
-        sums.ways = to;
-        sums.hits += hits;
-        sums.free_misses += free;
-        let misses = sums.fed - sums.hits;
-        Counts {
-            hits: sums.hits,
-            misses,
-            evictions: misses - sums.free_misses,
-        }
     }
 
     /// The geometry of its deepest caches.
@@ -385,24 +282,4 @@ fn known_geometry(b: u64, s: u64, e: u64) -> Geometry
         unreachable!()
     };
     geometry
-}
-
-/// The sum of a part of a histogram.
-fn total(numbers: &[u64]) -> u64
-    requires { sum numbers.now < 2 ^ 64 }
-    ensures { result ≡ sum numbers.now }
-{
-    numbers.iter().sum()
-}
-
-/// The sum of a histogram's numbers, each times its index.
-fn weighed(numbers: &[u64]) -> u64
-    requires { weighed 0 numbers.now < 2 ^ 64 }
-    ensures { result ≡ weighed 0 numbers.now }
-{
-    let mut sum = 0;
-    for (index, number) in numbers.iter().enumerate() {
-        sum += *number * index as u64;
-    }
-    sum
 }

@@ -3,8 +3,8 @@ use Rattle.std.proofs.Common.{◌≡◌, ◌+◌, ◌*◌, drop, get_or, ◌∙�
 use Rattle.std.proofs.lemmas.List.{drop_all}
 use Rattle.profile_core.specs.internal.profile.StackProfile.{weighed}
 use Rattle.profile_core.proofs.profile.Weighing.{weighed-next, weighed-none}
-use Rattle.profile_core.proofs.profile.weighed.Goals as goal
-use Rattle.profile_core.proofs.profile.weighed.Goals.{In-loop-index}
+use Rattle.profile_core.proofs.profile.counts.weighed.Goals as goal
+use Rattle.profile_core.proofs.profile.counts.weighed.Goals.{In-loop-index}
 
 -- what was added up, with the next number
 next : (c : In-loop-index) → c.loop-index.sum + (get_or c.args.numbers.now c.loop-index.index
