@@ -211,7 +211,7 @@ impl Profile {
         requires behind { is_front_of self.old block ≡ false }
         ensures { self.new ≡ after_reference self.old block }
     {
-        in_any_way!(&mut self.kept, profile => profile.feed_behind_apart(block))
+        in_any_way!(&mut self.kept, profile => profile.feed_single_behind(block))
     }
 
     /// Counts this many references that find their block in front, and one comparison for each.

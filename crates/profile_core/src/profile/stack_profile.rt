@@ -185,35 +185,19 @@ impl<L: SetLists> StackProfile<L> {
         false
     }
 
-    /// Feeds a single reference to a block that is behind the front of its set's list, or not in
-    /// the list. More than a third of these find their block second: the code for the others is a
-    /// function of its own, so that the path of these stays short.
-    #[inline(always)]
-    pub fn feed_behind_apart(&mut self, block: u64)
+    /// Feeds a single reference as `feed_behind` does one of a batch. It is not inlined, so that a
+    /// caller has all registers for references that find their block in front.
+    #[inline(never)]
+    pub fn feed_single_behind(&mut self, block: u64)
         requires few { fed_of self.old < MAX_REFERENCES }
         requires behind { is_front_of self.old block ≡ false }
         ensures { self.new ≡ after_reference self.old block }
     {
         let set = self.geometry.set_of_block(block) as usize;
-        if self.lists.is_second(set, block) {
-            self.feed_second(set, block);
-        } else {
-            self.feed_further_apart(set, block);
-        }
+        self.feed_behind(set, block);
     }
 
-    /// `feed_further`, not inlined.
-    #[inline(never)]
-    fn feed_further_apart(&mut self, set: usize, block: u64)
-        requires next { IsNext self.old set block }
-        requires further { is_second block (list_of self.old set) ≡ false }
-        ensures { self.new ≡ after_reference self.old block }
-    {
-        self.feed_further(set, block);
-    }
-
-    /// Feeds a reference of a batch as `feed_behind_apart` does a single one, with all its code in
-    /// the loop.
+    /// Feeds a reference to a block that is behind the front of its set's list, or not in the list.
     #[inline(always)]
     fn feed_behind(&mut self, set: usize, block: u64)
         requires { IsNext self.old set block }
