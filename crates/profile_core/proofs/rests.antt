@@ -1,4 +1,4 @@
-pub mod RestBringing
+pub mod RestExchange
 pub mod Places
 pub mod SparseRestLemmas
 pub mod SlotLemmas

@@ -6,10 +6,10 @@ pub(crate) mod sparse;
 ghost use Rattle.std.specs.Prelude.{◌≡◌, ◌+◌, ◌-◌, ◌<◌, ◌≤◌, ◌∷◌, false, nat_eq, length, take};
 ghost use Rattle.std.specs.List.{remove};
 ghost use Rattle.profile_core.specs.profile.RecencyList.{index_of};
-ghost use Rattle.profile_core.specs.internal.set_lists.Moves.{rest_touch_of};
+ghost use Rattle.profile_core.specs.internal.set_lists.Moves.{rest_standing_of};
 ghost use Rattle.profile_core.specs.internal.rows.Rows.{RowsValue, row_for, with_row};
 
-use crate::set_lists::recency::Touch;
+use crate::set_lists::recency::Standing;
 
 /// A rest for each set, of `stride` numbers. The first two blocks of a set's list are stored
 /// elsewhere; the others are the first numbers of the set's rest.
@@ -20,14 +20,14 @@ pub trait RestStore: Drop {
     /// Takes a block out of a set's list of `len` blocks, if it is there, and puts `second` in
     /// front of the rest. The block is neither the first nor the second of the list. The list grows
     /// by one if the block is new and the rest has room. No other rest changes.
-    fn bring(&mut self, set: usize, second: u64, len: &mut u32, block: u64) -> Touch
+    fn exchange(&mut self, set: usize, second: u64, len: &mut u32, block: u64) -> Standing
         requires within { set < length (view self.old).rows }
         requires some { 0 < (view self.old).stride }
         requires two { 2 ≤ len.old }
         requires fits { len.old ≤ (view self.old).stride + 2 }
         requires other { nat_eq second block ≡ false }
         ensures found { result
-            ≡ rest_touch_of 2 block (take (len.old - 2) (row_for (view self.old) set)) }
+            ≡ rest_standing_of 2 block (take (len.old - 2) (row_for (view self.old) set)) }
         ensures two { 2 ≤ len.new }
         ensures fits { len.new ≤ (view self.old).stride + 2 }
         ensures moved { let rest = take (len.old - 2) (row_for (view self.old) set) in

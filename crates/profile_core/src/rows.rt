@@ -5,11 +5,11 @@ pub(crate) mod split;
 
 ghost use Rattle.std.specs.Prelude.{◌≡◌, ◌<◌, false, length, slice_index, slice_set};
 ghost use Rattle.profile_core.specs.profile.RecencyList.{is_front};
-ghost use Rattle.profile_core.specs.internal.set_lists.Moves.{is_second, touch_of};
+ghost use Rattle.profile_core.specs.internal.set_lists.Moves.{is_second, standing_of};
 ghost use Rattle.profile_core.specs.internal.set_lists.Lists.{IsRow, IsBroughtInRow};
 ghost use Rattle.profile_core.specs.internal.rows.Rows.{RowsValue, row_for, with_row, list_in_row};
 
-use crate::set_lists::recency::Touch;
+use crate::set_lists::recency::Standing;
 
 /// Rows of `stride` numbers, one for each set.
 pub trait RowStore: Drop {
@@ -32,7 +32,7 @@ pub trait RowStore: Drop {
     /// Brings a block that is neither the front nor the second of a set's list to the front. The
     /// list has `len` blocks: `front`, and the first `len - 1` of its set's row. It grows by one if
     /// the block is new and the row has room. No other row changes.
-    fn bring(&mut self, set: usize, front: &mut u64, len: &mut u32, block: u64) -> Touch
+    fn bring(&mut self, set: usize, front: &mut u64, len: &mut u32, block: u64) -> Standing
         requires within { set < length (view self.old).rows }
         requires some { 0 < len.old }
         requires row { IsRow (row_for (view self.old) set) len.old }
@@ -40,7 +40,7 @@ pub trait RowStore: Drop {
             ≡ false }
         requires further { is_second block (list_in_row (view self.old) set front.old len.old)
             ≡ false }
-        ensures found { result ≡ touch_of block
+        ensures found { result ≡ standing_of block
             (list_in_row (view self.old) set front.old len.old) }
         ensures moved { IsBroughtInRow block (list_in_row (view self.old) set front.old len.old)
             front.new (row_for (view self.new) set) len.new }

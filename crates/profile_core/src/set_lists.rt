@@ -5,10 +5,10 @@ pub(crate) mod recency;
 ghost use Rattle.std.specs.Prelude.{◌≡◌, ◌*◌, ◌<◌, ◌≤◌, [], true, false, length, replicate, sum_by};
 ghost use Rattle.std.specs.Prelude.{slice_index, slice_index_or, IsTrue, ◌↔◌};
 ghost use Rattle.profile_core.specs.profile.RecencyList.{is_front};
-ghost use Rattle.profile_core.specs.internal.set_lists.Moves.{is_second, touch_of};
-ghost use Rattle.profile_core.specs.internal.set_lists.Lists.{Lists, lists_after_touch};
+ghost use Rattle.profile_core.specs.internal.set_lists.Moves.{is_second, standing_of};
+ghost use Rattle.profile_core.specs.internal.set_lists.Lists.{Lists, lists_after_bring};
 
-use crate::set_lists::recency::Touch;
+use crate::set_lists::recency::Standing;
 
 /// A recency list for each set, the most recent block first (LRU stacks, Mattson 1970).
 pub trait SetLists: Drop {
@@ -46,16 +46,16 @@ pub trait SetLists: Drop {
         requires within { set < length (view self.old).lists }
         requires behind { is_front block (slice_index_or (view self.old).lists set []) ≡ false }
         requires second { is_second block (slice_index_or (view self.old).lists set []) ≡ true }
-        ensures { view self.new ≡ lists_after_touch (view self.old) set block };
+        ensures { view self.new ≡ lists_after_bring (view self.old) set block };
 
     /// Brings a block that is neither the front nor the second of a set's list to the front, and
     /// returns where it stood, or that it is new.
-    fn bring(&mut self, set: usize, block: u64) -> Touch
+    fn bring(&mut self, set: usize, block: u64) -> Standing
         requires within { set < length (view self.old).lists }
         requires behind { is_front block (slice_index_or (view self.old).lists set []) ≡ false }
         requires further { is_second block (slice_index_or (view self.old).lists set []) ≡ false }
-        ensures found { result ≡ touch_of block (slice_index_or (view self.old).lists set []) }
-        ensures moved { view self.new ≡ lists_after_touch (view self.old) set block };
+        ensures found { result ≡ standing_of block (slice_index_or (view self.old).lists set []) }
+        ensures moved { view self.new ≡ lists_after_bring (view self.old) set block };
 
     /// Empties the lists.
     fn clear(&mut self)

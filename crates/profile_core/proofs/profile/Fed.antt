@@ -7,11 +7,11 @@ use Rattle.std.proofs.Common.{length-set, length-take}
 use Rattle.std.proofs.Math.Nat.{suc-mul}
 use Rattle.std.proofs.lemmas.List.{get_or_read}
 use Rattle.cache_core.specs.Geometry.{GeometryValue, set_of_block}
-use Rattle.profile_core.specs.declared.set_lists.recency.Touch.TheVariants.{Behind, New}
+use Rattle.profile_core.specs.declared.set_lists.recency.Standing.TheVariants.{Behind, New}
 use Rattle.profile_core.specs.declared.profile.histograms.Histograms.{Histograms}
 use Rattle.profile_core.specs.profile.RecencyList.{is_front, move_to_front}
-use Rattle.profile_core.specs.internal.set_lists.Moves.{touch_of}
-use Rattle.profile_core.specs.internal.set_lists.Lists.{Lists, lists_after_touch}
+use Rattle.profile_core.specs.internal.set_lists.Moves.{standing_of}
+use Rattle.profile_core.specs.internal.set_lists.Lists.{Lists, lists_after_bring}
 use Rattle.profile_core.specs.profile.State.{ProfileState, list_of, fed_of, after_reference}
 use Rattle.profile_core.specs.internal.profile.StackProfile.{IsSound, IsNext, compared_behind}
 use Rattle.profile_core.specs.internal.profile.StackProfile.{distances_of, most_references}
@@ -93,10 +93,10 @@ pub record IsMoved (g : GeometryValue) (was now : Lists) (behind missed : List �
   pub sound : IsSound g was behind missed probes
   pub view_is : state_of g was behind missed probes ≡ v
   pub next : IsNext v k x
-  pub moved : now ≡ lists_after_touch was k x
+  pub moved : now ≡ lists_after_bring was k x
 
 pub moved_of : {g : GeometryValue} {was now : Lists} {k x : ℕ} {v : ProfileState} (h : Histograms) →
-    AreSound g was h → profile_of g was h ≡ v → IsNext v k x → now ≡ lists_after_touch was k x →
+    AreSound g was h → profile_of g was h ≡ v → IsNext v k x → now ≡ lists_after_bring was k x →
     IsMoved g was now h.behind.items h.misses_by_occupancy.items h.probes x k v
 moved_of h sound view_is next moved =
     record { sound = sound; view_is = view_is; next = next; moved = moved }
@@ -130,10 +130,10 @@ module _ {g : GeometryValue} {was now : Lists} {behind missed : List ℕ} {probe
   sets = ap length moved ∙ length-set was.lists k _
 
   -- where it was found
-  pub found_of : {distance : ℕ} → Behind distance ≡ touch_of x list → FoundAt x distance list
+  pub found_of : {distance : ℕ} → Behind distance ≡ standing_of x list → FoundAt x distance list
   found_of {distance} at = found_behind x distance list at
 
-  pub nowhere_of : {len : ℕ} → New len ≡ touch_of x list → FoundNowhere x len list
+  pub nowhere_of : {len : ℕ} → New len ≡ standing_of x list → FoundNowhere x len list
   nowhere_of {len} at = found_nowhere x len list at
 
   -- found at a distance behind the front

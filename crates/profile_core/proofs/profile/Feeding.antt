@@ -10,9 +10,9 @@ use Rattle.std.specs.Prelude.{replicate}
 use Rattle.std.proofs.lemmas.List.{length-replicate}
 use Rattle.cache_core.proofs.Lists.{list_any_is}
 use Rattle.cache_core.specs.Geometry.{GeometryValue, set_of_block}
-use Rattle.profile_core.specs.declared.set_lists.recency.Touch.TheVariants.{Behind, New}
+use Rattle.profile_core.specs.declared.set_lists.recency.Standing.TheVariants.{Behind, New}
 use Rattle.profile_core.specs.profile.RecencyList.{index_of, is_in, is_front, move_to_front}
-use Rattle.profile_core.specs.internal.set_lists.Moves.{is_second, touch_of}
+use Rattle.profile_core.specs.internal.set_lists.Moves.{is_second, standing_of}
 use Rattle.profile_core.specs.internal.set_lists.Lists.{Lists}
 use Rattle.profile_core.specs.profile.State.{ProfileState, list_of, one_more_at, after_reference}
 use Rattle.profile_core.specs.profile.State.{fed_of, empty}
@@ -54,10 +54,10 @@ front_stays x e (y ∷ ys) front short =
     ap (λ z. take e (z ∷ ys)) (sym (eqb-true y x front))
     ∙ take_all e (y ∷ ys) short
 
-pub found_behind : (x distance : ℕ) (xs : List ℕ) → Behind distance ≡ touch_of x xs →
+pub found_behind : (x distance : ℕ) (xs : List ℕ) → Behind distance ≡ standing_of x xs →
     FoundAt x distance xs
-found_behind x distance xs touch =
-    let at = behind_at (is_in x xs) distance (index_of x xs) (length xs) touch in
+found_behind x distance xs standing =
+    let at = behind_at (is_in x xs) distance (index_of x xs) (length xs) standing in
     let lt : index_of x xs < length xs = ltb-true (index_of x xs) (length xs)
     (sym (list_any_is (λ z. eqb z x) xs) ∙ at.0) in
     record { inside = at.0; distance_is = sym at.1; within = omega (arith, at.1, lt) }
@@ -86,9 +86,9 @@ pub record FoundNowhere (x len : ℕ) (xs : List ℕ) : Type 0 where
   pub index_is : index_of x xs ≡ length xs
   pub len_is : len ≡ length xs
 
-pub found_nowhere : (x len : ℕ) (xs : List ℕ) → New len ≡ touch_of x xs → FoundNowhere x len xs
-found_nowhere x len xs touch =
-    let at = new_at (is_in x xs) len (index_of x xs) (length xs) touch in
+pub found_nowhere : (x len : ℕ) (xs : List ℕ) → New len ≡ standing_of x xs → FoundNowhere x len xs
+found_nowhere x len xs standing =
+    let at = new_at (is_in x xs) len (index_of x xs) (length xs) standing in
     record {
       outside = at.0;
       index_is = absent_at (is_in x xs) (index_of x xs) (length xs) (list_any_is (λ z. eqb z x) xs)

@@ -11,12 +11,12 @@ use Rattle.std.proofs.lemmas.List.{drop-map, get_or-drop, length-drop}
 use Rattle.std.proofs.lemmas.List.Sums.{fails_before_first}
 use Rattle.std.proofs.lemmas.Nat.{shr-shr, shr_le}
 use Rattle.std.proofs.lemmas.Simd.{leading_from_mask_l, trailing_mask_l}
-use Rattle.profile_core.specs.declared.set_lists.recency.Touch.TheVariants.{Behind, New}
+use Rattle.profile_core.specs.declared.set_lists.recency.Standing.TheVariants.{Behind, New}
 use Rattle.profile_core.specs.profile.RecencyList.{is_in}
-use Rattle.profile_core.specs.internal.set_lists.Moves.{touch_of}
+use Rattle.profile_core.specs.internal.set_lists.Moves.{standing_of}
 use Rattle.profile_core.specs.internal.rests.Slots.{mark_of, ordered_numbers, IsOrder}
 use Rattle.profile_core.proofs.rests.SlotLemmas.{length-ordered_numbers, ordered_numbers_at}
-use Rattle.profile_core.proofs.rests.SlotLemmas.{found_at, found_nowhere, touch_found, touch_new}
+use Rattle.profile_core.proofs.rests.SlotLemmas.{found_at, found_nowhere, standing_found, standing_new}
 use Rattle.profile_core.proofs.rests.SlotLemmas.{absent_to, absent_at}
 
 mask_half : (m : Bool) (ms : List Bool) → mask_l (m ∷ ms) / 2 ^ 1 ≡ mask_l ms
@@ -76,11 +76,11 @@ module _ {marks slots blocks : List ℕ} {len x place left : ℕ}
   ])
 
   -- a walk that has come to the end
-  new_to : (n : ℕ) → len ≤ n → is_in x (take n list) ≡ false → New len ≡ touch_of x list
-  new_to n le none = touch_new x len list long (found_nowhere x list (λ k h e.
+  new_to : (n : ℕ) → len ≤ n → is_in x (take n list) ≡ false → New len ≡ standing_of x list
+  new_to n le none = standing_new x len list long (found_nowhere x list (λ k h e.
       absent_at x n k list none (omega (arith, long)) h e))
 
-  pub new_unmarked : left ≡ 0 → New len ≡ touch_of x list
+  pub new_unmarked : left ≡ 0 → New len ≡ standing_of x list
   new_unmarked none =
       let all : position_or_len (λ m. eqb m (mark_of x)) (drop place marks) ≡
       length (drop place marks) =
@@ -112,15 +112,15 @@ module _ {marks slots blocks : List ℕ} {len x place left : ℕ}
     absent_before : is_in x (take next list) ≡ false
     absent_before = absent_past (count_trailing_zeros 64 left) (omega (arith, others_are))
 
-    pub new_past : len ≤ next → New len ≡ touch_of x list
+    pub new_past : len ≤ next → New len ≡ standing_of x list
     new_past le = new_to next le absent_before
 
     -- the next block with the mark is x, or the walk goes on behind it
     pub found_marked : next < len → get_or blocks (get_or slots next 0) 0 ≡ x →
-        Behind next ≡ touch_of x list
+        Behind next ≡ standing_of x list
     found_marked lt at =
         let within : next < length list = omega (arith, long) in
-        touch_found x next list (found_at x next list within
+        standing_found x next list (found_at x next list within
         (λ k h e. absent_at x next k list absent_before h (omega arith) e)
         (ordered_numbers_at slots blocks len next fits lt ∙ at)) within
 

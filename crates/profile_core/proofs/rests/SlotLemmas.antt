@@ -13,10 +13,10 @@ use Rattle.std.proofs.lemmas.List.Edits.{get_or-remove_below, get_or-remove_abov
 use Rattle.std.proofs.lemmas.Simd.{swz_l, put_chunk_whole}
 use Rattle.std.specs.Simd.Lanes.{sel_l, top, zip2, put_chunk}
 use Rattle.std.specs.List.{remove}
-use Rattle.profile_core.specs.declared.set_lists.recency.Touch.TheVariants.{Behind, New}
+use Rattle.profile_core.specs.declared.set_lists.recency.Standing.TheVariants.{Behind, New}
 use Rattle.profile_core.specs.declared.rests.slotted.TheConstants.{TURNS, FIRST_LANE}
 use Rattle.profile_core.specs.profile.RecencyList.{index_of, is_in}
-use Rattle.profile_core.specs.internal.set_lists.Moves.{touch_of}
+use Rattle.profile_core.specs.internal.set_lists.Moves.{standing_of}
 use Rattle.profile_core.specs.internal.rests.Slots.{mark_of, ordered_numbers, IsOrder}
 use Rattle.profile_core.proofs.Elements.{all_same}
 use Rattle.profile_core.proofs.rows.Shifting.{index_found, index_end, is_found, is_absent}
@@ -52,13 +52,13 @@ pub found_nowhere : (x : ℕ) (xs : List ℕ) → ((k : ℕ) → k < length xs �
     index_of x xs ≡ length xs
 found_nowhere x xs others = index_end x xs (λ k h. ne_eqb (get_or xs k 0) x (others k h))
 
-pub touch_found : (x p : ℕ) (xs : List ℕ) → index_of x xs ≡ p → p < length xs →
-    Behind p ≡ touch_of x xs
-touch_found x p xs at lt = grind (arith, is_found)
+pub standing_found : (x p : ℕ) (xs : List ℕ) → index_of x xs ≡ p → p < length xs →
+    Behind p ≡ standing_of x xs
+standing_found x p xs at lt = grind (arith, is_found)
 
-pub touch_new : (x n : ℕ) (xs : List ℕ) → length xs ≡ n → index_of x xs ≡ length xs →
-    New n ≡ touch_of x xs
-touch_new x n xs long at = grind (arith, is_absent)
+pub standing_new : (x n : ℕ) (xs : List ℕ) → length xs ≡ n → index_of x xs ≡ length xs →
+    New n ≡ standing_of x xs
+standing_new x n xs long at = grind (arith, is_absent)
 
 -- a list without x, as far as n
 pub absent_to : (x n : ℕ) (xs : List ℕ) →

@@ -4,10 +4,10 @@ use Rattle.std.proofs.Common.{length, take, min, refl, sym, ◌∙◌, ap, subst
 use Rattle.std.specs.List.{remove}
 use Rattle.std.proofs.lemmas.Bool.{cases_lt}
 use Rattle.std.proofs.lemmas.List.{take_all, take-take, length-take-le}
-use Rattle.profile_core.specs.declared.set_lists.recency.Touch.TheVariants.{Behind, New}
+use Rattle.profile_core.specs.declared.set_lists.recency.Standing.TheVariants.{Behind, New}
 use Rattle.profile_core.specs.declared.rests.slotted.Slots.{Slots}
 use Rattle.profile_core.specs.profile.RecencyList.{index_of}
-use Rattle.profile_core.specs.internal.set_lists.Moves.{touch_of}
+use Rattle.profile_core.specs.internal.set_lists.Moves.{standing_of}
 use Rattle.profile_core.specs.internal.rests.Slots.{ordered_numbers}
 use Rattle.profile_core.proofs.profile.Feeding.{FoundAt, FoundNowhere, found_behind, found_nowhere}
 use Rattle.profile_core.proofs.rows.Shifting.{length-remove, remove_end}
@@ -87,7 +87,7 @@ module _ (x y len most : ℕ) (before after : Slots) (o : AreOrdered before) (so
   list_is : list ≡ take held whole
   list_is = ordered_numbers_take before.order before.numbers held 16 few
 
-  module _ (p : ℕ) (at : Behind p ≡ touch_of x list) where
+  module _ (p : ℕ) (at : Behind p ≡ standing_of x list) where
     found : FoundAt x p list
     found = found_behind x p list at
 
@@ -109,7 +109,7 @@ module _ (x y len most : ℕ) (before after : Slots) (o : AreOrdered before) (so
         short (omega (arith, fits)) p put
         (sym (ap (index_of x) list_is) ∙ found.distance_is) found_lt)
 
-  module _ (h : ℕ) (at : New h ≡ touch_of x list) where
+  module _ (h : ℕ) (at : New h ≡ standing_of x list) where
     nowhere : FoundNowhere x h list
     nowhere = found_nowhere x h list at
 

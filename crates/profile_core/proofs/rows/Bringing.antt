@@ -82,10 +82,6 @@ module _ {x y h : ℕ} {rest after : List ℕ} (s : IsShifted x y h rest after) 
       (length rest + 1) (move_to_front x list)
   row_found le = grind (arith, row_kept, length-remove, size, take_all)
 
-  pub row_full : length rest ≤ h → take (suc h) (x ∷ (after ++ drop h rest)) ≡ take
-      (length rest + 1) (move_to_front x list)
-  row_full full = row_kept (ap (λ j. take j others) (omega (arith, full, s.within)))
-
   pub row_grown : (last : ℕ) → h < length rest → index_of x list ≡ length list →
       last ≡ get_or list (length list - 1) 0
       → take (suc (suc h)) (x ∷ set (after ++ drop h rest) h last) ≡ take (length rest + 1)

@@ -8,7 +8,7 @@ use Rattle.std.specs.Prelude.{replicate}
 use Rattle.std.proofs.lemmas.Bool.{ne_eqb}
 use Rattle.std.proofs.lemmas.List.{take_all, get_or-replicate, length-replicate, set-get_or}
 use Rattle.profile_core.specs.profile.RecencyList.{index_of, is_in, is_front, move_to_front}
-use Rattle.profile_core.specs.internal.set_lists.Moves.{is_second, touch_of, rest_touch_of}
+use Rattle.profile_core.specs.internal.set_lists.Moves.{is_second, standing_of, rest_standing_of}
 use Rattle.profile_core.specs.internal.rows.Rows.{RowsValue, rows_by_set, row_for, with_row}
 use Rattle.profile_core.specs.internal.rows.Rows.{blank_rows, list_in_row}
 use Rattle.profile_core.specs.internal.set_lists.Lists.{IsBroughtInRow}
@@ -52,8 +52,8 @@ module _ (x y z len : ℕ) (rest : List ℕ) (two : 2 ≤ len) where
     pub second_other : eqb z x ≡ false
     second_other = ne_eqb z x second
 
-    pub two_touch : rest_touch_of 2 x others ≡ touch_of x list
-    two_touch = grind (arith, list_is, in_two, behind_two, first, second)
+    pub two_standing : rest_standing_of 2 x others ≡ standing_of x list
+    two_standing = grind (arith, list_is, in_two, behind_two, first, second)
 
     -- the row once x is in front, and y the first number of it
     pub two_brought : (n len' : ℕ) (rest' : List ℕ) → 1 ≤ n → n ≤ 2 ^ 21 → length rest' ≡ n →
@@ -199,9 +199,9 @@ module _ {k : ℕ} {firsts : List ℕ} {rests rows : RowsValue} (r : HasSplit k 
   pub second_apart : eqb z x ≡ false
   second_apart = second_other x y z len (row_for rests k) two is_behind is_further
 
-  pub rest_touch : rest_touch_of 2 x (take (len - 2) (row_for rests k)) ≡
-      touch_of x (list_in_row rows k y len)
-  rest_touch = grind (arith, two_touch, shape)
+  pub rest_standing : rest_standing_of 2 x (take (len - 2) (row_for rests k)) ≡
+      standing_of x (list_in_row rows k y len)
+  rest_standing = grind (arith, two_standing, shape)
 
   pub rest_brought : (len' : ℕ) (rest' : List ℕ) → length rest' ≡ rests.stride → 2 ≤ len' →
       len' ≤ rests.stride + 2 →

@@ -8,8 +8,8 @@ use Rattle.std.proofs.lemmas.List.{take_all, take_at, length-take-le, take_more,
 use Rattle.std.proofs.lemmas.List.Edits.{remove-append_left, remove-append_right}
 use Rattle.deep_list.specs.Deep.{IsOnce}
 use Rattle.profile_core.specs.profile.RecencyList.{index_of, is_in, is_front, move_to_front}
-use Rattle.profile_core.specs.internal.set_lists.Moves.{is_second, touch_of}
-use Rattle.profile_core.specs.declared.set_lists.recency.Touch.TheVariants.{Behind, New}
+use Rattle.profile_core.specs.internal.set_lists.Moves.{is_second, standing_of}
+use Rattle.profile_core.specs.declared.set_lists.recency.Standing.TheVariants.{Behind, New}
 use Rattle.profile_core.proofs.rows.Shifting.{length-remove}
 
 -- a block in a list of two parts
@@ -141,8 +141,8 @@ length-take_le n xs = omega (arith, length-take n xs)
 module _ (w b x : ℕ) (xs ys : List ℕ) where
   -- x is in the first part
   module _ (inside : is_in x xs ≡ true) (short : length xs ≤ w) (rest_short : length ys ≤ b) where
-    pub near_touch : touch_of x xs ≡ touch_of x (xs ++ ys)
-    near_touch = grind (arith, index-append_left, is_in-append)
+    pub near_standing : standing_of x xs ≡ standing_of x (xs ++ ys)
+    near_standing = grind (arith, index-append_left, is_in-append)
 
     pub near_moved : take (w + b) (move_to_front x (xs ++ ys)) ≡ take w (move_to_front x xs) ++ ys
     near_moved = grind (
@@ -190,10 +190,10 @@ module _ (w b x : ℕ) (xs ys : List ℕ) where
         take_past front (last ∷ left) w b long
         ∙ ap (λ zs. zs ++ take b (last ∷ left)) (sym near)
 
-    pub far_found : is_in x ys ≡ true → Behind (length xs + index_of x ys) ≡ touch_of x (xs ++ ys)
+    pub far_found : is_in x ys ≡ true → Behind (length xs + index_of x ys) ≡ standing_of x (xs ++ ys)
     far_found inside = grind (arith, index-append_right, is_in-append)
 
-    pub far_new : is_in x ys ≡ false → New (length xs + length ys) ≡ touch_of x (xs ++ ys)
+    pub far_new : is_in x ys ≡ false → New (length xs + length ys) ≡ standing_of x (xs ++ ys)
     far_new none = grind (arith, length-append, is_in-append)
 
 pub none_of : (xs : List ℕ) → (xs ≢ [] → ⊥) → xs ≡ []

@@ -8,12 +8,12 @@ use Rattle.std.proofs.lemmas.Bool.{ltb-true, ltb-false}
 use Rattle.std.proofs.lemmas.List.{length-take-le, get_or_read}
 use Rattle.deep_list.specs.Deep.{Deep, list_after_exchange}
 use Rattle.profile_core.specs.profile.RecencyList.{index_of, is_in, move_to_front}
-use Rattle.profile_core.specs.internal.set_lists.Moves.{touch_of, rest_touch_of}
-use Rattle.profile_core.specs.declared.set_lists.recency.Touch.{Touch}
+use Rattle.profile_core.specs.internal.set_lists.Moves.{standing_of, rest_standing_of}
+use Rattle.profile_core.specs.declared.set_lists.recency.Standing.{Standing}
 use Rattle.profile_core.specs.declared.set_lists.long_lists.InRow.TheVariants.{Settled, Full}
-use Rattle.profile_core.specs.internal.set_lists.Lists.{Lists, lists_after_touch}
+use Rattle.profile_core.specs.internal.set_lists.Lists.{Lists, lists_after_bring}
 use Rattle.profile_core.specs.internal.set_lists.LongLists.{nothing, in_row_of}
-use Rattle.profile_core.proofs.set_lists.ListParts.{near_touch, once_apart, remove_past}
+use Rattle.profile_core.proofs.set_lists.ListParts.{near_standing, once_apart, remove_past}
 use Rattle.profile_core.proofs.set_lists.ListParts.{index_absent, length-take_le, far_moved}
 use Rattle.profile_core.proofs.set_lists.ListParts.{far_found, far_new}
 use Rattle.profile_core.proofs.set_lists.LongListLemmas.{HasWhole, IsRenewed, row, rest, list}
@@ -24,14 +24,14 @@ is_or : (b : Bool) → (b ≡ true) ⊎ (b ≡ false)
 is_or true = inl refl
 is_or false = inr refl
 
-settled_at : (b1 b2 : Bool) (t t' : Touch) (held last : ℕ) → Settled t ≡ cond b1 (Settled t')
+settled_at : (b1 b2 : Bool) (t t' : Standing) (held last : ℕ) → Settled t ≡ cond b1 (Settled t')
     (cond b2 (Settled t') (Full held last))
     → ((b1 ≡ true) ⊎ ((b2 ≡ true) × (b1 ≡ false))) × (t ≡ t')
 settled_at true b2 t t' held last e = (inl refl, cc)
 settled_at false true t t' held last e = (inr (refl, refl), cc)
 settled_at false false t t' held last e = absurd (cc)
 
-full_at : (b1 b2 : Bool) (t' : Touch) (h l held last : ℕ) → Full h l ≡ cond b1 (Settled t')
+full_at : (b1 b2 : Bool) (t' : Standing) (h l held last : ℕ) → Full h l ≡ cond b1 (Settled t')
     (cond b2 (Settled t') (Full held last))
     → (b1 ≡ false) × (b2 ≡ false) × (h ≡ held) × (l ≡ last)
 full_at true b2 t' h l held last e = absurd (cc)
@@ -41,18 +41,18 @@ full_at false false t' h l held last e = (refl, refl, cc, cc)
 -- a row that tells where the block stands
 module _ {near : Lists} {beyond : ℕ} {far : List Deep} {k : ℕ} {v : Lists}
     (r : HasWhole near beyond far k v) (x : ℕ) where
-  stays_touch : StaysIn r x → touch_of x (row r) ≡ touch_of x (list r)
-  stays_touch h = elim h [
-    | inl inside ↦ near_touch near.depth beyond x (row r) (rest r) inside (r.sound.short k)
+  stays_standing : StaysIn r x → standing_of x (row r) ≡ standing_of x (list r)
+  stays_standing h = elim h [
+    | inl inside ↦ near_standing near.depth beyond x (row r) (rest r) inside (r.sound.short k)
         (r.sound.rest_short k)
-    | inr new ↦ ap (touch_of x) (sym (append-nil (row r)) ∙
+    | inr new ↦ ap (standing_of x) (sym (append-nil (row r)) ∙
         ap (λ zs. row r ++ zs) (sym (rest_behind r new.0)))
-  ] ∙ ap (touch_of x) (sym (list_is r))
+  ] ∙ ap (standing_of x) (sym (list_is r))
 
-  module _ {t : Touch} (e : Settled t ≡ in_row_of near.depth x (row r)) where
+  module _ {t : Standing} (e : Settled t ≡ in_row_of near.depth x (row r)) where
     at : (((is_in x (row r)) ≡ true) ⊎ ((ltb (length (row r)) near.depth ≡ true) ×
-        (is_in x (row r) ≡ false))) × (t ≡ touch_of x (row r))
-    at = settled_at (is_in x (row r)) (ltb (length (row r)) near.depth) t (touch_of x (row r))
+        (is_in x (row r) ≡ false))) × (t ≡ standing_of x (row r))
+    at = settled_at (is_in x (row r)) (ltb (length (row r)) near.depth) t (standing_of x (row r))
         (length (row r)) (get_or (row r) (near.depth - 1) 0) e
 
     pub settled_stays : StaysIn r x
@@ -61,8 +61,8 @@ module _ {near : Lists} {beyond : ℕ} {far : List Deep} {k : ℕ} {v : Lists}
       | inr new ↦ inr (ltb-true (length (row r)) near.depth new.0, new.1)
     ]
 
-    pub settled_touch : t ≡ touch_of x (list r)
-    settled_touch = at.1 ∙ stays_touch settled_stays
+    pub settled_standing : t ≡ standing_of x (list r)
+    settled_standing = at.1 ∙ stays_standing settled_stays
 
 -- a full row, of which the last block falls out: that block goes to the front of the others, and x
 -- out of them
@@ -79,7 +79,7 @@ pub full_is : {near : Lists} {beyond : ℕ} {far : List Deep} {k x held last : �
     →
     IsFull near beyond far x k held last v
 full_is {near} {beyond} {far} {k} {x} {held} {last} {v} r e =
-    let at = full_at (is_in x (row r)) (ltb (length (row r)) near.depth) (touch_of x (row r)) held
+    let at = full_at (is_in x (row r)) (ltb (length (row r)) near.depth) (standing_of x (row r)) held
     last (length (row r)) (get_or (row r) (near.depth - 1) 0) e in
     record {
       whole = r;
@@ -127,11 +127,11 @@ module _ {near : Lists} {beyond : ℕ} {far : List Deep} {x k held last : ℕ} {
   row_long : length (take near.depth (move_to_front x front)) ≡ near.depth
   row_long = grind (arith, length-take-le, remove_past, index_absent, f.absent, f.full)
 
-  pub full_touch : rest_touch_of held x behind ≡ touch_of x (list f.whole)
-  full_touch = grind (arith, far_found, far_new, list_is)
+  pub full_standing : rest_standing_of held x behind ≡ standing_of x (list f.whole)
+  full_standing = grind (arith, far_found, far_new, list_is)
 
   pub full_renewed : (d : Deep) → d ≡ list_after_exchange (get_or far k nothing) x last →
-      {near' : Lists} → near' ≡ lists_after_touch near k x →
+      {near' : Lists} → near' ≡ lists_after_bring near k x →
       IsRenewed near' beyond (set far k d) k x v
   full_renewed d put is =
       let cap : (get_or far k nothing).cap ≡ beyond =

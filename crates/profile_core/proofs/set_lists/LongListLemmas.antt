@@ -11,7 +11,7 @@ use Rattle.std.proofs.lemmas.List.Sums.{sum_by-cons}
 use Rattle.deep_list.specs.Deep.{Deep, IsOnce}
 use Rattle.profile_core.specs.profile.RecencyList.{is_in, is_front, move_to_front}
 use Rattle.profile_core.specs.internal.set_lists.Moves.{is_second}
-use Rattle.profile_core.specs.internal.set_lists.Lists.{Lists, lists_after_touch}
+use Rattle.profile_core.specs.internal.set_lists.Lists.{Lists, lists_after_bring}
 use Rattle.profile_core.proofs.Elements.{all_set, all_same}
 use Rattle.profile_core.proofs.rows.Shifting.{length-remove}
 use Rattle.profile_core.specs.internal.set_lists.LongLists.{whole_lists, nothing, rest_of}
@@ -63,7 +63,7 @@ pub record IsRenewed (near : Lists) (beyond : ℕ) (far : List Deep) (k x : ℕ)
     (v : Lists) : Type 0 where
   pub sound : AreSplit near beyond far
   pub seen : record { depth = near.depth + beyond; lists = whole_lists near.lists far } ≡
-      lists_after_touch v k x
+      lists_after_bring v k x
 
 module _ {near : Lists} {beyond : ℕ} {far : List Deep} {k : ℕ} {v : Lists}
     (r : HasWhole near beyond far k v) where
@@ -121,7 +121,7 @@ module _ {near : Lists} {beyond : ℕ} {far : List Deep} {k : ℕ} {v : Lists}
     pub renewed : (d : Deep) → d.cap ≡ beyond → length d.blocks ≤ beyond →
         (d.blocks ≢ [] → length after ≡ near.depth) →
         take (near.depth + beyond) (move_to_front x (row ++ rest)) ≡ after ++ d.blocks →
-        {near' : Lists} → near' ≡ lists_after_touch near k x → {far' : List Deep} →
+        {near' : Lists} → near' ≡ lists_after_bring near k x → {far' : List Deep} →
         far' ≡ set far k d → IsRenewed near' beyond far' k x v
     renewed d cap short full moved {near'} near_is {far'} far_is =
         let lists = set near.lists k after in
@@ -129,7 +129,7 @@ module _ {near : Lists} {beyond : ℕ} {far : List Deep} {k : ℕ} {v : Lists}
         let once : IsOnce (after ++ d.blocks) = subst (λ ys. IsOnce ys) moved
         (once_moved x (near.depth + beyond) (row ++ rest) (r.sound.once k)) in
         subst (λ n. IsRenewed n beyond far' k x v) (sym near_is)
-        (subst (λ f. IsRenewed (lists_after_touch near k x) beyond f k x v) (sym far_is) (record {
+        (subst (λ f. IsRenewed (lists_after_bring near k x) beyond f k x v) (sym far_is) (record {
           sound = record {
             far_len = length-set far k d ∙ r.sound.far_len ∙ sym (length-set near.lists k after);
             two = r.sound.two;
@@ -157,7 +157,7 @@ module _ {near : Lists} {beyond : ℕ} {far : List Deep} {k : ℕ} {v : Lists}
               ∙ ap (set (whole_lists near.lists far) k)
               (sym moved ∙ ap (λ zs. take (near.depth + beyond) (move_to_front x zs))
               (sym (joined_at near.lists far k within))))
-              ∙ ap (λ w. lists_after_touch w k x) r.seen;
+              ∙ ap (λ w. lists_after_bring w k x) r.seen;
         }))
 
     -- x stands in the row, or is a new block of a list that is all in its row: no other leaves it
@@ -175,7 +175,7 @@ module _ {near : Lists} {beyond : ℕ} {far : List Deep} {k : ℕ} {v : Lists}
     after_long : StaysIn → rest ≢ [] → length after ≡ near.depth
     after_long h some = grind (arith, length-remove, index-lt, take_all, rest_behind)
 
-    pub stays : StaysIn → {near' : Lists} → near' ≡ lists_after_touch near k x →
+    pub stays : StaysIn → {near' : Lists} → near' ≡ lists_after_bring near k x →
         IsRenewed near' beyond far k x v
     stays h is = renewed (get_or far k nothing) (r.sound.caps k within_far) (r.sound.rest_short k)
         (after_long h) (stays_moved h) is (sym (set-get_or far k nothing))

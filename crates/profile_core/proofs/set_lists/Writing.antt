@@ -17,7 +17,7 @@ use Rattle.profile_core.proofs.set_lists.ListLemmas.{HasList, list_set, within, 
 use Rattle.profile_core.proofs.set_lists.ListLemmas.{list_size, row_long, len_read, front_read}
 
 -- what is known where set k is touched: its list, whose length and front are read
-pub record IsTouched (k held front : ℕ) (fronts : List ℕ) (rows : RowsValue) (lens : List ℕ)
+pub record IsReadList (k held front : ℕ) (fronts : List ℕ) (rows : RowsValue) (lens : List ℕ)
     (touched : TouchedValue) (lists : List (List ℕ)) : Type 0 where
   pub known : HasList k fronts rows lens touched lists
   pub held_is : held ≡ get_or lens k 0
@@ -48,7 +48,7 @@ covers_kept touched lens k held len lt is some covers =
 
 module _ {k held front : ℕ} {fronts : List ℕ} {rows : RowsValue} {lens : List ℕ}
     {touched : TouchedValue} {lists : List (List ℕ)}
-    (t : IsTouched k held front fronts rows lens touched lists) where
+    (t : IsReadList k held front fronts rows lens touched lists) where
   abbrev list : List ℕ
   list = get_or lists k []
 
@@ -139,9 +139,9 @@ module _ {k held front : ℕ} {fronts : List ℕ} {rows : RowsValue} {lens : Lis
 module _ {k : ℕ} {fronts : List ℕ} {rows : RowsValue} {lens : List ℕ} {touched : TouchedValue}
     {lists : List (List ℕ)} (l : HasList k fronts rows lens touched lists) where
   -- the length and the front as they are read
-  pub touched_at : {held front : ℕ} → held ≡ get_or lens k held → front ≡ get_or fronts k front →
-      IsTouched k held front fronts rows lens touched lists
-  touched_at held front =
+  pub read_at : {held front : ℕ} → held ≡ get_or lens k held → front ≡ get_or fronts k front →
+      IsReadList k held front fronts rows lens touched lists
+  read_at held front =
       record { known = l; held_is = len_read l held; front_is = front_read l front }
 
   -- an empty list gets its first block
@@ -149,7 +149,7 @@ module _ {k : ℕ} {fronts : List ℕ} {rows : RowsValue} {lens : List ℕ} {tou
       touched' ≡ after_count k 0 1 touched →
       IsBrought rows.stride k x (set fronts k x) rows (set lens k 1) touched' lists
   first_brought x {touched'} none grown =
-      let t : IsTouched k 0 (get_or fronts k 0) fronts rows lens touched lists = record {
+      let t : IsReadList k 0 (get_or fronts k 0) fronts rows lens touched lists = record {
         known = l;
         held_is = omega (arith, list_size l, ap length none);
         front_is = refl;

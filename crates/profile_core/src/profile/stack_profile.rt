@@ -13,7 +13,7 @@ ghost use Rattle.profile_core.specs.internal.profile.StackProfile.{IsNext, AreHi
 use crate::profile::MAX_REFERENCES;
 use crate::profile::histograms::Histograms;
 use crate::set_lists::SetLists;
-use crate::set_lists::recency::Touch;
+use crate::set_lists::recency::Standing;
 use cache_core::Geometry;
 use std::alloc::{AllocError, Global};
 use std::marker::Model;
@@ -231,11 +231,11 @@ impl<L: SetLists> StackProfile<L> {
         ensures { self.new ≡ after_reference self.old block }
     {
         match self.lists.bring(set, block) {
-            Touch::Behind(distance) => {
+            Standing::Behind(distance) => {
                 self.histograms.probes += distance as u64 + 1;
                 self.histograms.behind[distance] += 1;
             }
-            Touch::New(held) => {
+            Standing::New(held) => {
                 self.histograms.probes += held as u64;
                 self.histograms.misses_by_occupancy[held] += 1;
             }

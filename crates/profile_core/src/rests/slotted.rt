@@ -6,13 +6,13 @@ ghost use Rattle.std.specs.Prelude.{ℕ};
 ghost use Rattle.std.specs.Simd.Lanes.{mask_l};
 ghost use Rattle.std.specs.List.{remove};
 ghost use Rattle.profile_core.specs.profile.RecencyList.{index_of};
-ghost use Rattle.profile_core.specs.internal.set_lists.Moves.{touch_of, rest_touch_of};
+ghost use Rattle.profile_core.specs.internal.set_lists.Moves.{standing_of, rest_standing_of};
 ghost use Rattle.profile_core.specs.internal.rows.Rows.{blank_rows};
 ghost use Rattle.profile_core.specs.internal.rests.Slots.{mark_of, ordered_numbers, IsOrder};
 ghost use Rattle.profile_core.specs.internal.rests.SlottedRests.{no_slots, ArePlaced};
 
 use crate::rests::RestStore;
-use crate::set_lists::recency::Touch;
+use crate::set_lists::recency::Standing;
 use std::alloc::{AllocError, Global};
 use std::marker::Model;
 use std::simd::prelude::*;
@@ -91,9 +91,9 @@ impl RestStore for SlottedRests {
     ghost view = { λ r. r };
 
     #[inline(always)]
-    fn bring(&mut self, set: usize, second: u64, len: &mut u32, block: u64) -> Touch {
+    fn exchange(&mut self, set: usize, second: u64, len: &mut u32, block: u64) -> Standing {
         let rest = own_rest(&mut self.places, &mut self.rests, set);
-        bring_in_slots(&mut self.rests[rest], self.stride, second, len, block)
+        exchange_in_slots(&mut self.rests[rest], self.stride, second, len, block)
     }
 }
 
@@ -137,14 +137,20 @@ fn take_slots(rests: &mut Vec<Slots>) -> u32
 /// Takes a block out of a list of `len` blocks, of which it is neither of the first two. Those
 /// behind the two are in slots, where `second` becomes the first of at most `most`.
 #[inline(always)]
-fn bring_in_slots(slots: &mut Slots, most: usize, second: u64, len: &mut u32, block: u64) -> Touch
+fn exchange_in_slots(
+    slots: &mut Slots,
+    most: usize,
+    second: u64,
+    len: &mut u32,
+    block: u64,
+) -> Standing
     requires sound { IsOrder slots.old.marks slots.old.order slots.old.numbers }
     requires some { 1 ≤ most }
     requires most { most ≤ 16 }
     requires two { 2 ≤ len.old }
     requires fits { len.old ≤ most + 2 }
     ensures found { result
-        ≡ rest_touch_of 2 block (ordered_numbers slots.old.order slots.old.numbers (len.old - 2)) }
+        ≡ rest_standing_of 2 block (ordered_numbers slots.old.order slots.old.numbers (len.old - 2)) }
     ensures sound { IsOrder slots.new.marks slots.new.order slots.new.numbers }
     ensures two { 2 ≤ len.new }
     ensures fits { len.new ≤ most + 2 }
@@ -153,15 +159,15 @@ fn bring_in_slots(slots: &mut Slots, most: usize, second: u64, len: &mut u32, bl
         ≡ take most (second ∷ remove list (index_of block list)) }
 {
     match find(slots, *len as usize - 2, block) {
-        Touch::Behind(place) => {
+        Standing::Behind(place) => {
             put(slots, place, second);
-            Touch::Behind(place + 2)
+            Standing::Behind(place + 2)
         }
-        Touch::New(held) => {
+        Standing::New(held) => {
             let place = held.min(most - 1);
             put(slots, place, second);
             *len = place as u32 + 3;
-            Touch::New(held + 2)
+            Standing::New(held + 2)
         }
     }
 }
@@ -169,10 +175,10 @@ fn bring_in_slots(slots: &mut Slots, most: usize, second: u64, len: &mut u32, bl
 /// Where a block is among the first `held` numbers, or that it is not there. It is compared only
 /// with the numbers that have its mark; usually there is at most one.
 #[inline(always)]
-fn find(slots: &Slots, held: usize, block: u64) -> Touch
+fn find(slots: &Slots, held: usize, block: u64) -> Standing
     requires sound { IsOrder slots.now.marks slots.now.order slots.now.numbers }
     requires most { held ≤ 16 }
-    ensures { result ≡ touch_of block (ordered_numbers slots.now.order slots.now.numbers held) }
+    ensures { result ≡ standing_of block (ordered_numbers slots.now.order slots.now.numbers held) }
 {
     let mut place = 0;
     let mut left = lanes_with(&slots.marks, mark_of(block));
@@ -180,15 +186,15 @@ fn find(slots: &Slots, held: usize, block: u64) -> Touch
         let others = left.trailing_zeros();
         let next = place + others as usize;
         if next >= held {
-            return Touch::New(held);
+            return Standing::New(held);
         }
         if slots.numbers[slots.order[next] as usize] == block {
-            return Touch::Behind(next);
+            return Standing::Behind(next);
         }
         place = next + 1;
         left = left >> others >> 1;
     }
-    Touch::New(held)
+    Standing::New(held)
 }
 
 /// Replaces the number at a place, and brings its slot to the front.

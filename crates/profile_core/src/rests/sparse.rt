@@ -7,8 +7,8 @@ ghost use Rattle.profile_core.specs.internal.rows.Rows.{blank_rows};
 ghost use Rattle.profile_core.specs.internal.rests.SparseRests.{sparse_rest, IsSparse};
 
 use crate::rests::RestStore;
-use crate::rows::row::bring_behind;
-use crate::set_lists::recency::Touch;
+use crate::rows::row::exchange_in_row;
+use crate::set_lists::recency::Standing;
 use std::alloc::{AllocError, Global};
 use std::marker::Model;
 
@@ -61,11 +61,11 @@ impl RestStore for SparseRests {
     ghost view = { λ r. r };
 
     #[inline(always)]
-    fn bring(&mut self, set: usize, second: u64, len: &mut u32, block: u64) -> Touch {
+    fn exchange(&mut self, set: usize, second: u64, len: &mut u32, block: u64) -> Standing {
         let (places, numbers) = (&mut self.places, &mut self.numbers);
         let start = own_rest(self.stride, places, numbers, set) * self.stride;
         let end = start + self.stride;
-        bring_behind(&mut self.numbers[start..end], second, len, block)
+        exchange_in_row(&mut self.numbers[start..end], second, len, block)
     }
 }
 

@@ -5,7 +5,7 @@ ghost use Rattle.profile_core.specs.internal.rows.Rows.{blank_rows, row_for};
 
 use crate::rows::RowStore;
 use crate::rows::row::bring_in_row;
-use crate::set_lists::recency::Touch;
+use crate::set_lists::recency::Standing;
 use std::alloc::{AllocError, Global};
 use std::marker::Model;
 
@@ -77,7 +77,7 @@ impl RowStore for PlainRows {
     }
 
     #[inline(always)]
-    fn bring(&mut self, set: usize, front: &mut u64, len: &mut u32, block: u64) -> Touch {
+    fn bring(&mut self, set: usize, front: &mut u64, len: &mut u32, block: u64) -> Standing {
         let start = set * self.stride;
         let end = start + self.stride;
         bring_in_row(front, &mut self.numbers[start..end], len, block)

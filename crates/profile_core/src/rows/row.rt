@@ -3,11 +3,11 @@
 ghost use Rattle.std.specs.Prelude.{◌≡◌, ◌+◌, ◌-◌, ◌^◌, ◌<◌, ◌≤◌, ◌∷◌, false, nat_eq, length, take};
 ghost use Rattle.std.specs.List.{remove};
 ghost use Rattle.profile_core.specs.profile.RecencyList.{index_of, is_front};
-ghost use Rattle.profile_core.specs.internal.set_lists.Moves.{is_second, touch_of, shifted_of};
-ghost use Rattle.profile_core.specs.internal.set_lists.Moves.{rest_touch_of};
+ghost use Rattle.profile_core.specs.internal.set_lists.Moves.{is_second, standing_of, shifted_of};
+ghost use Rattle.profile_core.specs.internal.set_lists.Moves.{rest_standing_of};
 ghost use Rattle.profile_core.specs.internal.set_lists.Lists.{IsRow, IsBroughtInRow};
 
-use crate::set_lists::recency::Touch;
+use crate::set_lists::recency::Standing;
 use std::mem;
 
 /// How far a list was shifted. `Found`: up to the block that was looked for, at this stack
@@ -22,25 +22,25 @@ enum Shifted {
 /// Brings a block that is neither the front nor the second of a list to the front. The list grows
 /// by one if the block is new and the row has room.
 #[inline(always)]
-pub fn bring_in_row(front: &mut u64, rest: &mut [u64], len: &mut u32, block: u64) -> Touch
+pub fn bring_in_row(front: &mut u64, rest: &mut [u64], len: &mut u32, block: u64) -> Standing
     requires some { 0 < len.old }
     requires row { IsRow rest.old len.old }
     requires behind { is_front block (take len.old (front.old ∷ rest.old)) ≡ false }
     requires further { is_second block (take len.old (front.old ∷ rest.old)) ≡ false }
-    ensures found { result ≡ touch_of block (take len.old (front.old ∷ rest.old)) }
+    ensures found { result ≡ standing_of block (take len.old (front.old ∷ rest.old)) }
     ensures moved { let list = take len.old (front.old ∷ rest.old) in
         IsBroughtInRow block list front.new rest.new len.new }
 {
     let held = *len as usize;
     let first = mem::replace(front, block);
     match shift_past(&mut rest[..held - 1], first, block) {
-        Shifted::Found(distance) => Touch::Behind(distance),
+        Shifted::Found(distance) => Standing::Behind(distance),
         Shifted::Out(last) => {
             if held <= rest.len() {
                 rest[held - 1] = last;
                 *len += 1;
             }
-            Touch::New(held)
+            Standing::New(held)
         }
     }
 }
@@ -49,13 +49,13 @@ pub fn bring_in_row(front: &mut u64, rest: &mut [u64], len: &mut u32, block: u64
 /// and puts `second` in front of the others, with which `rest` begins. The list grows by one if the
 /// block is new and the rest has room.
 #[inline(always)]
-pub fn bring_behind(rest: &mut [u64], second: u64, len: &mut u32, block: u64) -> Touch
+pub fn exchange_in_row(rest: &mut [u64], second: u64, len: &mut u32, block: u64) -> Standing
     requires some { 0 < length rest.old }
     requires small { length rest.old ≤ 2 ^ 26 }
     requires two { 2 ≤ len.old }
     requires fits { len.old ≤ length rest.old + 2 }
     requires other { nat_eq second block ≡ false }
-    ensures found { result ≡ rest_touch_of 2 block (take (len.old - 2) rest.old) }
+    ensures found { result ≡ rest_standing_of 2 block (take (len.old - 2) rest.old) }
     ensures two { 2 ≤ len.new }
     ensures fits { len.new ≤ length rest.old + 2 }
     ensures moved { let list = take (len.old - 2) rest.old in
@@ -66,16 +66,16 @@ pub fn bring_behind(rest: &mut [u64], second: u64, len: &mut u32, block: u64) ->
     let held = count - 2;
     if held > 0 && rest[0] == block {
         rest[0] = second;
-        return Touch::Behind(2);
+        return Standing::Behind(2);
     }
     match shift_past(&mut rest[..held], second, block) {
-        Shifted::Found(distance) => Touch::Behind(distance + 1),
+        Shifted::Found(distance) => Standing::Behind(distance + 1),
         Shifted::Out(last) => {
             if held < rest.len() {
                 rest[held] = last;
                 *len += 1;
             }
-            Touch::New(count)
+            Standing::New(count)
         }
     }
 }

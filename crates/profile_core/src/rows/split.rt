@@ -6,7 +6,7 @@ ghost use Rattle.profile_core.specs.internal.rows.Rows.{blank_rows};
 
 use crate::rests::RestStore;
 use crate::rows::RowStore;
-use crate::set_lists::recency::Touch;
+use crate::set_lists::recency::Standing;
 use std::alloc::{AllocError, Global};
 use std::marker::Model;
 use std::mem;
@@ -62,13 +62,13 @@ impl<R: RestStore> RowStore for SplitRows<R> {
     }
 
     #[inline(always)]
-    fn bring(&mut self, set: usize, front: &mut u64, len: &mut u32, block: u64) -> Touch {
+    fn bring(&mut self, set: usize, front: &mut u64, len: &mut u32, block: u64) -> Standing {
         let first = mem::replace(front, block);
         let second = mem::replace(&mut self.firsts[set], first);
         if *len == 1 {
             *len = 2;
-            return Touch::New(1);
+            return Standing::New(1);
         }
-        self.rests.bring(set, second, len, block)
+        self.rests.exchange(set, second, len, block)
     }
 }

@@ -5,13 +5,13 @@ ghost use Rattle.std.specs.Prelude.{◌≡◌, ◌*◌, ◌^◌, ◌<◌, ◌≤
 ghost use Rattle.std.specs.Prelude.{map, IfOk, slice_index_or};
 ghost use Rattle.deep_list.specs.Deep.{list_after_exchange};
 ghost use Rattle.profile_core.specs.profile.RecencyList.{is_in, is_front};
-ghost use Rattle.profile_core.specs.internal.set_lists.Moves.{is_second, rest_touch_of};
+ghost use Rattle.profile_core.specs.internal.set_lists.Moves.{is_second, rest_standing_of};
 ghost use Rattle.profile_core.specs.internal.set_lists.LongLists.{in_row_of, empty_deep};
-ghost use Rattle.profile_core.specs.internal.set_lists.Lists.{lists_after_touch};
+ghost use Rattle.profile_core.specs.internal.set_lists.Lists.{lists_after_bring};
 
 use crate::rows::plain::PlainRows;
 use crate::set_lists::SetLists;
-use crate::set_lists::recency::{RecencyLists, Touch};
+use crate::set_lists::recency::{RecencyLists, Standing};
 use deep_list::DeepList;
 use std::alloc::{AllocError, Global};
 use std::marker::Model;
@@ -28,7 +28,7 @@ const ROW: usize = 64;
 /// blocks the row has, and which block was its last.
 #[derive(Debug, Clone, Copy)]
 enum InRow {
-    Settled(Touch),
+    Settled(Standing),
     Full(usize, u64),
 }
 
@@ -96,9 +96,9 @@ impl SetLists for LongLists {
     }
 
     #[inline(always)]
-    fn bring(&mut self, set: usize, block: u64) -> Touch {
+    fn bring(&mut self, set: usize, block: u64) -> Standing {
         match bring_near(&mut self.near, set, block) {
-            InRow::Settled(touch) => touch,
+            InRow::Settled(standing) => standing,
             InRow::Full(held, last) => exchange(&mut self.far[set], held, block, last),
         }
     }
@@ -142,14 +142,14 @@ fn bring_near(near: &mut RecencyLists<PlainRows>, set: usize, block: u64) -> InR
     requires behind { is_front block (slice_index_or near.old.lists set []) ≡ false }
     requires further { is_second block (slice_index_or near.old.lists set []) ≡ false }
     ensures found { result ≡ in_row_of near.old.depth block (slice_index_or near.old.lists set []) }
-    ensures moved { near.new ≡ lists_after_touch near.old set block }
+    ensures moved { near.new ≡ lists_after_bring near.old set block }
 {
     let last = near.last_of_full(set);
     match near.bring(set, block) {
-        Touch::Behind(distance) => InRow::Settled(Touch::Behind(distance)),
-        Touch::New(held) => match last {
+        Standing::Behind(distance) => InRow::Settled(Standing::Behind(distance)),
+        Standing::New(held) => match last {
             Some(last) => InRow::Full(held, last),
-            None => InRow::Settled(Touch::New(held)),
+            None => InRow::Settled(Standing::New(held)),
         },
     }
 }
@@ -180,16 +180,16 @@ fn far_lists(alloc: Global, sets: usize, beyond: usize) -> Result<Vec<DeepList>,
 /// Takes a block out of the deep list behind a row, if it is there, and puts `last`, which was the
 /// last block of the row, in its front. Returns where the block was in the whole list, which has
 /// `held` blocks in the row.
-fn exchange(rest: &mut DeepList, held: usize, block: u64, last: u64) -> Touch
+fn exchange(rest: &mut DeepList, held: usize, block: u64, last: u64) -> Standing
     requires other { is_in last rest.old.blocks ≡ false }
     requires few { held ≤ 2 ^ 22 }
     requires short { length rest.old.blocks ≤ 2 ^ 22 }
-    ensures found { result ≡ rest_touch_of held block rest.old.blocks }
+    ensures found { result ≡ rest_standing_of held block rest.old.blocks }
     ensures moved { rest.new ≡ list_after_exchange rest.old block last }
 {
     let more = rest.len();
     match rest.exchange(block, last) {
-        Some(place) => Touch::Behind(held + place),
-        None => Touch::New(held + more),
+        Some(place) => Standing::Behind(held + place),
+        None => Standing::New(held + more),
     }
 }

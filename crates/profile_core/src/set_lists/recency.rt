@@ -6,7 +6,7 @@ ghost use Rattle.std.specs.Prelude.{◌-◌, replicate, IfOk, slice_index_or, �
 ghost use Rattle.cache_core.specs.internal.Touched.{Covers, ListsFilled};
 ghost use Rattle.profile_core.specs.internal.set_lists.Moves.{is_second};
 ghost use Rattle.profile_core.specs.internal.rows.Rows.{AreLong};
-ghost use Rattle.profile_core.specs.internal.set_lists.Lists.{lists_after_touch};
+ghost use Rattle.profile_core.specs.internal.set_lists.Lists.{lists_after_bring};
 
 use crate::rows::RowStore;
 use crate::rows::plain::PlainRows;
@@ -20,7 +20,7 @@ use std::mem;
 /// distance, the block's index in the list, so 1 is the second block. `New`: nowhere in the list,
 /// which has this many blocks.
 #[derive(Debug, Clone, Copy)]
-pub enum Touch {
+pub enum Standing {
     Behind(usize),
     New(usize),
 }
@@ -75,7 +75,7 @@ impl<R: RowStore> RecencyLists<R> {
     fn begin(&mut self, set: usize, block: u64)
         requires within { set < length self.old.lists }
         requires empty { slice_index_or self.old.lists set [] ≡ [] }
-        ensures { self.new ≡ lists_after_touch self.old set block }
+        ensures { self.new ≡ lists_after_bring self.old set block }
     {
         self.fronts[set] = block;
         self.lens[set] = 1;
@@ -127,10 +127,10 @@ impl<R: RowStore> SetLists for RecencyLists<R> {
     }
 
     #[inline(always)]
-    fn bring(&mut self, set: usize, block: u64) -> Touch {
+    fn bring(&mut self, set: usize, block: u64) -> Standing {
         if self.lens[set] == 0 {
             self.begin(set, block);
-            return Touch::New(0);
+            return Standing::New(0);
         }
         let front = &mut self.fronts[set];
         self.rows.bring(set, front, &mut self.lens[set], block)

@@ -11,8 +11,8 @@ pub record Lists : Type 0 where
   pub lists : List (List ℕ)
 
 -- the lists after block x was brought to the front of set k's list
-abbrev pub lists_after_touch : Lists → ℕ → ℕ → Lists
-lists_after_touch v k x = record v {
+abbrev pub lists_after_bring : Lists → ℕ → ℕ → Lists
+lists_after_bring v k x = record v {
   lists =
       slice_set v.lists k (take v.depth (move_to_front x (slice_index_or v.lists k [])));
 }

@@ -5,7 +5,7 @@ use Rattle.deep_list.specs.Deep.{Deep, IsOnce}
 use Rattle.profile_core.specs.declared.set_lists.long_lists.InRow.{InRow}
 use Rattle.profile_core.specs.declared.set_lists.long_lists.InRow.TheVariants.{Settled, Full}
 use Rattle.profile_core.specs.profile.RecencyList.{is_in}
-use Rattle.profile_core.specs.internal.set_lists.Moves.{touch_of}
+use Rattle.profile_core.specs.internal.set_lists.Moves.{standing_of}
 use Rattle.profile_core.specs.internal.set_lists.Lists.{Lists}
 
 -- each list with the blocks behind it
@@ -29,8 +29,8 @@ empty_deep d = record d { blocks = [] }
 -- the result of bringing block x to the front of a row of at most w blocks
 abbrev pub in_row_of : ℕ → ℕ → List ℕ → InRow
 in_row_of w x xs =
-    if is_in x xs then Settled (touch_of x xs)
-    else (if nat_lt (length xs) w then Settled (touch_of x xs) else Full (length xs)
+    if is_in x xs then Settled (standing_of x xs)
+    else (if nat_lt (length xs) w then Settled (standing_of x xs) else Full (length xs)
     (slice_index xs (w - 1)))
 
 -- the invariant: behind each row is a list, which has blocks only if the row is full

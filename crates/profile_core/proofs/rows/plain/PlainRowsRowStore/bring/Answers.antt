@@ -1,7 +1,7 @@
 -- A set's row whose list gets a block in front, among the other rows.
 use Rattle.std.proofs.Common.{◌∙◌, ◌∷◌, length, take, ap, arith, subst, sym}
 use Rattle.profile_core.specs.profile.RecencyList.{is_front}
-use Rattle.profile_core.specs.internal.set_lists.Moves.{is_second, touch_of}
+use Rattle.profile_core.specs.internal.set_lists.Moves.{is_second, standing_of}
 use Rattle.profile_core.specs.internal.set_lists.Lists.{IsRow, IsBroughtInRow}
 use Rattle.profile_core.specs.internal.rows.Rows.{list_in_row}
 use Rattle.profile_core.proofs.rows.PlainRowLemmas.{known, ends, numbers_small, lent, row_size}
@@ -51,7 +51,7 @@ pub returns-clause-found : goal.returns-clause-found
 returns-clause-found c =
     let r = known c.self.invariant c.self.view_is c.requires.within in
     c.bring_in_row.ensures.found ∙
-    ap (λ rest. touch_of c.args.block (take c.args.len.now (c.args.front.now ∷ rest)))
+    ap (λ rest. standing_of c.args.block (take c.args.len.now (c.args.front.now ∷ rest)))
     (lent r c.deref_mut.ensures.value)
 
 pub returns-clause-moved : goal.returns-clause-moved

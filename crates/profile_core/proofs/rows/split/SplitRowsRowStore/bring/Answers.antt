@@ -6,7 +6,7 @@ use Rattle.profile_core.proofs.rows.RowsBySet.{row_is, stride_is, put_is, put_ot
 use Rattle.profile_core.proofs.rows.SplitRowLemmas.{known, is_first, is_rest, rest_long}
 use Rattle.profile_core.proofs.rows.SplitRowLemmas.{first_written, one_brought, brought_as}
 use Rattle.profile_core.proofs.rows.SplitRowLemmas.{written_rows, second_apart}
-use Rattle.profile_core.proofs.rows.SplitRowLemmas.{rest_touch, rest_brought}
+use Rattle.profile_core.proofs.rows.SplitRowLemmas.{rest_standing, rest_brought}
 use Rattle.profile_core.proofs.rows.split.SplitRowsRowStore.bring.Goals as goal
 use Rattle.profile_core.proofs.rows.split.SplitRowsRowStore.bring.Goals.{After-replace-second}
 use Rattle.profile_core.proofs.rows.split.SplitRowsRowStore.bring.Given.{Over}
@@ -52,17 +52,17 @@ second g c lt =
     ∙ get_or_read c.self.inside.firsts.items c.args.set c.index_mut.result.now lt
     c.index_mut.ensures.value 0
 
-pub bring-requires-clause-within : goal.bring-requires-clause-within
-bring-requires-clause-within g c = is_rest (known c.self.invariant c.self.view_is c.requires.within)
+pub exchange-requires-clause-within : goal.exchange-requires-clause-within
+exchange-requires-clause-within g c = is_rest (known c.self.invariant c.self.view_is c.requires.within)
 
-pub bring-requires-clause-fits : goal.bring-requires-clause-fits
-bring-requires-clause-fits g c =
+pub exchange-requires-clause-fits : goal.exchange-requires-clause-fits
+exchange-requires-clause-fits g c =
     let s = known c.self.invariant c.self.view_is c.requires.within in
     omega (arith, c.requires.row.fits, ap length (row_is s.row), rest_long s)
 
-pub bring-requires-clause-other : goal.bring-requires-clause-other
-bring-requires-clause-other g c =
-    let at = (goal.at.bring-requires-clause-other g c).After-replace-second in
+pub exchange-requires-clause-other : goal.exchange-requires-clause-other
+exchange-requires-clause-other g c =
+    let at = (goal.at.exchange-requires-clause-other g c).After-replace-second in
     let s = known c.self.invariant c.self.view_is c.requires.within in
     second_apart s c.args.block c.args.front.now c.replace-second.result c.args.len.now
     (second g at (is_first s)) (two c.args.len.now c.requires.some c.if-len-eq1.false)
@@ -72,7 +72,7 @@ pub returns-clause-found : goal.returns-clause-found
 returns-clause-found g c =
     let at = (goal.at.returns-clause-found g c).After-replace-second in
     let s = known c.self.invariant c.self.view_is c.requires.within in
-    c.bring.ensures.found ∙ rest_touch s c.args.block c.args.front.now c.replace-second.result
+    c.exchange.ensures.found ∙ rest_standing s c.args.block c.args.front.now c.replace-second.result
     c.args.len.now (second g at (is_first s))
     (two c.args.len.now c.requires.some c.if-len-eq1.false) c.requires.behind c.requires.further
 
@@ -81,22 +81,22 @@ returns-clause-moved g c =
     let at = (goal.at.returns-clause-moved g c).After-replace-second in
     let s = known c.self.invariant c.self.view_is c.requires.within in
     let first = c.replace-second.ensures.after ∙ c.replace-first.ensures.value in
-    let put = written_rows s _ c.bring.ensures.long c.bring.ensures.others first in
+    let put = written_rows s _ c.exchange.ensures.long c.exchange.ensures.others first in
     brought_as c.replace-first.ensures.after (put_is c.args.self.now put c.requires.within)
     (rest_brought s c.args.block c.args.front.now c.replace-second.result c.args.len.now
     (second g at (is_first s)) (two c.args.len.now c.requires.some c.if-len-eq1.false)
-    c.requires.behind c.requires.further c.bring.new.len _ c.bring.ensures.long
-    c.bring.ensures.two c.bring.ensures.fits c.bring.ensures.moved)
+    c.requires.behind c.requires.further c.exchange.new.len _ c.exchange.ensures.long
+    c.exchange.ensures.two c.exchange.ensures.fits c.exchange.ensures.moved)
 
 pub returns-clause-long : goal.returns-clause-long
 returns-clause-long g c =
     let s = known c.self.invariant c.self.view_is c.requires.within in
     let first = c.replace-second.ensures.after ∙ c.replace-first.ensures.value in
-    let put = written_rows s _ c.bring.ensures.long c.bring.ensures.others first in
+    let put = written_rows s _ c.exchange.ensures.long c.exchange.ensures.others first in
     omega (
       arith,
       ap length (put_is c.args.self.now put c.requires.within),
-      c.bring.ensures.long,
+      c.exchange.ensures.long,
       stride_is s.row,
     )
 
@@ -104,5 +104,5 @@ pub returns-clause-others : goal.returns-clause-others
 returns-clause-others g c =
     let s = known c.self.invariant c.self.view_is c.requires.within in
     let first = c.replace-second.ensures.after ∙ c.replace-first.ensures.value in
-    let put = written_rows s _ c.bring.ensures.long c.bring.ensures.others first in
+    let put = written_rows s _ c.exchange.ensures.long c.exchange.ensures.others first in
     put_others c.args.self.now _ put c.requires.within

@@ -2,11 +2,11 @@
 use Rattle.std.proofs.Common.{◌∙◌, length, ap, arith}
 use Rattle.deep_list.specs.Deep.{list_after_exchange}
 use Rattle.profile_core.specs.profile.RecencyList.{is_in}
-use Rattle.profile_core.specs.internal.set_lists.Moves.{rest_touch_of}
+use Rattle.profile_core.specs.internal.set_lists.Moves.{rest_standing_of}
 use Rattle.profile_core.proofs.set_lists.LongListLemmas.{known, within, front_is, second_is, stays}
-use Rattle.profile_core.proofs.set_lists.LongListBringing.{settled_stays, settled_touch, full_is}
+use Rattle.profile_core.proofs.set_lists.LongListBringing.{settled_stays, settled_standing, full_is}
 use Rattle.profile_core.proofs.set_lists.LongListBringing.{far_read, last_apart, held_small}
-use Rattle.profile_core.proofs.set_lists.LongListBringing.{rest_small, full_touch, full_renewed}
+use Rattle.profile_core.proofs.set_lists.LongListBringing.{rest_small, full_standing, full_renewed}
 use Rattle.profile_core.proofs.set_lists.long_lists.LongListsSetLists.bring.Goals as goal
 
 pub bring_near-requires-clause-within : goal.bring_near-requires-clause-within
@@ -32,7 +32,7 @@ invariant_of-self c =
 
 pub returns-in-Settled-clause-found : goal.returns-in-Settled-clause-found
 returns-in-Settled-clause-found c =
-    settled_touch (known c.self.invariant c.self.view_is c.requires.within) c.args.block
+    settled_standing (known c.self.invariant c.self.view_is c.requires.within) c.args.block
     c.in-Settled.ensures.found
 
 pub returns-in-Settled-clause-moved : goal.returns-in-Settled-clause-moved
@@ -76,7 +76,7 @@ returns-in-Full-clause-found c =
     c.in-Full.ensures.found in
     let read = far_read f c.index_mut.result.now c.index_mut.ensures.value in
     c.exchange.ensures.found ∙
-    ap (λ d. rest_touch_of c.in-Full.held c.args.block d.blocks) read ∙ full_touch f
+    ap (λ d. rest_standing_of c.in-Full.held c.args.block d.blocks) read ∙ full_standing f
 
 pub returns-in-Full-clause-moved : goal.returns-in-Full-clause-moved
 returns-in-Full-clause-moved c =

@@ -2,11 +2,11 @@
 use Rattle.std.proofs.Common.{◌<◌, ◌∙◌, sym, ap, arith}
 use Rattle.std.proofs.lemmas.List.{nil_from_length}
 use Rattle.profile_core.specs.profile.RecencyList.{is_front}
-use Rattle.profile_core.specs.internal.set_lists.Moves.{is_second, touch_of}
+use Rattle.profile_core.specs.internal.set_lists.Moves.{is_second, standing_of}
 use Rattle.profile_core.proofs.set_lists.ListLemmas.{known, depth_is, within, among_fronts}
 use Rattle.profile_core.proofs.set_lists.ListLemmas.{among_rows, row_long, row_small, list_size}
 use Rattle.profile_core.proofs.set_lists.ListLemmas.{len_read}
-use Rattle.profile_core.proofs.set_lists.Writing.{held_short, list_read, touched_at, row_brought}
+use Rattle.profile_core.proofs.set_lists.Writing.{held_short, list_read, read_at, row_brought}
 use Rattle.profile_core.proofs.set_lists.recency.RecencyListsSetLists.bring.Goals as goal
 
 pub index-requires : goal.index-requires
@@ -24,7 +24,7 @@ begin-requires-clause-empty g c =
 pub returns-then-index-eq0-clause-found : goal.returns-then-index-eq0-clause-found
 returns-then-index-eq0-clause-found g c =
     let l = known c.self.invariant c.self.view_is c.requires.within in
-    sym (ap (touch_of c.args.block) (nil_from_length _ (list_size l ∙
+    sym (ap (standing_of c.args.block) (nil_from_length _ (list_size l ∙
     sym (len_read l c.index.ensures) ∙ c.if-index-eq0.true)))
 
 pub index_mut-front-requires : goal.index_mut-front-requires
@@ -58,7 +58,7 @@ bring-requires-clause-some g c =
 
 pub bring-requires-clause-row : goal.bring-requires-clause-row
 bring-requires-clause-row g c =
-    let t = touched_at (known c.self.invariant c.self.view_is c.requires.within)
+    let t = read_at (known c.self.invariant c.self.view_is c.requires.within)
     c.index_mut.ensures.value c.index_mut-front.ensures.value in
     record {
       small = omega (arith, row_long t.known, row_small t.known);
@@ -67,34 +67,34 @@ bring-requires-clause-row g c =
 
 pub bring-requires-clause-behind : goal.bring-requires-clause-behind
 bring-requires-clause-behind g c =
-    let t = touched_at (known c.self.invariant c.self.view_is c.requires.within)
+    let t = read_at (known c.self.invariant c.self.view_is c.requires.within)
     c.index_mut.ensures.value c.index_mut-front.ensures.value in
     ap (is_front c.args.block) (sym (list_read t)) ∙ c.requires.behind
 
 pub bring-requires-clause-further : goal.bring-requires-clause-further
 bring-requires-clause-further g c =
-    let t = touched_at (known c.self.invariant c.self.view_is c.requires.within)
+    let t = read_at (known c.self.invariant c.self.view_is c.requires.within)
     c.index_mut.ensures.value c.index_mut-front.ensures.value in
     ap (is_second c.args.block) (sym (list_read t)) ∙ c.requires.further
 
 pub invariant_of-self : goal.invariant_of-self
 invariant_of-self g c =
     let l = known c.self.invariant c.self.view_is c.requires.within in
-    let t = touched_at l c.index_mut.ensures.value c.index_mut-front.ensures.value in
+    let t = read_at l c.index_mut.ensures.value c.index_mut-front.ensures.value in
     let some : 0 < c.index_mut.result.now =
     omega (arith, t.held_is, len_read l c.index.ensures, c.if-index-eq0.false) in
     (row_brought t c.bring.ensures.moved c.bring.ensures.long c.bring.ensures.others some).listed
 
 pub returns-clause-found : goal.returns-clause-found
 returns-clause-found g c =
-    let t = touched_at (known c.self.invariant c.self.view_is c.requires.within)
+    let t = read_at (known c.self.invariant c.self.view_is c.requires.within)
     c.index_mut.ensures.value c.index_mut-front.ensures.value in
     rw (list_read t) c.bring.ensures.found
 
 pub returns-clause-moved : goal.returns-clause-moved
 returns-clause-moved g c =
     let l = known c.self.invariant c.self.view_is c.requires.within in
-    let t = touched_at l c.index_mut.ensures.value c.index_mut-front.ensures.value in
+    let t = read_at l c.index_mut.ensures.value c.index_mut-front.ensures.value in
     let some : 0 < c.index_mut.result.now =
     omega (arith, t.held_is, len_read l c.index.ensures, c.if-index-eq0.false) in
     let b = row_brought t c.bring.ensures.moved c.bring.ensures.long c.bring.ensures.others some in

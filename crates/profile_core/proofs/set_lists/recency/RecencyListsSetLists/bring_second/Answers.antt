@@ -2,13 +2,13 @@
 use Rattle.std.proofs.Common.{◌∙◌, get_or, sym, ap, refl, arith}
 use Rattle.profile_core.proofs.set_lists.ListLemmas.{known, depth_is, among_fronts, among_rows}
 use Rattle.profile_core.proofs.set_lists.ListLemmas.{front_read}
-use Rattle.profile_core.proofs.set_lists.Writing.{IsTouched, some_behind, second_brought}
+use Rattle.profile_core.proofs.set_lists.Writing.{IsReadList, some_behind, second_brought}
 use Rattle.profile_core.proofs.set_lists.recency.RecencyListsSetLists.bring_second.Goals as goal
 use
     Rattle.profile_core.proofs.set_lists.recency.RecencyListsSetLists.bring_second.Goals.{After-replace-second}
 use Rattle.profile_core.proofs.set_lists.recency.RecencyListsSetLists.bring_second.Given.{Over}
 
-touched : (g : Over) (c : After-replace-second g) → IsTouched c.args.set
+touched : (g : Over) (c : After-replace-second g) → IsReadList c.args.set
     (get_or c.self.inside.lens.items c.args.set 0) c.replace-second.result
     c.self.inside.fronts.items (g.R.RowStore.view c.self.inside.rows) c.self.inside.lens.items
     c.self.inside.touched c.args.self.now.lists

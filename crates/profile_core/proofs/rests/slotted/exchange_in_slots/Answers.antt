@@ -4,7 +4,7 @@ use Rattle.std.specs.List.{remove}
 use Rattle.profile_core.specs.internal.rests.Slots.{ordered_numbers}
 use Rattle.profile_core.proofs.rests.SlottedBehind.{found_small, found_list}
 use Rattle.profile_core.proofs.rests.SlottedBehind.{new_held, new_list}
-use Rattle.profile_core.proofs.rests.slotted.bring_in_slots.Goals as goal
+use Rattle.profile_core.proofs.rests.slotted.exchange_in_slots.Goals as goal
 
 pub put-requires-clause-within : goal.put-requires-clause-within
 put-requires-clause-within c =

@@ -4,14 +4,14 @@ use Rattle.std.proofs.Common.{vec_capacity}
 use Rattle.std.specs.List.{remove}
 use Rattle.std.proofs.lemmas.List.{with_items_is}
 use Rattle.profile_core.specs.profile.RecencyList.{index_of}
-use Rattle.profile_core.specs.internal.set_lists.Moves.{rest_touch_of}
+use Rattle.profile_core.specs.internal.set_lists.Moves.{rest_standing_of}
 use Rattle.profile_core.specs.internal.rows.Rows.{row_for}
 use Rattle.profile_core.specs.internal.rests.SlottedRests.{IsSlotted}
 use Rattle.profile_core.proofs.rows.RowsBySet.{known_row, within, stride_is, put_is, put_others}
 use Rattle.profile_core.proofs.rests.SlotLemmas.{length-ordered_numbers, ordered_numbers_take}
 use Rattle.profile_core.proofs.rests.SlottedRestLemmas.{own_of, own_listed, own_back}
 use Rattle.profile_core.proofs.rests.SlottedRestLemmas.{written_placed}
-use Rattle.profile_core.proofs.rests.slotted.SlottedRestsRestStore.bring.Goals as goal
+use Rattle.profile_core.proofs.rests.slotted.SlottedRestsRestStore.exchange.Goals as goal
 
 pub own_rest-rest-requires-clause-within : goal.own_rest-rest-requires-clause-within
 own_rest-rest-requires-clause-within c = omega (
@@ -27,7 +27,7 @@ returns-clause-found c =
     c.own_rest-rest.ensures.own c.own_rest-rest.ensures.which in
     let held = own_listed o c.index_mut.ensures.value (c.args.len.now - 2)
     (omega (arith, c.requires.fits, stride_is o.row)) in
-    c.bring_in_slots.ensures.found ∙ ap (rest_touch_of 2 c.args.block) held
+    c.exchange_in_slots.ensures.found ∙ ap (rest_standing_of 2 c.args.block) held
 
 pub invariant_of-self : goal.invariant_of-self
 invariant_of-self c =
@@ -37,7 +37,7 @@ invariant_of-self c =
     let room = vec_capacity c.own_rest-rest.new.rests in
     let places = c.own_rest-rest.new.places in
     let rests = c.own_rest-rest.new.rests.items in
-    let s = c.bring_in_slots.new.slots in
+    let s = c.exchange_in_slots.new.slots in
     subst (λ (ps : List ℕ). IsSlotted c.self.inside.stride ps
     (set rests c.own_rest-rest.result s) room)
     (sym (with_items_is c.self.inside.places places
@@ -47,7 +47,7 @@ invariant_of-self c =
       some = c.self.invariant.some;
       most = c.self.invariant.most;
       placed = written_placed c.own_rest-rest.ensures.sound c.args.set o.own s
-          c.bring_in_slots.ensures.sound;
+          c.exchange_in_slots.ensures.sound;
     }))
 
 pub returns-clause-moved : goal.returns-clause-moved
@@ -55,19 +55,19 @@ returns-clause-moved c =
     let o = own_of _ c.self.view_is c.requires.within c.deref_mut.ensures.value
     c.own_rest-rest.auto.places c.own_rest-rest.ensures.same c.own_rest-rest.ensures.sound
     c.own_rest-rest.ensures.own c.own_rest-rest.ensures.which in
-    let s = c.bring_in_slots.new.slots in
+    let s = c.exchange_in_slots.new.slots in
     let put = own_back o {s = s} (with_items_is c.self.inside.places _
     (omega (arith, c.own_rest-rest.auto.places, c.deref_mut.ensures.len)))
-    c.bring_in_slots.ensures.sound in
+    c.exchange_in_slots.ensures.sound in
     let held = own_listed o c.index_mut.ensures.value (c.args.len.now - 2)
     (omega (arith, c.requires.fits, stride_is o.row)) in
     let n = c.self.inside.stride in
     let list = take (c.args.len.now - 2) (row_for c.args.self.now c.args.set) in
-    let len = c.bring_in_slots.new.len - 2 in
+    let len = c.exchange_in_slots.new.len - 2 in
     ap (take len) (put_is c.args.self.now put c.requires.within)
     ∙ sym (ordered_numbers_take s.order s.numbers len n
-    (omega (arith, c.bring_in_slots.ensures.fits)))
-    ∙ c.bring_in_slots.ensures.moved
+    (omega (arith, c.exchange_in_slots.ensures.fits)))
+    ∙ c.exchange_in_slots.ensures.moved
     ∙ ap (λ (xs : List ℕ). take n (c.args.second ∷ remove xs (index_of c.args.block xs))) held
     ∙ ap (λ m. take m (c.args.second ∷ remove list (index_of c.args.block list))) (stride_is o.row)
 
@@ -76,13 +76,13 @@ returns-clause-long c =
     let o = own_of _ c.self.view_is c.requires.within c.deref_mut.ensures.value
     c.own_rest-rest.auto.places c.own_rest-rest.ensures.same c.own_rest-rest.ensures.sound
     c.own_rest-rest.ensures.own c.own_rest-rest.ensures.which in
-    let s = c.bring_in_slots.new.slots in
+    let s = c.exchange_in_slots.new.slots in
     let put = own_back o {s = s} (with_items_is c.self.inside.places _
     (omega (arith, c.own_rest-rest.auto.places, c.deref_mut.ensures.len)))
-    c.bring_in_slots.ensures.sound in
+    c.exchange_in_slots.ensures.sound in
     ap length (put_is c.args.self.now put c.requires.within)
     ∙ length-ordered_numbers s.order s.numbers c.self.inside.stride
-    (omega (arith, c.bring_in_slots.ensures.sound.order_len, c.self.invariant.most))
+    (omega (arith, c.exchange_in_slots.ensures.sound.order_len, c.self.invariant.most))
     ∙ stride_is o.row
 
 pub returns-clause-others : goal.returns-clause-others
@@ -90,8 +90,8 @@ returns-clause-others c =
     let o = own_of _ c.self.view_is c.requires.within c.deref_mut.ensures.value
     c.own_rest-rest.auto.places c.own_rest-rest.ensures.same c.own_rest-rest.ensures.sound
     c.own_rest-rest.ensures.own c.own_rest-rest.ensures.which in
-    let s = c.bring_in_slots.new.slots in
+    let s = c.exchange_in_slots.new.slots in
     let put = own_back o {s = s} (with_items_is c.self.inside.places _
     (omega (arith, c.own_rest-rest.auto.places, c.deref_mut.ensures.len)))
-    c.bring_in_slots.ensures.sound in
+    c.exchange_in_slots.ensures.sound in
     put_others c.args.self.now _ put c.requires.within

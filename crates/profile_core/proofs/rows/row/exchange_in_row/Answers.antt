@@ -1,9 +1,9 @@
 -- A rest that gets another block in front, and lacks the one that was there, or its last.
 use Rattle.std.proofs.Common.{◌≡◌, ◌∙◌, ◌+◌, ◌-◌, ◌++◌, suc, take, drop, set, ap, arith}
 use Rattle.profile_core.proofs.rows.Bringing.{IsShifted}
-use Rattle.profile_core.proofs.rests.RestBringing.{rest_found, rest_grown, found_small}
-use Rattle.profile_core.proofs.rows.row.bring_behind.Goals as goal
-use Rattle.profile_core.proofs.rows.row.bring_behind.Goals.{After-shift_past}
+use Rattle.profile_core.proofs.rests.RestExchange.{rest_found, rest_grown, found_small}
+use Rattle.profile_core.proofs.rows.row.exchange_in_row.Goals as goal
+use Rattle.profile_core.proofs.rows.row.exchange_in_row.Goals.{After-shift_past}
 
 -- the blocks behind the second, as the pass leaves them
 shifted : (c : After-shift_past) → IsShifted c.args.block c.args.second (c.args.len.now - 2)
