@@ -1,5 +1,5 @@
 -- The state of a profile, and how a reference and a flush change it.
-use Rattle.std.specs.Prelude.{ℕ, ◌≡◌, ◌+◌, ◌^◌, min, if◌then◌else◌, List, [], ◌∷◌, length, take, drop}
+use Rattle.std.specs.Prelude.{ℕ, ◌+◌, ◌^◌, min, if◌then◌else◌, List, [], length, take, drop}
 use Rattle.std.specs.Prelude.{sum, sum_by, replicate, slice_set, slice_index, slice_index_or}
 use Rattle.trace_core.specs.declared.events.Event.{Event}
 use Rattle.trace_core.specs.declared.events.Event.TheVariants as event
