@@ -16,7 +16,8 @@ use Rattle.profile_core.specs.profile.RecencyList.{is_in}
 use Rattle.profile_core.specs.internal.set_lists.Moves.{standing_of}
 use Rattle.profile_core.specs.internal.rests.Slots.{mark_of, ordered_numbers, IsOrder}
 use Rattle.profile_core.proofs.rests.SlotLemmas.{length-ordered_numbers, ordered_numbers_at}
-use Rattle.profile_core.proofs.rests.SlotLemmas.{found_at, found_nowhere, standing_found, standing_new}
+use Rattle.profile_core.proofs.rests.SlotLemmas.{found_at, found_nowhere, standing_found}
+use Rattle.profile_core.proofs.rests.SlotLemmas.{standing_new}
 use Rattle.profile_core.proofs.rests.SlotLemmas.{absent_to, absent_at}
 
 mask_half : (m : Bool) (ms : List Bool) → mask_l (m ∷ ms) / 2 ^ 1 ≡ mask_l ms

@@ -190,7 +190,8 @@ module _ (w b x : ℕ) (xs ys : List ℕ) where
         take_past front (last ∷ left) w b long
         ∙ ap (λ zs. zs ++ take b (last ∷ left)) (sym near)
 
-    pub far_found : is_in x ys ≡ true → Behind (length xs + index_of x ys) ≡ standing_of x (xs ++ ys)
+    pub far_found : is_in x ys ≡ true →
+        Behind (length xs + index_of x ys) ≡ standing_of x (xs ++ ys)
     far_found inside = grind (arith, index-append_right, is_in-append)
 
     pub far_new : is_in x ys ≡ false → New (length xs + length ys) ≡ standing_of x (xs ++ ys)

@@ -79,7 +79,8 @@ pub full_is : {near : Lists} {beyond : ℕ} {far : List Deep} {k x held last : �
     →
     IsFull near beyond far x k held last v
 full_is {near} {beyond} {far} {k} {x} {held} {last} {v} r e =
-    let at = full_at (is_in x (row r)) (ltb (length (row r)) near.depth) (standing_of x (row r)) held
+    let at = full_at (is_in x (row r)) (ltb (length (row r)) near.depth) (standing_of x (row r))
+    held
     last (length (row r)) (get_or (row r) (near.depth - 1) 0) e in
     record {
       whole = r;

@@ -149,8 +149,8 @@ fn exchange_in_slots(
     requires most { most ≤ 16 }
     requires two { 2 ≤ len.old }
     requires fits { len.old ≤ most + 2 }
-    ensures found { result
-        ≡ rest_standing_of 2 block (ordered_numbers slots.old.order slots.old.numbers (len.old - 2)) }
+    ensures found { result ≡ rest_standing_of 2 block
+        (ordered_numbers slots.old.order slots.old.numbers (len.old - 2)) }
     ensures sound { IsOrder slots.new.marks slots.new.order slots.new.numbers }
     ensures two { 2 ≤ len.new }
     ensures fits { len.new ≤ most + 2 }

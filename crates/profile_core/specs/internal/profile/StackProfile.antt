@@ -1,6 +1,6 @@
 -- A profile as its lists and histograms stand for it.
-use Rattle.std.specs.Prelude.{ℕ, ◌≡◌, ◌≤◌, ◌<◌, ◌+◌, ◌-◌, ◌*◌, ◌^◌, false, List, [], ◌∷◌, length, take}
-use Rattle.std.specs.Prelude.{sum, slice_set, slice_index_or}
+use Rattle.std.specs.Prelude.{ℕ, ◌≡◌, ◌≤◌, ◌<◌, ◌+◌, ◌-◌, ◌*◌, ◌^◌, false, List, [], ◌∷◌, length}
+use Rattle.std.specs.Prelude.{take, sum, slice_set, slice_index_or}
 use Rattle.cache_core.specs.Geometry.{GeometryValue, set_of_block}
 use Rattle.profile_core.specs.declared.profile.histograms.Histograms.{Histograms}
 use Rattle.profile_core.specs.profile.RecencyList.{is_front}

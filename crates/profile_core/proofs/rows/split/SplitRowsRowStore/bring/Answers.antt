@@ -53,7 +53,8 @@ second g c lt =
     c.index_mut.ensures.value 0
 
 pub exchange-requires-clause-within : goal.exchange-requires-clause-within
-exchange-requires-clause-within g c = is_rest (known c.self.invariant c.self.view_is c.requires.within)
+exchange-requires-clause-within g c =
+    is_rest (known c.self.invariant c.self.view_is c.requires.within)
 
 pub exchange-requires-clause-fits : goal.exchange-requires-clause-fits
 exchange-requires-clause-fits g c =
