@@ -1,12 +1,11 @@
 """The pictures of tables of din-table: by cache size, with a line for each of the other values."""
 
 import functools
-import html
 import re
 from collections import namedtuple
 
 from lib.plot import pictures
-from lib.plot.pictures import (MOST_LINES, Line, Measure, Picture, Point, bytes_text, sets_text,
+from lib.plot.pictures import (MOST_LINES, Line, Measure, Picture, Point, bytes_text, counted,
                                short, ways_text)
 from lib.table import pareto
 from lib.table_din import NUMBERS, WORDS, cache, kind, read_table, usual_measure
@@ -65,22 +64,18 @@ def kind_of_ratio(own, caches):
 
 def measure_of(views):
     """How the measure is called. Where tables have other ones each, it is the miss ratio."""
-    table, options = views[0].table, options_of(views)
-    measures = {view.table.measure for view in views}
-    columns = [*options, "size", table.measure if len(measures) == 1 else "percent"]
-    texts = (f"{html.escape(name)} %{{customdata[{at}]}}" for at, name in enumerate(columns))
-    about = "<br>".join(texts) + "<extra></extra>"
-    if len(measures) > 1:
-        return Measure(about=about)
+    table = views[0].table
+    if len({view.table.measure for view in views}) > 1:
+        return Measure()
     if not table.measure.endswith("-percent"):
         own = re.fullmatch("(l[12]-[diu])-(.*)", table.measure)
         name = f"{own[2].replace('-', ' ')} of {own[1]}" if own else table.measure.replace("-", " ")
-        return Measure(name, name[0].upper() + name[1:], about, False)
+        return Measure(name, name[0].upper() + name[1:], False)
     own = table.measure.removesuffix("-percent")
     caches = {cache(option) for option in table.options}
     of = f" of {own}" if len(caches) > 1 else ""
     name = f"{kind_of_ratio(own, caches)}miss ratio{of.removesuffix(GLOBAL)}"
-    return Measure(f"{name} in per cent", f"{name[0].upper()}{name[1:]}", about)
+    return Measure(f"{name} in per cent", f"{name[0].upper()}{name[1:]}")
 
 
 def value_text(option, value, has_caches):
@@ -90,35 +85,29 @@ def value_text(option, value, has_caches):
         text = WORDS[word].get(value, value)
     else:
         number = int(value)
-        text = {"size": bytes_text(number), "sets": sets_text(number),
+        text = {"size": bytes_text(number), "sets": counted(number, "set", short),
                 "bsize": f"blocks of {short(number)}", "assoc": ways_text(number)}[word]
     return f"{cache(option)} {text}" if has_caches else text
 
 
-def told(options, table, lines, has_caches, case):
-    """What is said of a case: the mean of its seeds, its least and greatest; and its label. Options
-    that other tables have are empty."""
+def told(table, lines, has_caches, case):
+    """What is said of a case, and its label. Options that other tables have are empty."""
     given = dict(zip(table.options, case.given))
-    ends = ends_of(case)
-    spread = f" ({ends[0]:.6g} to {ends[1]:.6g})" if ends else ""
-    values = (given.get(option, "") for option in options)
+    text = "\n".join(f"{option} {value}" for option, value in given.items() if value)
     label = ", ".join(value_text(option, given[option], has_caches) for option in lines
                       if given[option])
-    return (*values, case.size, f"{float(case.measured):.6g}{spread}"), label
-
-
-def ends_of(case):
-    """The least and the greatest of several seeds, where they differ."""
-    if len(case.values) == 1:
-        return ()
-    least, greatest = float(min(case.values)), float(max(case.values))
-    return (least, greatest) if least < greatest else ()
+    return f"{text}\nsize {case.size}", label
 
 
 def points(cases, x, *about):
-    """Some cases as points."""
-    return [Point(x(case), float(case.measured), functools.partial(told, *about, case),
-                  ends_of(case)) for case in cases]
+    """Some cases as points, each with the least and the greatest of several seeds that differ."""
+    found = []
+    for case in cases:
+        ends = min(case.values), max(case.values)
+        ends = tuple(map(float, ends)) if ends[0] < ends[1] else ()
+        found.append(Point(x(case), float(case.measured), functools.partial(told, *about, case),
+                           ends))
+    return found
 
 
 def fixed(asked, table, across, lines, file):
@@ -150,7 +139,7 @@ def groups(table, lines):
     return found
 
 
-def by_across(asked, view, measure, options):
+def by_across(asked, view, measure):
     """The measure by the option on the horizontal axis; a line for each value of the others."""
     table, across, file = view
     at = table.options.index(across)
@@ -169,8 +158,8 @@ def by_across(asked, view, measure, options):
         pairs = [pair for pair in zip(lines, given) if pair[1]]
         name = ", ".join(value_text(*pair, has_caches) for pair in pairs)
         cases = {int(case.given[at]): case for case in reversed(found[given])}
-        shown.append(Line(name, [points([cases[x] for x in sorted(cases)], lambda case: int(
-            case.given[at]), options, table, lines, has_caches)]))
+        shown.append(Line(name, points([cases[x] for x in sorted(cases)], lambda case: int(
+            case.given[at]), table, lines, has_caches)))
     remarks = [value_text(*pair, has_caches) for pair in values.items()]
     remarks += [f"{len(shown)} of {len(found)} lines"] * (len(shown) < len(found))
     what = ACROSS[kind(across)]
@@ -184,26 +173,21 @@ def by_front(table, measure):
     sizes = [option for option in table.options if kind(option) in ("size", "sets")]
     lines = [option for option in varied(table) if kind(option) != "size" or len(sizes) > 1]
     has_caches = len({cache(option) for option in lines}) > 1
-    cloud, front = (points(cases, lambda case: case.size, table.options, table, lines, has_caches)
+    cloud, front = (points(cases, lambda case: case.size, table, lines, has_caches)
                     for cases in (table.cases, pareto(table.cases)))
     words = "size of all caches in bytes" if len(sizes) > 1 else pictures.SIZE
-    lines = [Line("least up to this size", [front])]
-    return Picture("pareto", 0, measure.least, words, "", lines, cloud)
-
-
-def options_of(views):
-    """The options that some tables have."""
-    return list(dict.fromkeys(option for view in views for option in view.table.options))
+    lines = [Line("least up to this size", front)]
+    return Picture("pareto", 0, measure.least, words, "", lines, "front", cloud)
 
 
 def of_several(asked, tables, views, measure):
     """The picture of several tables."""
-    options, found, drawn = options_of(views), [], []
+    found, drawn = [], []
     has_own = len({view.table.measure for view in views}) > 1
     for given, view in zip(tables, views):
-        drawn.append(by_across(asked, view, measure, options))
+        drawn.append(by_across(asked, view, measure))
         name = given.name + f" ({cache(view.across)})" * has_own
-        found += [Line(f"{name}, {line.name}" if line.name else name, line.runs)
+        found += [Line(f"{name}, {line.name}" if line.name else name, line.points)
                   for line in drawn[-1].lines]
     lines = pictures.evenly(found)
     remarks = [f"{len(lines)} of {len(found)} lines"] * (len(lines) < len(found))
@@ -241,7 +225,7 @@ def drawn(asked, tables):
         fail("the tables have no measure in common: name one by --measure")
     measure = measure_of(views)
     runs = sum(len(case.values) for case in first.table.cases)
-    counts = f"{runs:,} run{'s' * (runs > 1)}, {first.table.references:,} references"
+    counts = f"{counted(runs, 'run', '{:,}'.format)}, {first.table.references:,} references"
     if len(tables) > 1:
         if asked.only not in (None, "size"):
             fail("several tables of din have the picture size alone")
@@ -250,4 +234,4 @@ def drawn(asked, tables):
         return by_front(first.table, measure), measure, counts
     if asked.only not in (None, "size"):
         fail(f"{first.file}: a table of din has the pictures size and pareto")
-    return by_across(asked, first, measure, first.table.options), measure, counts
+    return by_across(asked, first, measure), measure, counts

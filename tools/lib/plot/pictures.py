@@ -1,16 +1,17 @@
-"""What tools/plot draws, by gnuplot and in a browser alike: lines, points, their axes and ticks."""
+"""What tools/plot draws, on whatever it draws it: lines, points, their axes and ticks."""
 
 import math
 import re
+import textwrap
 from collections import namedtuple
 
 from lib.plot import MOST_LINES
 from lib.tool import size_text
 
-# of Okabe and Ito, but for a pale yellow: all people can tell them apart, also the colour-blind
-COLOURS = ("#0072b2", "#d55e00", "#009e73", "#cc79a7", "#e69f00", "#56b4e9", "#000000")
 SIZE = "cache size in bytes"
 UNIT = re.compile(r" in (per cent|bytes|cycles \(AMAT\))$")
+# of Okabe and Ito, except for a pale yellow: all people can tell them apart, also the colour-blind
+COLOURS = ("#0072b2", "#d55e00", "#009e73", "#cc79a7", "#e69f00", "#56b4e9", "#000000")
 # areas of a stack, above the two lowest: shades that differ in lightness too
 STACK = ("#feedde", "#fdbe85", "#fd8d3c", "#d94701", "#8c2d04", "#6baed6", "#08306b")
 GREYS = ("#f4f4f4", "#dcdcdc", "#c0c0c0", "#a2a2a2", "#848484", "#606060", "#202020")
@@ -21,23 +22,19 @@ class Point(namedtuple("Point", "x y told ends", defaults=((),))):
     """A cache in a picture: its place, ends over several seeds, and a function of what is said of
     it and its label, which few of a million are asked for."""
 
-    @property
-    def values(self):
-        return self.told()[0]
+
+class Line(namedtuple("Line", "name points")):
+    """A line of a picture: its name in the legend, and its points, with None where it is cut."""
 
     @property
-    def label(self):
-        return self.told()[1]
+    def places(self):
+        return [(point.x, point.y) for point in self.points if point]
 
 
-class Line(namedtuple("Line", "name runs")):
-    """A line of a picture: its name in the legend, and its points, cut where one is missing."""
-
-
-class Measure(namedtuple("Measure", "up name about is_percent is_linear",
-                         defaults=("miss ratio in per cent", "Miss ratio", "", True, False))):
-    """The vertical axis: its name there and above pictures, what points tell, if it is per cent,
-    and whether it must begin at 0."""
+class Measure(namedtuple("Measure", "up name is_percent is_linear",
+                         defaults=("miss ratio in per cent", "Miss ratio", True, False))):
+    """The vertical axis: its name there and above pictures, if it is per cent, and whether it must
+    begin at 0."""
 
     @property
     def least(self):
@@ -47,18 +44,37 @@ class Measure(namedtuple("Measure", "up name about is_percent is_linear",
         return f"The smallest caches with the least {UNIT.sub('', self.up)}"
 
 
-class Picture(namedtuple("Picture", "name fixed title across legend lines cloud labels is_curve "
-                         "is_front is_stack", defaults=([], "", False, False, False))):
+class Picture(namedtuple("Picture", "name fixed title across legend lines style cloud labels names",
+                         defaults=("marks", [], "", ()))):
     """A picture of some caches. `fixed` is the block size, or the ways, that all its caches have.
-    The picture of a Pareto front has one line, the front, above a cloud of all caches, and says
-    what their labels are; those of several tables have a line for each, and no cloud. A curve is a
-    line without marks. In a stack all below a line is filled, and later lines lie on earlier ones.
-    """
+    The picture of a Pareto front has one line, the front, before a cloud of all caches, and says
+    what their labels are; those of several tables have a line for each, and no cloud.
+
+    The style is `marks`, `curve` for lines without marks, `steps`, `stack` where all below a line
+    is filled and later lines lie on earlier ones, or `bars` that stand on each other, at places
+    that have names."""
 
     @property
     def points(self):
         """All that it shows."""
-        return self.cloud or [point for line in self.lines for run in line.runs for point in run]
+        return self.cloud or [point for line in self.lines for point in line.points if point]
+
+    def title_lines(self, columns):
+        """The title in lines of so many letters. In a long one what is fixed, and what labels are,
+        have their own."""
+        labels = f"({self.labels})" * bool(self.labels)
+        whole = f"{self.title} {labels}".strip()
+        parts = [whole] if len(whole) <= columns else [*self.title.split(": ", 1), labels]
+        return [line for part in parts for line in textwrap.wrap(part, max(columns, 9))]
+
+    def colours(self, mono):
+        """The colour of each line, or area. The two lowest of a stack are always the same."""
+        if self.style == "stack":
+            shades = GREYS if mono else STACK
+            return [*shades[:len(self.lines) - 2], *shades[-2:]]
+        if self.style == "bars" and mono:
+            return GREYS[1::2]
+        return [BLACK] * MOST_LINES if mono else COLOURS
 
 
 class Axis(namedtuple("Axis", "low high log ticks minor foot")):
@@ -68,14 +84,7 @@ class Axis(namedtuple("Axis", "low high log ticks minor foot")):
         """How far along the axis some values stand: 0 at its low end, 1 at the high one."""
         measure = math.log if self.log else float
         low, high = measure(self.low), measure(self.high)
-        return ((measure(value) - low) / (high - low) for value in values)
-
-    def fraction(self, value):
-        return next(self.fractions([value]))
-
-    def height(self, value):
-        """Where a value of a cache stands."""
-        return value or self.foot
+        return [(measure(value or self.foot) - low) / (high - low) for value in values]
 
 
 def short(size):
@@ -83,16 +92,17 @@ def short(size):
     return size_text(size).upper()
 
 
+def counted(number, what, text=str):
+    """A number of some things: 1 way, 2 ways."""
+    return f"1 {what}" if number == 1 else f"{text(number)} {what}s"
+
+
 def ways_text(ways):
-    return "1 way" if ways == 1 else f"{ways} ways"
-
-
-def sets_text(sets):
-    return "1 set" if sets == 1 else f"{short(sets)} sets"
+    return counted(ways, "way")
 
 
 def bytes_text(size):
-    return "1 byte" if size == 1 else f"{short(size)} bytes"
+    return counted(size, "byte", short)
 
 
 def nearest(values, wanted):
@@ -104,15 +114,21 @@ def handful(values, most=MOST_LINES):
     """Some numbers in order: all if they are few, else several powers of two; or evenly thinned."""
     values = sorted(set(values))
     powers = [value for value in values if value & (value - 1) == 0]
-    if len(values) > most and len(powers) > 2:
-        values = powers
-    return evenly(values, most)
+    return evenly(powers if len(values) > most and len(powers) > 2 else values, most)
 
 
 def evenly(values, most=MOST_LINES):
     """At most so many of some values in even steps, and always the last one."""
     chosen = values[:: math.ceil(len(values) / most)]
     return chosen if chosen[-1] == values[-1] else [*chosen[: most - 1], values[-1]]
+
+
+def number_text(value):
+    """A number in few letters: 0.05, 2000, 20M."""
+    for unit, letter in ((1e12, "T"), (1e9, "G"), (1e6, "M"), (1e3, "k")):
+        if unit <= abs(value) < 1e15:
+            return f"{value / unit:.6g}{letter}"
+    return f"{value:.6g}".replace("e-0", "e-").replace("e+", "e")
 
 
 def linear_axis(least, greatest, closest, most):
@@ -127,14 +143,6 @@ def linear_axis(least, greatest, closest, most):
     values = [step * count for count in range(lowest, int(high / step) + 1)]
     ticks = [(value, number_text(value)) for value in values if value <= most]
     return Axis(min(low, lowest * step), high, False, ticks, [], 0.0)
-
-
-def number_text(value):
-    """A number in few letters: 0.05, 2000, 20M."""
-    for unit, letter in ((1e12, "T"), (1e9, "G"), (1e6, "M"), (1e3, "k")):
-        if unit <= abs(value) < 1e15:
-            return f"{value / unit:.6g}{letter}"
-    return f"{value:.6g}".replace("e-0", "e-").replace("e+", "e")
 
 
 def log_ticks(low, high, closest):
@@ -155,11 +163,11 @@ def log_axis(values, closest, most):
     span = greatest / least
     foot = least / span ** 0.12 if 0 in values else 0.0
     low, high = (foot or least) / span ** 0.12, greatest * span ** 0.05
-    ticks = [(value, number_text(value)) for value in log_ticks(low, high, closest)
-             if (0.999 * least if foot else low) <= value <= min(high, most)]
     apart = closest * math.log(high / low)
-    ticks = [tick for tick in ticks if not foot or math.log(tick[0] / foot) >= apart]
     lowest = least if foot else low  # nothing stands between the foot and the least value
+    ticks = [(value, number_text(value)) for value in log_ticks(low, high, closest)
+             if (0.999 * lowest if foot else low) <= value <= min(high, most)
+             and (not foot or math.log(value / foot) >= apart)]
     decades = range(math.floor(math.log10(lowest)), math.ceil(math.log10(high)))
     minor = [digit * 10.0 ** decade for decade in decades for digit in range(1, 10)]
     minor = [value for value in minor if len(decades) < 7 and lowest <= value <= high
@@ -167,9 +175,13 @@ def log_axis(values, closest, most):
     return Axis(low, high, True, [(foot, "0")] * bool(foot) + ticks, minor, foot)
 
 
-def value_axis(points, measure, closest):
+def value_axis(pictures, measure, closest):
     """The axis of the measure: logarithmic if the greatest is at least five times the least."""
-    values = [value for point in points for value in (point.y, *point.ends)]
+    values = [value for picture in pictures for point in picture.points
+              for value in (point.y, *point.ends)]
+    for picture in pictures:
+        if picture.names:
+            values += map(sum, zip(*([point.y for point in line.points] for line in picture.lines)))
     above = [value for value in values if value]
     most = 100 if measure.is_percent and max(values) <= 100 else math.inf
     is_wide = bool(above) and min(values) >= 0 and max(above) >= 5 * min(above)
@@ -178,14 +190,13 @@ def value_axis(points, measure, closest):
     return linear_axis(min(values), max(values), 1.5 * closest, most)
 
 
-def fills(lines, mono):
-    """The colours of a stack's areas; the two lowest are always the same."""
-    colours = GREYS if mono else STACK
-    return [*colours[:len(lines) - 2], *colours[-2:]]
-
-
-def size_axis(sizes, closest):
-    """An axis of bytes, logarithmic, with ticks at powers of two."""
+def size_axis(picture, closest):
+    """An axis of bytes, logarithmic, with ticks at powers of two; or the places of bars."""
+    if picture.names:
+        step = math.ceil(closest * len(picture.names))
+        ticks = list(enumerate(picture.names))[::step]
+        return Axis(-0.5, len(picture.names) - 0.5, False, ticks, [], 0.0)
+    sizes = [point.x for point in picture.points]
     least, greatest = min(sizes), max(sizes)
     if least == greatest:
         return Axis(least / 2, least * 2, True, [(least, short(least))], [], 0.0)
@@ -197,20 +208,33 @@ def size_axis(sizes, closest):
     return Axis(low, high, True, [(value, short(value)) for value in values], [], 0.0)
 
 
+def is_broad(picture):
+    """Whether its axis has more than one size: else its points stand in a column."""
+    return len({point.x for point in picture.points}) > 1
+
+
+def by_rank(front):
+    """Those of the front in the order in which they get labels: first that which misses least, then
+    sizes that are powers of two."""
+    return sorted(front, key=lambda one: one != front[-1] and 1 + (one.x & (one.x - 1) != 0))
+
+
 def thinned(points, across, up, columns, lines):
-    """Some points, one for each cell of so many columns and lines that has any."""
-    cells = {}
+    """Some points, the last for each cell of so many columns and lines that has any: no more can be
+    seen."""
     right = across.fractions(point.x for point in points)
-    high = up.fractions(up.height(point.y) for point in points)
-    for x, y, point in zip(right, high, points):
-        cells.setdefault((round(columns * x), round(lines * y)), point)
+    high = up.fractions(point.y for point in points)
+    cells = {(round(columns * x), round(lines * y)): point
+             for x, y, point in zip(right, high, points)}
     return list(cells.values())
 
 
-def thinned_lines(picture, across, up, columns, lines):
-    """A picture whose curves have no more points than can be seen; each keeps its last one."""
-    if not picture.is_curve:
-        return picture
-    kept = [Line(line.name, [[*thinned(run[:-1], across, up, columns, lines), run[-1]]
-                             for run in line.runs]) for line in picture.lines]
-    return picture._replace(lines=kept)
+def shown(picture, across, up, columns, lines):
+    """A picture whose cloud or curves have no more points than can be seen."""
+    def some(points):
+        return thinned(points, across, up, columns, lines)
+
+    if picture.style == "curve":
+        return picture._replace(lines=[Line(line.name, some(line.points))
+                                       for line in picture.lines])
+    return picture._replace(cloud=some(picture.cloud))

@@ -1,0 +1,102 @@
+"""The pictures of misses by their kinds: the three C's, stacked by cache size as Hennessy and
+Patterson draw them, of a table of `three-c`; and those of fetches, reads and writes."""
+
+from lib import costs, table
+from lib.plot import pictures, sweep
+from lib.plot.pictures import (SIZE, Line, Measure, Picture, Point, bytes_text, handful, is_broad,
+                               short, ways_text)
+from lib.tool import fail
+
+MOST_WAYS = len(pictures.STACK) - 2
+OF_REFERENCES = "misses in per cent of references"
+# the measure of each picture
+MEASURES = {"three-c": Measure(is_linear=True), "kinds": Measure(OF_REFERENCES, is_linear=True)}
+
+
+def rows_of(given, *columns):
+    """The caches of a table that have numbers in some columns, and these for each cache."""
+    found, several = {}, [table.read_table(given.lines, given.shown, name) for name in columns]
+    for row in (row for rows in several for row in rows):
+        found.setdefault(row.cache, []).append(row.value)
+    rows = [row for row in several[0] if len(found[row.cache]) == len(columns)]
+    sweep.judge(rows, given.file)
+    return rows, found
+
+
+def line(name, rows, misses, text):
+    """Some caches by size, given how many misses of each are drawn, and what is said of it."""
+    def told(row):
+        return f"{row.size:,} bytes\n{text(row)}", ""
+
+    return Line(name, [Point(row.size, float(100 * misses(row) / max(1, row.references)),
+                             lambda row=row: told(row)) for row in rows])
+
+
+def three_c(rows, found, bsize):
+    """The picture at one block size: from the top the misses of 1 way, of 2 ways and so on, and
+    those of a fully associative cache, which are capacity and compulsory ones."""
+    def compulsory(row):
+        return found[row.cache][1]
+
+    def unshared(row):
+        return sum(found[row.cache])
+
+    rows = [row for row in rows if row.bsize == bsize]
+    # associativities that are powers of two have sizes in common, if any have
+    ways = {row.assoc for row in rows}
+    ways = handful({count for count in ways if count & (count - 1) == 0} or ways, MOST_WAYS)
+    rows = sorted(row for row in rows if row.assoc in ways)
+    by_place = {row.size: row for row in rows}
+    sizes = [by_place[size] for size in sorted(by_place)]
+    lines = [line(ways_text(count), sorted((row for row in rows if row.assoc == count),
+                                           key=lambda row: row.size), lambda row: row.misses,
+                  lambda row: f"{ways_text(row.assoc)}: misses {row.misses:,}, of these conflict "
+                              f"{int(row.misses - unshared(row)):,}") for count in ways]
+    lines += [line("capacity", sizes, unshared,
+                   lambda row: f"fully associative: misses {int(unshared(row)):,}, of these "
+                               f"capacity {int(found[row.cache][0]):,}"),
+              line("compulsory", sizes, compulsory,
+                   lambda row: f"compulsory misses {int(compulsory(row)):,}")]
+    least = f"{min(ways)} to " * (len(ways) > 1)
+    title = (f"The three C's by cache size: conflict misses of {least}{ways_text(max(ways))}, "
+             f"blocks of {bytes_text(bsize)}")
+    return Picture("three-c", bsize, title, SIZE, "", lines, "stack")
+
+
+def of_references(rows, found, bsize, ways):
+    """Bars of the misses of fetches, reads and writes, at one block size and associativity."""
+    rows = sorted(row for row in rows if (row.bsize, row.assoc) == (bsize, ways))
+    if not rows:
+        fail(f"no cache has blocks of {bytes_text(bsize)} and {ways_text(ways)}")
+    lines = [line(name, rows, lambda row, at=at: found[row.cache][at],
+                  lambda row, at=at, name=name: f"{ways_text(ways)}: {name} misses "
+                                                f"{int(found[row.cache][at]):,}")
+             for at, name in enumerate(("fetch", "read", "write"))]
+    lines = [Line(name, [point._replace(x=at) for at, point in enumerate(points)])
+             for name, points in lines]
+    title = (f"Misses by cache size: fetches, reads and writes, blocks of {bytes_text(bsize)}, "
+             f"{ways_text(ways)}")
+    return Picture("kinds", bsize, title, SIZE, "", lines, "bars",
+                   names=[short(row.size) for row in rows])
+
+
+def drawn(asked, given):
+    """The picture of the block size that is asked for, those of all that may be chosen, and the
+    caches."""
+    if costs.column_of(asked) != "misses":
+        fail(f"--only {asked.only} draws misses by their kinds, and no other measure")
+    of_three = asked.only == "three-c"
+    columns = ("capacity", "compulsory") if of_three else (
+        "fetch-misses", "read-misses", "write-misses")
+    rows, found = rows_of(given, *columns)
+    sweeps = sweep.Sweeps(asked, [given._replace(rows=rows)], None)
+    fixed = sweeps.block_size
+    if of_three:
+        made = {bsize: three_c(rows, found, bsize) for bsize in sorted({row.bsize for row in rows})}
+        if not is_broad(made[fixed]):
+            fail(f"{given.file}: a picture of the three C's is of caches of several sizes")
+    else:
+        ways = sweeps.only("bsize", fixed).associativity
+        made = {bsize: of_references(rows, found, bsize, ways) for bsize in sorted(
+            {row.bsize for row in rows if row.assoc == ways})}
+    return made[fixed], made, rows
