@@ -1,7 +1,7 @@
 """The pictures of misses by their kinds: the three C's, stacked by cache size as Hennessy and
 Patterson draw them, of a table of `three-c`; and those of fetches, reads and writes."""
 
-from lib import costs, table
+from lib import table
 from lib.plot import pictures, sweep
 from lib.plot.pictures import (SIZE, Line, Measure, Picture, Point, bytes_text, handful, is_broad,
                                short, ways_text)
@@ -23,68 +23,56 @@ def rows_of(given, *columns):
     return rows, found
 
 
-def line(name, rows, misses, text):
+def line(name, rows, misses, text, style="area"):
     """Some caches by size, given how many misses of each are drawn, and what is said of it."""
-    def told(row):
-        return f"{row.size:,} bytes\n{text(row)}", ""
-
     return Line(name, [Point(row.size, float(100 * misses(row) / max(1, row.references)),
-                             lambda row=row: told(row)) for row in rows])
+                             lambda row=row: (f"{row.size:,} bytes\n{text(row)}", ""))
+                       for row in sorted(rows, key=lambda row: row.size)], style)
 
 
 def three_c(rows, found, bsize):
     """The picture at one block size: from the top the misses of 1 way, of 2 ways and so on, and
     those of a fully associative cache, which are capacity and compulsory ones."""
-    def compulsory(row):
-        return found[row.cache][1]
-
     def unshared(row):
-        return sum(found[row.cache])
+        return int(sum(found[row.cache]))
 
     rows = [row for row in rows if row.bsize == bsize]
     # associativities that are powers of two have sizes in common, if any have
     ways = {row.assoc for row in rows}
     ways = handful({count for count in ways if count & (count - 1) == 0} or ways, MOST_WAYS)
     rows = sorted(row for row in rows if row.assoc in ways)
-    by_place = {row.size: row for row in rows}
-    sizes = [by_place[size] for size in sorted(by_place)]
-    lines = [line(ways_text(count), sorted((row for row in rows if row.assoc == count),
-                                           key=lambda row: row.size), lambda row: row.misses,
+    sizes = {row.size: row for row in rows}.values()
+    lines = [line(ways_text(count), [row for row in rows if row.assoc == count],
+                  lambda row: row.misses,
                   lambda row: f"{ways_text(row.assoc)}: misses {row.misses:,}, of these conflict "
-                              f"{int(row.misses - unshared(row)):,}") for count in ways]
+                              f"{row.misses - unshared(row):,}") for count in ways]
     lines += [line("capacity", sizes, unshared,
-                   lambda row: f"fully associative: misses {int(unshared(row)):,}, of these "
-                               f"capacity {int(found[row.cache][0]):,}"),
-              line("compulsory", sizes, compulsory,
-                   lambda row: f"compulsory misses {int(compulsory(row)):,}")]
+                   lambda row: f"fully associative: misses {unshared(row):,}, of these capacity "
+                               f"{int(found[row.cache][0]):,}"),
+              line("compulsory", sizes, lambda row: found[row.cache][1],
+                   lambda row: f"compulsory misses {int(found[row.cache][1]):,}")]
     least = f"{min(ways)} to " * (len(ways) > 1)
     title = (f"The three C's by cache size: conflict misses of {least}{ways_text(max(ways))}, "
              f"blocks of {bytes_text(bsize)}")
-    return Picture("three-c", bsize, title, SIZE, "", lines, "stack")
+    return Picture("three-c", bsize, title, SIZE, "", lines)
 
 
 def of_references(rows, found, bsize, ways):
     """Bars of the misses of fetches, reads and writes, at one block size and associativity."""
     rows = sorted(row for row in rows if (row.bsize, row.assoc) == (bsize, ways))
-    if not rows:
-        fail(f"no cache has blocks of {bytes_text(bsize)} and {ways_text(ways)}")
     lines = [line(name, rows, lambda row, at=at: found[row.cache][at],
-                  lambda row, at=at, name=name: f"{ways_text(ways)}: {name} misses "
-                                                f"{int(found[row.cache][at]):,}")
+                  lambda row, at=at, name=name: f"{name} misses {int(found[row.cache][at]):,} of "
+                                                f"{row.misses:,}", "bar")
              for at, name in enumerate(("fetch", "read", "write"))]
-    lines = [Line(name, [point._replace(x=at) for at, point in enumerate(points)])
-             for name, points in lines]
-    title = (f"Misses by cache size: fetches, reads and writes, blocks of {bytes_text(bsize)}, "
-             f"{ways_text(ways)}")
-    return Picture("kinds", bsize, title, SIZE, "", lines, "bars",
-                   names=[short(row.size) for row in rows])
+    lines = [each._replace(points=[point._replace(x=at) for at, point in enumerate(each.points)])
+             for each in lines]
+    title = f"Misses by cache size: blocks of {bytes_text(bsize)}, {ways_text(ways)}"
+    return Picture("kinds", bsize, title, SIZE, "", lines, names=[short(row.size) for row in rows])
 
 
 def drawn(asked, given):
     """The picture of the block size that is asked for, those of all that may be chosen, and the
     caches."""
-    if costs.column_of(asked) != "misses":
-        fail(f"--only {asked.only} draws misses by their kinds, and no other measure")
     of_three = asked.only == "three-c"
     columns = ("capacity", "compulsory") if of_three else (
         "fetch-misses", "read-misses", "write-misses")

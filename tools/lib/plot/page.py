@@ -19,15 +19,19 @@ SYMBOLS = ("circle", "square", "triangle-up", "triangle-down", "diamond", "circl
            "square-open")
 DASHES = ("solid", "dash", "dot", "dashdot", "longdash", "longdashdot", "8px,3px,2px,3px,2px,3px")
 UUID = re.compile("[0-9a-f]{8}(-[0-9a-f]{4}){3}-[0-9a-f]{12}")
-CELLS = 400, 200  # of which each shows one of all caches
 # what may be chosen for a picture: its word, its name after the page's '#', and the choices' texts
 BLOCK_SIZE = ("Block size", "bsize", pictures.bytes_text)
 WAYS = ("Associativity", "ways", pictures.ways_text)
-MENUS = {"block": WAYS, "traffic": WAYS}
 FONT = "system-ui, 'DejaVu Sans', Verdana, sans-serif"
-BLANK = "\N{NO-BREAK SPACE}"
-CLEAR = "rgba(0,0,0,0)"
+CLEAR, BLANK = "rgba(0,0,0,0)", "\N{NO-BREAK SPACE}"
 EDGE = {"color": "#222222", "width": 1}  # of areas and bars
+# How all is laid out.
+LAYOUT = {
+    "template": "none", "font": {"family": FONT, "size": 14, "color": "#222"}, "barmode": "stack",
+    "hovermode": "closest", "hoverlabel": {"align": "left"}, "paper_bgcolor": CLEAR,
+    "plot_bgcolor": CLEAR, "modebar": {"bgcolor": CLEAR, "color": "#999", "activecolor": "#222"},
+    "margin": {"t": 40, "r": 20, "b": 60, "l": 60},
+    "legend": {"orientation": "h", "x": 0, "y": 1, "yanchor": "bottom"}}
 # Whatever plotly might ask for, the browser must not fetch it.
 POLICY = ("default-src 'none'; script-src 'unsafe-inline'; style-src 'unsafe-inline'; "
           "img-src data: blob:")
@@ -44,7 +48,10 @@ section {{ overflow: hidden; break-inside: avoid }}
     .plotly-graph-div {{ filter: invert(.9) hue-rotate(180deg) brightness(1.25) }}
 }}
 @media print, (max-width: 640px) {{ .modebar {{ display: none !important }} }}
-@media print {{ label, .screen {{ display: none }} }}
+@media print {{
+    label, .screen {{ display: none }}
+    .plotly-graph-div {{ height: 330px !important }}
+}}
 """
 SCRIPT = """
 const asked = new URLSearchParams(location.hash.slice(1));
@@ -67,7 +74,7 @@ for (const menu of document.querySelectorAll("select")) {
 }
 const sized = (width, height) => document.querySelectorAll(".plotly-graph-div").forEach(
     plot => Plotly.relayout(plot, {width, height}));
-onbeforeprint = () => sized(680, 360);
+onbeforeprint = () => sized(680, 330);
 onafterprint = () => sized(null, null);
 """
 
@@ -77,136 +84,95 @@ def plain(words):
     return html.escape(words, quote=False).replace("\n", "<br>")
 
 
-def points(some, up, measure, name=""):
-    """The places of some caches, and what the pointer shows of each. None cuts a line."""
-    def about(point):
-        number = "{:.4g}" if measure.is_percent else "{:.10g}"
-        value = number.format(point.y)
-        if point.ends:
-            value += f" ({number.format(point.ends[0])} to {number.format(point.ends[1])})"
-        told = f"{point.told()[0]}\n{measure.up}: {value}"
-        return plain(f"{name}\n{told}" if name else told)
-
-    return {"x": [point and point.x for point in some],
-            "y": [point and (point.y or up.foot) for point in some],
-            "hovertext": [point and about(point) for point in some], "hoverinfo": "text"}
+def about(point, line, measure):
+    """What the pointer shows of a cache."""
+    number = "{:.4g}" if measure.is_percent else "{:.10g}"
+    ends = " ({} to {})".format(*map(number.format, point.ends)) if point.ends else ""
+    name = f"{line.name}\n" * (line.style in ("marks", "curve", "steps") and bool(line.name))
+    return plain(f"{name}{point.told()[0]}\n{measure.up}: {number.format(point.y)}{ends}")
 
 
-def bars(some, up, colour):
-    """The bars from the least to the greatest of several seeds, where there are some."""
-    if not any(point and point.ends for point in some):
-        return {}
-    ends = [(point.ends or (point.y, point.y)) if point else (0, 0) for point in some]
-    return {"error_y": {
-        "type": "data", "symmetric": False, "color": colour, "thickness": 1,
-        "array": [end[1] - point.y if point else 0 for end, point in zip(ends, some)],
-        "arrayminus": [point.y - (end[0] or up.foot) if point else 0
-                       for end, point in zip(ends, some)]}}
-
-
-def of_lines(picture, up, measure, mono):
-    """The lines of a picture as plotly has them."""
-    for line, colour, symbol, dash in zip(
-            picture.lines, picture.colours(mono), SYMBOLS, DASHES):
-        looks = {"color": colour, "shape": "hv" if picture.style == "steps" else "linear"}
-        yield graph_objects.Scatter(
-            **points(line.points, up, measure, line.name), name=plain(line.name),
-            mode="lines" if picture.style == "curve" else "lines+markers",
-            line={**looks, "dash": dash if mono else "solid"},
-            marker={"color": colour, "symbol": symbol, "size": 8}, **bars(line.points, up, colour))
-
-
-def of_stack(picture, up, measure, mono):
-    """The same for a stack, in which later areas lie on earlier ones."""
-    for line, colour in zip(picture.lines, picture.colours(mono)):
-        yield graph_objects.Scatter(
-            **points(line.points, up, measure), mode="lines+markers", name=line.name,
-            fill="tozeroy", fillcolor=colour, line=EDGE, marker={"color": "#222222", "size": 4})
-
-
-def of_bars(picture, up, measure, mono):
-    for line, colour in zip(picture.lines, picture.colours(mono)):
-        yield graph_objects.Bar(**points(line.points, up, measure), name=line.name,
-                                marker={"color": colour, "line": EDGE})
-
-
-def of_front(picture, up, measure, mono):
-    """The same for the Pareto front. Of very many caches those close together are shown as one."""
-    front, named = picture.lines[0].points, plain(picture.lines[0].name)
-    across = pictures.size_axis(picture, 0.2)
-    cloud = pictures.thinned(picture.cloud, across, up, *CELLS)
-    steps = points([*front, front[-1]._replace(x=max(point.x for point in picture.cloud))], up,
-                   measure)
-    colour = pictures.BLACK if mono else pictures.FRONT
-    yield graph_objects.Scatter(**points(cloud, up, measure), mode="markers", name="all caches",
-                                marker={"color": pictures.PALE, "size": 5})
-    yield graph_objects.Scatter(x=steps["x"], y=steps["y"], mode="lines", name=named,
-                                line={"color": colour, "shape": "hv"}, hoverinfo="skip")
-    yield graph_objects.Scatter(**points(front, up, measure), mode="markers", showlegend=False,
-                                marker={"color": colour, "size": 7})
-
-
-TRACES = {"stack": of_stack, "bars": of_bars, "front": of_front}
+def trace(number, line, colour, up, measure, mono):
+    """A line of a picture as plotly has it. None cuts it."""
+    some, is_area = line.points, line.style == "area"
+    given = {"x": [point and point.x for point in some],
+             "y": [point and (point.y or up.foot) for point in some], "name": plain(line.name),
+             "hovertext": [point and about(point, line, measure) for point in some],
+             "hoverinfo": "text", "showlegend": bool(line.name)}
+    if line.style == "bar":
+        return graph_objects.Bar(given, marker={"color": colour, "line": EDGE})
+    if any(point and point.ends for point in some):
+        ends = [(point.ends or (point.y, point.y)) if point else (0, 0) for point in some]
+        given["error_y"] = {
+            "type": "data", "symmetric": False, "color": colour, "thickness": 1,
+            "array": [point and end[1] - point.y for end, point in zip(ends, some)],
+            "arrayminus": [point and point.y - (end[0] or up.foot)
+                           for end, point in zip(ends, some)]}
+    if is_area:
+        given.update(fill="tozeroy", fillcolor=colour)
+    is_step, is_small = line.style in ("front", "steps"), line.style in ("front", "dots", "tail")
+    return graph_objects.Scatter(
+        given, mode={"dots": "markers", "curve": "lines", "tail": "lines"}.get(
+            line.style, "lines+markers"),
+        line=EDGE if is_area else {"color": colour, "shape": "hv" if is_step else "linear",
+                                   "dash": DASHES[number] if mono and not is_small else "solid"},
+        marker={"color": EDGE["color"] if is_area else colour, "size": {
+            "area": 4, "dots": 5, "front": 7}.get(line.style, 8),
+                "symbol": "circle" if is_area or is_small else SYMBOLS[number]})
 
 
 def axis(ends, words):
     """An axis as plotly has it."""
     measure = math.log10 if ends.log else float
     places, texts = zip(*ends.ticks)
-    return {
-        "type": "log" if ends.log else "linear", "tickvals": places, "ticktext": texts,
-        "range": [measure(ends.low), measure(ends.high)], "zeroline": False, "automargin": True,
-        "title": {"text": plain(words), "standoff": 12, "font": {"size": 14}},
-        "gridcolor": "#e4e4e4", "tickangle": 0}
+    return {"type": "log" if ends.log else "linear", "tickvals": places, "ticktext": texts,
+            "range": [measure(ends.low), measure(ends.high)], "zeroline": False,
+            "title": {"text": plain(words), "standoff": 12, "font": {"size": 14}},
+            "automargin": True, "gridcolor": "#e4e4e4", "tickangle": 0}
 
 
 def size_axis(picture):
-    """One of sizes has a line for each power of two, and as many texts as a narrow page has room
-    for."""
-    few, all = (pictures.size_axis(picture, closest) for closest in (0.12, 0.03))
-    return all._replace(ticks=[(value, dict(few.ticks).get(value, BLANK)) for value, _ in all.ticks])
+    """One of sizes with a line for each power of two, and texts where a narrow page has room."""
+    few, every = (pictures.size_axis(picture, closest) for closest in (0.12, 0.03))
+    return every._replace(ticks=[(value, dict(few.ticks).get(value, BLANK))
+                                 for value, _ in every.ticks])
 
 
 def figure(offered, fixed, up, measure, mono):
     """A picture as plotly has it, with all that may be chosen instead."""
-    made = graph_objects.Figure()
-    for choice, picture in offered.items():
-        picture = pictures.shown(picture._replace(cloud=[]), pictures.size_axis(picture, 0.2), up,
-                                 1000, 500)._replace(cloud=picture.cloud)
-        for trace in TRACES.get(picture.style, of_lines)(picture, up, measure, mono):
-            made.add_trace(trace.update(meta=choice, visible=choice == fixed))
-    picture = offered[fixed]
-    every = picture._replace(lines=[line for one in offered.values() for line in one.lines])
-    return made.update_layout(
-        template="none", font={"family": FONT, "size": 14, "color": "#222"}, barmode="stack", hovermode="closest",
-        xaxis=axis(size_axis(every), picture.across), yaxis=axis(up, measure.up),
-        modebar={"bgcolor": CLEAR, "color": "#999", "activecolor": "#222"},
-        legend={"title": {"text": picture.legend, "font": {"size": 14}}, "orientation": "h", "y": 1, "x": 0,
-                "yanchor": "bottom"}, showlegend=any(line.name for line in picture.lines),
-        margin={"t": 40, "r": 20, "b": 60, "l": 60}, hoverlabel={"align": "left"},
-        paper_bgcolor=CLEAR, plot_bgcolor=CLEAR)
+    picture, traces = offered[fixed], []
+    across = size_axis(picture._replace(
+        lines=[line for one in offered.values() for line in one.lines]))
+    for choice, one in offered.items():
+        for number, (line, colour) in enumerate(one.coloured(mono)):
+            made = trace(number, pictures.seen(line, across, up), colour, up, measure, mono)
+            traces.append(made.update(meta=choice, visible=choice == fixed))
+    return graph_objects.Figure(traces, LAYOUT).update_layout(
+        xaxis=axis(across, picture.across), yaxis=axis(up, measure.up),
+        legend_title={"text": picture.legend, "font": {"size": 14}})
 
 
 def section(picture, offered, made):
     """The part of the page for a picture, with the menu of what it may fix."""
     menu = ""
     if len(offered) > 1:
-        word, name, text = MENUS.get(picture.name, BLOCK_SIZE)
+        word, name, text = WAYS if picture.name in ("block", "traffic") else BLOCK_SIZE
         options = "".join(f"<option value={fixed} data-title=\"{html.escape(one.title)}\""
                           f"{' selected' * (fixed == picture.fixed)}>{text(fixed)}</option>"
                           for fixed, one in offered.items())
-        menu = f"<label>{word} <select name={name} data-for={picture.name}>{options}</select></label>"
+        menu = (f"<label>{word} <select name={name} data-for={picture.name}>{options}</select>"
+                "</label>")
     shown = made.to_html(full_html=False, include_plotlyjs=False, default_height="440px",
                          config={"responsive": True, "displaylogo": False})
-    shown = UUID.sub(picture.name, shown)
-    return f"<section>\n<h2>{html.escape(picture.title)}</h2>\n{menu}\n{shown}\n</section>\n"
+    return (f"<section>\n<h2>{html.escape(picture.title)}</h2>\n{menu}\n"
+            f"{UUID.sub(picture.name, shown)}\n</section>\n")
 
 
 def page(drawn, counts, asked):
     """The page with these pictures, given for each what may be chosen instead."""
     offered = list(map(drawn.choices, drawn.pictures))
-    shown = [picture for several in offered for picture in several.values()]
-    up = pictures.value_axis(shown, drawn.measure, 0.062)
+    up = pictures.value_axis([picture for several in offered for picture in several.values()],
+                             drawn.measure, 0.062)
     sections = [section(picture, several, figure(several, picture.fixed, up, drawn.measure,
                                                  asked.mono))
                 for picture, several in zip(drawn.pictures, offered)]

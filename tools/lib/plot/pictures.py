@@ -15,6 +15,7 @@ COLOURS = ("#0072b2", "#d55e00", "#009e73", "#cc79a7", "#e69f00", "#56b4e9", "#0
 # areas of a stack, above the two lowest: shades that differ in lightness too
 STACK = ("#feedde", "#fdbe85", "#fd8d3c", "#d94701", "#8c2d04", "#6baed6", "#08306b")
 GREYS = ("#f4f4f4", "#dcdcdc", "#c0c0c0", "#a2a2a2", "#848484", "#606060", "#202020")
+CELLS = {"curve": (1000, 500), "dots": (400, 200)}  # columns and rows of what can be seen
 PALE, FRONT, BLACK = "#bbbbbb", "#d55e00", "#000000"
 
 
@@ -23,8 +24,11 @@ class Point(namedtuple("Point", "x y told ends", defaults=((),))):
     it and its label, which few of a million are asked for."""
 
 
-class Line(namedtuple("Line", "name points")):
-    """A line of a picture: its name in the legend, and its points, with None where it is cut."""
+class Line(namedtuple("Line", "name points style", defaults=("marks",))):
+    """A line of a picture: its name in the legend, its points, with None where it is cut, and a
+    style: `marks`; `curve` has no marks, `dots` nothing else; a `front` goes in steps, as do those of
+    several tables, `steps`, and has a `tail`; an `area` lies on the earlier ones, and a `bar`
+    stands on them."""
 
     @property
     def places(self):
@@ -44,20 +48,22 @@ class Measure(namedtuple("Measure", "up name is_percent is_linear",
         return f"The smallest caches with the least {UNIT.sub('', self.up)}"
 
 
-class Picture(namedtuple("Picture", "name fixed title across legend lines style cloud labels names",
-                         defaults=("marks", [], "", ()))):
-    """A picture of some caches. `fixed` is the block size, or the ways, that all its caches have.
-    The picture of a Pareto front has one line, the front, before a cloud of all caches, and says
-    what their labels are; those of several tables have a line for each, and no cloud.
-
-    The style is `marks`, `curve` for lines without marks, `steps`, `stack` where all below a line
-    is filled and later lines lie on earlier ones, or `bars` that stand on each other, at places
-    that have names."""
+class Picture(namedtuple("Picture", "name fixed title across legend lines labels names",
+                         defaults=("", ()))):
+    """A picture of some caches: the block size, or the ways, that all have, its title, the name of
+    its horizontal axis, the title of its legend, its lines, what the labels of a front are, and the
+    names of bars. A front is the second line, after all caches."""
 
     @property
     def points(self):
-        """All that it shows."""
-        return self.cloud or [point for line in self.lines for point in line.points if point]
+        return [point for line in self.lines for point in line.points if point]
+
+    @property
+    def front(self):
+        """The caches that may have a label, in the order in which they get one: first that which
+        misses least, then sizes that are powers of two."""
+        front = self.lines[1].points if self.lines[0].style == "dots" else []
+        return sorted(front, key=lambda one: one != front[-1] and 1 + (one.x & (one.x - 1) != 0))
 
     def title_lines(self, columns):
         """The title in lines of so many letters. In a long one what is fixed, and what labels are,
@@ -67,14 +73,24 @@ class Picture(namedtuple("Picture", "name fixed title across legend lines style 
         parts = [whole] if len(whole) <= columns else [*self.title.split(": ", 1), labels]
         return [line for part in parts for line in textwrap.wrap(part, max(columns, 9))]
 
-    def colours(self, mono):
-        """The colour of each line, or area. The two lowest of a stack are always the same."""
-        if self.style == "stack":
+    def coloured(self, mono):
+        """Each line with its colour. The two lowest areas are always the same."""
+        colours = [BLACK] * MOST_LINES if mono else COLOURS
+        if self.lines[0].style == "area":
             shades = GREYS if mono else STACK
-            return [*shades[:len(self.lines) - 2], *shades[-2:]]
-        if self.style == "bars" and mono:
-            return GREYS[1::2]
-        return [BLACK] * MOST_LINES if mono else COLOURS
+            colours = [*shades[:len(self.lines) - 2], *shades[-2:]]
+        elif self.lines[0].style == "dots":
+            colours = PALE, *[BLACK if mono else FRONT] * 2
+        elif self.names and mono:
+            colours = GREYS[1::2]
+        return list(zip(self.lines, colours))
+
+
+def front_of(every, front, name):
+    """The lines of a Pareto front before all caches. It goes on to the largest of these."""
+    end = front[-1]._replace(x=max(point.x for point in every))
+    return [Line("all caches", every, "dots"), Line(name, front, "front"),
+            Line("", [front[-1], end], "tail")]
 
 
 class Axis(namedtuple("Axis", "low high log ticks minor foot")):
@@ -85,6 +101,11 @@ class Axis(namedtuple("Axis", "low high log ticks minor foot")):
         measure = math.log if self.log else float
         low, high = measure(self.low), measure(self.high)
         return [(measure(value or self.foot) - low) / (high - low) for value in values]
+
+
+def printable(words):
+    """A title or a name in one line."""
+    return "".join(letter if letter.isprintable() else " " for letter in words)
 
 
 def short(size):
@@ -213,28 +234,19 @@ def is_broad(picture):
     return len({point.x for point in picture.points}) > 1
 
 
-def by_rank(front):
-    """Those of the front in the order in which they get labels: first that which misses least, then
-    sizes that are powers of two."""
-    return sorted(front, key=lambda one: one != front[-1] and 1 + (one.x & (one.x - 1) != 0))
+def seen(line, across, up):
+    """A line with no more points than can be seen: the last in each cell of the picture."""
+    if line.style not in CELLS:
+        return line
+    columns, rows = CELLS[line.style]
+    right = across.fractions(point.x for point in line.points)
+    high = up.fractions(point.y for point in line.points)
+    return line._replace(points=list({
+        (round(columns * x), round(rows * y)): point
+        for x, y, point in zip(right, high, line.points)}.values()))
 
 
-def thinned(points, across, up, columns, lines):
-    """Some points, the last for each cell of so many columns and lines that has any: no more can be
-    seen."""
-    right = across.fractions(point.x for point in points)
-    high = up.fractions(point.y for point in points)
-    cells = {(round(columns * x), round(lines * y)): point
-             for x, y, point in zip(right, high, points)}
-    return list(cells.values())
-
-
-def shown(picture, across, up, columns, lines):
-    """A picture whose cloud or curves have no more points than can be seen."""
-    def some(points):
-        return thinned(points, across, up, columns, lines)
-
-    if picture.style == "curve":
-        return picture._replace(lines=[Line(line.name, some(line.points))
-                                       for line in picture.lines])
-    return picture._replace(cloud=some(picture.cloud))
+def standing(line, up):
+    """A line whose zeros are at the foot of a logarithmic axis."""
+    return line._replace(points=[point and point._replace(y=point.y or up.foot)
+                                 for point in line.points])

@@ -144,26 +144,25 @@ def by_size(sweeps, bsize=None):
 def by_ways(sweeps, bsize=None):
     """The curves over all ways: one for each table at a block size and a number of sets; of one
     table for each number of sets at a block size, or for each block size."""
-    has_one_count = sweeps.is_one and len({row.sets for row in sweeps.rows}) == 1
-    bsize, legend = 0 if has_one_count else bsize or sweeps.block_size, ""
-    shown = sweeps.only("bsize", bsize) if bsize else sweeps
-    blocks, sets = f"blocks of {bytes_text(shown.rows[0].bsize)}", shown.rows[0].sets
+    legend = ""
+    if not sweeps.is_one or len({row.sets for row in sweeps.rows}) > 1:
+        bsize = bsize or sweeps.block_size
+        sweeps = sweeps.only("bsize", bsize)
+    sets, blocks = sweeps.rows[0].sets, f"blocks of {bytes_text(sweeps.rows[0].bsize)}"
     if not sweeps.is_one:
-        sets = shown.fixed("sets", None, 1, "number of sets")
-        groups = [(given.name, given.rows) for given in shown.only("sets", sets).tables]
-    elif not has_one_count:
-        groups = grouped(shown.rows, "sets", lambda count: counted(count, "set"))
+        sets = sweeps.fixed("sets", None, 1, "number of sets")
+        groups = [(given.name, given.rows) for given in sweeps.only("sets", sets).tables]
+    elif len({row.sets for row in sweeps.rows}) > 1:
+        sets, groups = 0, grouped(sweeps.rows, "sets", lambda count: counted(count, "set"))
     else:
-        groups, legend = grouped(shown.rows, "bsize", bytes_text), "block size"
-    kind = "fully associative" if sets == 1 else f"{sets} sets"
-    title = f"{kind}, {blocks}" if has_one_count or not sweeps.is_one else blocks
-    if has_one_count and len(groups) > 1:
-        title = kind
-    elif has_one_count:
-        groups, legend = [("", shown.rows)], ""
+        groups, legend = grouped(sweeps.rows, "bsize", bytes_text), "block size"
+        if len(groups) == 1:
+            groups, legend = [("", sweeps.rows)], ""
+    fixed = ["fully associative" if sets == 1 else f"{sets} sets"] * bool(sets)
+    fixed += [blocks] * (not legend)
     style = "curve" if max(len(group) for _, group in groups) >= MANY else "marks"
-    title = f"{sweeps.measure.name} by cache size: {title}"
-    return Picture("curve", bsize, title, SIZE, legend, [line(*group) for group in groups], style)
+    return Picture("curve", bsize or 0, f"{sweeps.measure.name} by cache size: {', '.join(fixed)}",
+                   SIZE, legend, [line(*group)._replace(style=style) for group in groups])
 
 
 def by_block(sweeps, ways=None):
@@ -194,11 +193,11 @@ def by_front(sweeps, _=None):
     """The smallest caches that miss least: before all others, or for each table."""
     given = "pareto", 0, sweeps.measure.least, SIZE, ""
     if not sweeps.is_one:
-        lines = [line(one.name, table.pareto(one.rows)) for one in sweeps.tables]
-        return Picture(*given, lines, "steps")
+        return Picture(*given, [Line(one.name, [*map(point, table.pareto(one.rows))], "steps")
+                                for one in sweeps.tables])
     named = f"{'fewest misses' if sweeps.measure == Measure() else 'least'} up to this size"
-    lines = [line(named, table.pareto(sweeps.rows))]
-    return Picture(*given, lines, "front", [*map(point, sweeps.rows)], "block size, sets, ways")
+    every, front = ([*map(point, rows)] for rows in (sweeps.rows, table.pareto(sweeps.rows)))
+    return Picture(*given, pictures.front_of(every, front, named), "block size, sets, ways")
 
 
 MADE = {"size": by_size, "curve": by_ways, "block": by_block, "pareto": by_front,
@@ -214,8 +213,6 @@ def drawn(sweeps):
 
     only = sweeps.asked.only
     first = "curve" if all(is_curve(given.rows) for given in sweeps.tables) else "size"
-    if not sweeps.is_one and only not in (None, "size", "curve", "pareto"):
-        fail(f"several tables have the pictures size, curve, pareto, and not {only}")
     if only or not sweeps.is_one:
         return [MADE[only or first](sweeps)]
     usual = [MADE[name](sweeps) for name in (first, "block", "pareto")]
