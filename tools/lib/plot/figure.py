@@ -15,6 +15,7 @@ try:
     import matplotlib
     from matplotlib.backends.backend_pgf import LatexError
     from matplotlib.figure import Figure
+    from matplotlib.ticker import NullFormatter, NullLocator
 except ImportError:
     tool.fail("matplotlib is missing: apt-get install python3-matplotlib")
 
@@ -65,7 +66,9 @@ class Canvas:
                          "that can be read")
         self.unit = (300 if is_print else 96) / 96
         self.set_looks()
-        self.figure = Figure((width / 96, height / 96), 96 * self.unit, layout="constrained")
+        dots = 96 * self.unit
+        self.figure = Figure([round(side * self.unit) / dots for side in (width, height)], dots,
+                             layout="constrained")
         if asked.title:
             title = textwrap.wrap(asked.title, int(width / self.em / LETTER / 1.3))
             self.figure.suptitle("\n".join(map(self.text, title)))
@@ -179,7 +182,9 @@ def set_axis(axes, letter, axis):
     axes.set(**{f"{letter}lim": (axis.low, axis.high)})
     which = getattr(axes, f"{letter}axis")
     which.set_ticks(*zip(*axis.ticks))
-    which.set_ticks(axis.minor, [""] * len(axis.minor), minor=True)
+    which.set_minor_formatter(NullFormatter())
+    if letter == "x" or axis.foot or axis.high > 1e7 * axis.low:
+        which.set_minor_locator(NullLocator())
 
 
 def figure_of(drawn, asked):

@@ -78,13 +78,13 @@ def drawn(asked, given):
         "fetch-misses", "read-misses", "write-misses")
     rows, found = rows_of(given, *columns)
     sweeps = sweep.Sweeps(asked, [given._replace(rows=rows)], None)
-    fixed = sweeps.block_size
+    fixed = sweeps.fixed("bsize")
     if of_three:
         made = {bsize: three_c(rows, found, bsize) for bsize in sorted({row.bsize for row in rows})}
         if not is_broad(made[fixed]):
             fail(f"{given.file}: a picture of the three C's is of caches of several sizes")
     else:
-        ways = sweeps.only("bsize", fixed).associativity
+        ways = sweeps.only("bsize", fixed).fixed("assoc")
         made = {bsize: of_references(rows, found, bsize, ways) for bsize in sorted(
             {row.bsize for row in rows if row.assoc == ways})}
     return made[fixed], made, rows

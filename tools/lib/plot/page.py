@@ -128,7 +128,8 @@ def axis(ends, words):
     return {"type": "log" if ends.log else "linear", "tickvals": places, "ticktext": texts,
             "range": [measure(ends.low), measure(ends.high)], "zeroline": False,
             "title": {"text": plain(words), "standoff": 12, "font": {"size": 14}},
-            "automargin": True, "gridcolor": "#e4e4e4", "tickangle": 0}
+            "automargin": True, "gridcolor": "#e4e4e4", "tickangle": 0, "tickfont": {"size": 12},
+            "ticks": "outside", "tickcolor": CLEAR}
 
 
 def size_axis(picture):

@@ -93,8 +93,8 @@ def front_of(every, front, name):
             Line("", [front[-1], end], "tail")]
 
 
-class Axis(namedtuple("Axis", "low high log ticks minor foot")):
-    """An axis: its ends, whether it is logarithmic, ticks with and without texts, where 0 is."""
+class Axis(namedtuple("Axis", "low high log ticks foot", defaults=(0.0,))):
+    """An axis: its ends, whether it is logarithmic, ticks with their texts, and where 0 is."""
 
     def fractions(self, values):
         """How far along the axis some values stand: 0 at its low end, 1 at the high one."""
@@ -157,43 +157,38 @@ def linear_axis(least, greatest, closest, most):
     ticks are at least `closest` of it apart."""
     low, high = 1.05 * min(least, 0), 1.05 * max(greatest, 0)
     high = high or (0.0 if low else 1.0)
-    span = high - low
-    power = 10.0 ** math.floor(math.log10(span * closest))
-    step = next(step * power for step in (1, 2, 5, 10, 20) if step * power >= span * closest)
+    gap = (high - low) * closest
+    power = 10.0 ** math.floor(math.log10(gap))
+    step = next(step * power for step in (1, 2, 5, 10, 20) if step * power >= gap)
     lowest = math.floor(min(least, 0) / step)
     values = [step * count for count in range(lowest, int(high / step) + 1)]
-    ticks = [(value, number_text(value)) for value in values if value <= most]
-    return Axis(min(low, lowest * step), high, False, ticks, [], 0.0)
+    return Axis(min(low, lowest * step), high, False,
+                [(value, number_text(value)) for value in values if value <= most])
 
 
 def log_ticks(low, high, closest):
     """The most ticks for an axis between two values that are at least a part `closest` apart."""
-    decades = range(math.floor(math.log10(low)), math.ceil(math.log10(high)) + 1)
-    whole = [10.0 ** decade for decade in decades]
+    whole = [10.0 ** decade for decade in range(math.floor(math.log10(low)),
+                                                math.ceil(math.log10(high)) + 1)]
     span = math.log10(high / low)
     for digits in ((1, 2, 3, 4, 5, 6, 7, 8, 9), (1, 2, 3, 5, 7), (1, 2, 3, 5), (1, 2, 5), (1, 3)):
-        gaps = [math.log10(after / digit) for digit, after in zip(digits, digits[1:] + (10,))]
-        if min(gaps) >= closest * span:
+        if min(map(math.log10, (after / digit for digit, after in zip(
+                digits, (*digits[1:], 10))))) >= closest * span:
             return [digit * power for power in whole for digit in digits]
     return whole[:: math.ceil(closest * span)]
 
 
 def log_axis(values, closest, most):
-    """A logarithmic axis around some values. A 0 among them stands at its foot."""
+    """A logarithmic axis around some values. A 0 among them stands at its foot, and no tick between
+    this and the least."""
     least, greatest = min(value for value in values if value), max(values)
     span = greatest / least
     foot = least / span ** 0.12 if 0 in values else 0.0
     low, high = (foot or least) / span ** 0.12, greatest * span ** 0.05
-    apart = closest * math.log(high / low)
-    lowest = least if foot else low  # nothing stands between the foot and the least value
-    ticks = [(value, number_text(value)) for value in log_ticks(low, high, closest)
-             if (0.999 * lowest if foot else low) <= value <= min(high, most)
-             and (not foot or math.log(value / foot) >= apart)]
-    decades = range(math.floor(math.log10(lowest)), math.ceil(math.log10(high)))
-    minor = [digit * 10.0 ** decade for decade in decades for digit in range(1, 10)]
-    minor = [value for value in minor if len(decades) < 7 and lowest <= value <= high
-             and all(abs(value / tick - 1) > 0.01 for tick, _ in ticks)]
-    return Axis(low, high, True, [(foot, "0")] * bool(foot) + ticks, minor, foot)
+    above = max(0.999 * least, foot * (high / low) ** closest) if foot else low
+    return Axis(low, high, True, [(foot, "0")] * bool(foot) + [
+        (value, number_text(value)) for value in log_ticks(low, high, closest)
+        if above <= value <= min(high, most)], foot)
 
 
 def value_axis(pictures, measure, closest):
@@ -215,18 +210,16 @@ def size_axis(picture, closest):
     """An axis of bytes, logarithmic, with ticks at powers of two; or the places of bars."""
     if picture.names:
         step = math.ceil(closest * len(picture.names))
-        ticks = list(enumerate(picture.names))[::step]
-        return Axis(-0.5, len(picture.names) - 0.5, False, ticks, [], 0.0)
+        return Axis(-0.5, len(picture.names) - 0.5, False, list(enumerate(picture.names))[::step])
     sizes = [point.x for point in picture.points]
     least, greatest = min(sizes), max(sizes)
     if least == greatest:
-        return Axis(least / 2, least * 2, True, [(least, short(least))], [], 0.0)
+        return Axis(least / 2, least * 2, True, [(least, short(least))])
     span = math.log2(greatest / least)
-    low, high = least / 2 ** (0.04 * span), greatest * 2 ** (0.04 * span)
     step = math.ceil(closest * span * 1.08)
     powers = range(math.ceil(math.log2(least)), math.floor(math.log2(greatest)) + 1, step)
-    values = [2 ** power for power in powers] or (least, greatest)
-    return Axis(low, high, True, [(value, short(value)) for value in values], [], 0.0)
+    return Axis(least / 2 ** (0.04 * span), greatest * 2 ** (0.04 * span), True, [
+        (value, short(value)) for value in [2 ** power for power in powers] or (least, greatest)])
 
 
 def is_broad(picture):

@@ -2,19 +2,21 @@
 
 import collections
 import functools
-import operator
 from collections import namedtuple
 
 from lib import costs, table
 from lib.plot import pictures
-from lib.plot.pictures import (SIZE, Line, Measure, Picture, Point, bytes_text, counted, handful,
-                               is_broad, short, ways_text)
+from lib.plot.pictures import (Line, Measure, Picture, Point, bytes_text, counted, handful, is_broad,
+                               short, ways_text)
 from lib.tool import MOST, fail
 
 # what is made of misses and block size, above pictures and with its unit
 NAMES = {costs.ACCESS_TIME: "Access time"}
 UNITS = {costs.ACCESS_TIME: "access time in cycles (AMAT)", costs.TRAFFIC: "traffic in bytes"}
 BOTH_WAYS = Measure("traffic in bytes, with copy-backs", "Traffic with copy-backs", False)
+AXES = {"size": "cache size", "bsize": "block size"}
+# what a picture may fix, with the usual value
+FIXED = {"bsize": ("block size", 64), "assoc": ("associativity", 4), "sets": ("number of sets", 1)}
 MANY = 32  # from so many points on a curve has no marks
 MOST_CHOICES = 64  # of a menu of a page
 
@@ -35,9 +37,11 @@ class Sweeps(namedtuple("Sweeps", "asked tables measure")):
         return self._replace(tables=[given._replace(rows=[
             row for row in given.rows if getattr(row, column) == value]) for given in self.tables])
 
-    def fixed(self, column, wanted, usual, what):
-        """The block size, associativity or number of sets of a picture: the wanted one, or of those
-        that are in all tables the usual one or the nearest to it."""
+    def fixed(self, column):
+        """The block size, associativity or number of sets of a picture: the one that is asked for,
+        or of those that are in all tables the usual one or the nearest to it."""
+        what, usual = FIXED[column]
+        wanted = {"bsize": self.asked.bsize, "assoc": self.asked.ways}.get(column)
         values = [{getattr(row, column) for row in given.rows} for given in self.tables]
         if wanted is None:
             common = set.intersection(*values)
@@ -50,13 +54,20 @@ class Sweeps(namedtuple("Sweeps", "asked tables measure")):
                 fail(f"{given.file}: no cache has the {what} {wanted}; there are {there}")
         return wanted
 
-    @property
-    def block_size(self):
-        return self.fixed("bsize", self.asked.bsize, 64, "block size")
+    def grouped(self, column, text):
+        """The rows of a handful of values of a column, each with its text; or of each table."""
+        if not self.is_one:
+            return [(given.name, given.rows) for given in self.tables]
+        return [(text(value), [row for row in self.rows if getattr(row, column) == value])
+                for value in handful(getattr(row, column) for row in self.rows)]
 
-    @property
-    def associativity(self):
-        return self.fixed("assoc", self.asked.ways, 4, "associativity")
+    def picture(self, name, fixed, groups, title, across="size", legend="", step=None):
+        """A picture with a line for each group of rows. It is cut where the next row skips a step
+        that another line has: a value of a column."""
+        steps = {getattr(row, step) for given in self.tables for row in given.rows} if step else ()
+        lines = [Line(name, points(rows, across, step, steps)) for name, rows in groups]
+        return Picture(name, fixed, f"{self.measure.name} by {AXES[across]}: {title}",
+                       f"{AXES[across]} in bytes", legend, lines)
 
 
 def judge(rows, name):
@@ -103,101 +114,79 @@ def told(row):
             f"hits {hits}, misses {misses}, evictions {evictions}", cache_text(row))
 
 
-def point(row, across="size"):
-    return Point(getattr(row, across), row.shown, functools.partial(told, row))
-
-
-def line(name, rows, across="size", step="size", steps=()):
-    """A line of some rows by one of their columns. It is cut where the next row skips a step that
-    another line has: a value of a column."""
-    points, last = [], None
-    for row in sorted(rows, key=operator.attrgetter(across)):
+def points(rows, across="size", step=None, steps=()):
+    """Some rows by one of their columns, with None where a step is skipped."""
+    found, last = [], None
+    for row in sorted(rows, key=lambda row: getattr(row, across)):
         if last and any(getattr(last, step) < other < getattr(row, step) for other in steps):
-            points.append(None)
-        points.append(point(row, across))
+            found.append(None)
+        found.append(Point(getattr(row, across), row.shown, functools.partial(told, row)))
         last = row
-    return Line(name, points)
-
-
-def grouped(rows, column, text):
-    """The rows of a handful of values of a column, each with its text."""
-    return [(text(value), [row for row in rows if getattr(row, column) == value])
-            for value in handful(getattr(row, column) for row in rows)]
+    return found
 
 
 def by_size(sweeps, bsize=None):
     """By cache size at one block size: a line for each associativity, or at one for each table."""
-    bsize = bsize or sweeps.block_size
-    shown = sweeps.only("bsize", bsize)
-    steps = {row.sets for given in shown.tables for row in given.rows}
-    title = f"{sweeps.measure.name} by cache size: blocks of {bytes_text(bsize)}"
-    if sweeps.is_one:
-        groups = grouped(shown.rows, "assoc", ways_text)
-    else:
-        ways = shown.associativity
-        groups = [(given.name, given.rows) for given in shown.only("assoc", ways).tables]
+    bsize = bsize or sweeps.fixed("bsize")
+    sweeps, title = sweeps.only("bsize", bsize), f"blocks of {bytes_text(bsize)}"
+    if not sweeps.is_one:
+        ways = sweeps.fixed("assoc")
         title += f", {ways_text(ways)}"
-    lines = [line(name, rows, step="sets", steps=steps) for name, rows in groups]
-    return Picture("size", bsize, title, SIZE, "", lines)
+    shown = sweeps if sweeps.is_one else sweeps.only("assoc", ways)
+    return sweeps.picture("size", bsize, shown.grouped("assoc", ways_text), title, step="sets")
 
 
 def by_ways(sweeps, bsize=None):
     """The curves over all ways: one for each table at a block size and a number of sets; of one
     table for each number of sets at a block size, or for each block size."""
-    legend = ""
     if not sweeps.is_one or len({row.sets for row in sweeps.rows}) > 1:
-        bsize = bsize or sweeps.block_size
+        bsize = bsize or sweeps.fixed("bsize")
         sweeps = sweeps.only("bsize", bsize)
-    sets, blocks = sweeps.rows[0].sets, f"blocks of {bytes_text(sweeps.rows[0].bsize)}"
     if not sweeps.is_one:
-        sets = sweeps.fixed("sets", None, 1, "number of sets")
-        groups = [(given.name, given.rows) for given in sweeps.only("sets", sets).tables]
-    elif len({row.sets for row in sweeps.rows}) > 1:
-        sets, groups = 0, grouped(sweeps.rows, "sets", lambda count: counted(count, "set"))
-    else:
-        groups, legend = grouped(sweeps.rows, "bsize", bytes_text), "block size"
-        if len(groups) == 1:
-            groups, legend = [("", sweeps.rows)], ""
-    fixed = ["fully associative" if sets == 1 else f"{sets} sets"] * bool(sets)
-    fixed += [blocks] * (not legend)
-    style = "curve" if max(len(group) for _, group in groups) >= MANY else "marks"
-    return Picture("curve", bsize or 0, f"{sweeps.measure.name} by cache size: {', '.join(fixed)}",
-                   SIZE, legend, [line(*group)._replace(style=style) for group in groups])
+        sweeps = sweeps.only("sets", sweeps.fixed("sets"))
+    sets, blocks = ({getattr(row, column) for row in sweeps.rows} for column in ("sets", "bsize"))
+    groups = (sweeps.grouped("bsize", bytes_text) if len(sets) == 1
+              else sweeps.grouped("sets", lambda count: counted(count, "set")))
+    if sweeps.is_one and len(sets) == len(blocks) == 1:
+        groups = [("", sweeps.rows)]
+    fixed = ["fully associative" if sets == {1} else f"{min(sets)} sets"] * (len(sets) == 1)
+    fixed += [f"blocks of {bytes_text(min(blocks))}"] * (len(blocks) == 1)
+    picture = sweeps.picture("curve", bsize or 0, groups, ", ".join(fixed),
+                             legend="block size" * (len(blocks) > 1))
+    if max(len(line.points) for line in picture.lines) < MANY:
+        return picture
+    return picture._replace(lines=[line._replace(style="curve") for line in picture.lines])
 
 
 def by_block(sweeps, ways=None):
     """By block size at one associativity, a line for each size (of several blocks, if any)."""
-    ways = ways or sweeps.associativity
-    rows = sweeps.only("assoc", ways).rows
-    blocks = {row.bsize for row in rows}
-    sizes = collections.Counter(row.size for row in rows)
+    ways = ways or sweeps.fixed("assoc")
+    sweeps = sweeps.only("assoc", ways)
+    sizes = collections.Counter(row.size for row in sweeps.rows)
     most = min(2, max(sizes.values()))
-    rows = [row for row in rows if sizes[row.size] >= most]
-    lines = [line(name, group, "bsize", "bsize", blocks)
-             for name, group in grouped(rows, "size", short)]
-    title = f"{sweeps.measure.name} by block size: {ways_text(ways)}"
-    return Picture("block", ways, title, "block size in bytes", "cache size", lines)
+    several = [row for row in sweeps.rows if sizes[row.size] >= most]
+    shown = sweeps._replace(tables=[sweeps.tables[0]._replace(rows=several)])
+    return sweeps.picture("block", ways, shown.grouped("size", short), ways_text(ways), "bsize",
+                         "cache size", "bsize")
 
 
 def by_traffic(sweeps, ways=None):
     """By cache size at one associativity, a line for each block size."""
-    ways = ways or sweeps.associativity
-    rows = sweeps.only("assoc", ways).rows
-    lines = [line(name, group, steps={row.size for row in rows})
-             for name, group in grouped(rows, "bsize", short)]
-    title = f"{sweeps.measure.name} by cache size: {ways_text(ways)}"
-    return Picture("traffic", ways, title, SIZE, "block size", lines)
+    ways = ways or sweeps.fixed("assoc")
+    sweeps = sweeps.only("assoc", ways)
+    return sweeps.picture("traffic", ways, sweeps.grouped("bsize", short), ways_text(ways),
+                          legend="block size", step="size")
 
 
 def by_front(sweeps, _=None):
     """The smallest caches that miss least: before all others, or for each table."""
-    given = "pareto", 0, sweeps.measure.least, SIZE, ""
+    given = "pareto", 0, sweeps.measure.least, pictures.SIZE, ""
     if not sweeps.is_one:
-        return Picture(*given, [Line(one.name, [*map(point, table.pareto(one.rows))], "steps")
+        return Picture(*given, [Line(one.name, points(table.pareto(one.rows)), "steps")
                                 for one in sweeps.tables])
     named = f"{'fewest misses' if sweeps.measure == Measure() else 'least'} up to this size"
-    every, front = ([*map(point, rows)] for rows in (sweeps.rows, table.pareto(sweeps.rows)))
-    return Picture(*given, pictures.front_of(every, front, named), "block size, sets, ways")
+    return Picture(*given, pictures.front_of(
+        points(sweeps.rows), points(table.pareto(sweeps.rows)), named), "block size, sets, ways")
 
 
 MADE = {"size": by_size, "curve": by_ways, "block": by_block, "pareto": by_front,
@@ -211,10 +200,9 @@ def drawn(sweeps):
     def is_curve(rows):
         return len({row.sets for row in rows}) == 1 and len({row.assoc for row in rows}) > 1
 
-    only = sweeps.asked.only
     first = "curve" if all(is_curve(given.rows) for given in sweeps.tables) else "size"
-    if only or not sweeps.is_one:
-        return [MADE[only or first](sweeps)]
+    if sweeps.asked.only or not sweeps.is_one:
+        return [MADE[sweeps.asked.only or first](sweeps)]
     usual = [MADE[name](sweeps) for name in (first, "block", "pareto")]
     is_page = sweeps.asked.ending == ".html"
     return [each for each in usual if any(
