@@ -24,7 +24,7 @@ RUNS = {
     "lab/grade-class": (["--geometry", "1,1,4", "--trace", "yi.trace", "students/ann"], 0, 2),
     "lab/replay": ("-s 1 -E 2 -b 4 -t yi.trace".split(), 0, 1),
     "sweep-parallel": (["--pages", "2", *SPACE], 0, 1),
-    "plot": (["--script", "table.csv", "a.svg"], 0, 1),
+    "plot": (["table.csv", "-"], 0, 1),
 }
 # those that write more than there is room for
 LONG = "lab/replay", "plot"
