@@ -152,7 +152,8 @@ class PlotTest(base.ToolTest):
         found, layouts, decoder = {}, {}, json.JSONDecoder()
         for made in re.finditer(r'Plotly\.newPlot\(\s*"([a-z-]+)",\s*', page):
             traces, end = decoder.raw_decode(page, made.end())
-            layouts[made[1]], _ = decoder.raw_decode(page, re.compile(r",\s*").match(page, end).end())
+            end = re.compile(r",\s*").match(page, end).end()
+            layouts[made[1]], _ = decoder.raw_decode(page, end)
             for trace in traces:
                 found.setdefault(made[1], {}).setdefault(str(trace["meta"]), []).append(trace)
         return found, layouts

@@ -1,4 +1,4 @@
-"""Curves over all ways, other measures, traffic, pictures of tables of din, and of several tables."""
+"""Curves over all ways, other measures, pictures of tables of din, and of several tables."""
 
 import itertools
 import re

@@ -169,7 +169,8 @@ class Texts(PlotTest):
             with self.subTest(text):
                 self.plot_of(text, "a.pgf")
                 self.write("a.tex", "\\documentclass{article}\n\\usepackage[T1]{fontenc}\n"
-                           "\\usepackage{pgf}\n\\begin{document}\n\\input{a.pgf}\n\\end{document}\n")
+                           "\\usepackage{pgf}\n\\begin{document}\n\\input{a.pgf}\n"
+                           "\\end{document}\n")
                 ran = self.run_command("pdflatex", "-halt-on-error", "a.tex")
                 self.assertEqual(ran.returncode, 0, ran.stdout)
                 shown = self.good(self.run_command("pdftotext", "a.pdf", "-"))
@@ -214,8 +215,8 @@ class Page(PlotTest):
         one, two = figures["size"]["16"]
         self.assertEqual((one["name"], one["x"], one["y"]), ("1 way", [32, 64], [40, 30]))
         self.assertEqual((two["name"], two["x"], two["y"]), ("2 ways", [64, 128], [25, 10]))
-        self.assertEqual(two["hovertext"][0], "2 ways<br>64 bytes: block 16, sets 2, ways 2<br>hits "
-                         "75, misses 25, evictions 21<br>miss ratio in per cent: 25")
+        self.assertEqual(two["hovertext"][0], "2 ways<br>64 bytes: block 16, sets 2, ways 2<br>"
+                         "hits 75, misses 25, evictions 21<br>miss ratio in per cent: 25")
         self.assertEqual([one["visible"], figures["size"]["32"][0]["visible"]], [False, True])
         for ways, lines in (("1", {"32": [40, 50], "64": [30, 32]}),
                             ("2", {"64": [25, 28], "128": [10, 8]})):
@@ -272,8 +273,9 @@ class Page(PlotTest):
         self.assertEqual((line["name"], line["x"], line["y"]), ("random", [64, 128], [15, 3.5]))
         for name, bars in ("array", [3, 0.7]), ("arrayminus", [3, 0.5]):
             self.assertEqual([round(length, 9) for length in line["error_y"][name]], bars)
-        self.assertEqual(line["hovertext"][1], "random<br>l1-usize 128<br>l1-ubsize 16<br>l1-uassoc 2"
-                         "<br>l1-urepl r<br>size 128<br>miss ratio in per cent: 3.5 (3 to 4.2)")
+        self.assertEqual(line["hovertext"][1], "random<br>l1-usize 128<br>l1-ubsize 16<br>"
+                         "l1-uassoc 2<br>l1-urepl r<br>size 128<br>miss ratio in per cent: 3.5 (3 "
+                         "to 4.2)")
 
     def test_names_are_texts(self):
         """Not HTML, of which plotly takes some, and none ends the script."""

@@ -34,7 +34,8 @@ class Drawn(LooksTest):
         self.assertEqual(edges, [run for run, in shown.data.values()])
         self.assertGreater(min(edge.get_zorder() for edge in shown.axes[0].lines),
                            max(area.get_zorder() for area in areas))
-        self.assertEqual((shown.axes[0].get_yscale(), shown.axes[0].get_ylim()), ("linear", (0, 63)))
+        self.assertEqual(shown.axes[0].get_yscale(), "linear")
+        self.assertEqual(shown.axes[0].get_ylim(), (0, 63))
         self.assertEqual(len({tuple(area.get_facecolor()[0]) for area in areas}), 4)
 
         shown = self.shown("--only", "three-c", "--mono", "t.csv", "a.svg")
@@ -55,8 +56,8 @@ class Drawn(LooksTest):
         rows = "".join(f"16,{sets},{ways},{16 * sets * ways},{1000 - 9 * ways},{9 * ways},1,5,4,"
                        f"{9 * ways - 9}\n" for sets in (1, 2) for ways in range(1, 65))
         self.write("t.csv", HEAD + rows)
-        self.shows("--only three-c t.csv", None, ["1 way", "4 ways", "16 ways", "64 ways", "capacity",
-                                                  "compulsory"])
+        self.shows("--only three-c t.csv", None, [
+            "1 way", "4 ways", "16 ways", "64 ways", "capacity", "compulsory"])
 
     def test_block_sizes(self):
         other = "".join(re.sub("^64,(.),(.),(...)", lambda found: f"16,{found[1]},{found[2]},"
@@ -96,7 +97,8 @@ class Page(LooksTest):
         self.assertEqual({area["fill"] for area in data}, {"tozeroy"})
         self.assertEqual(len({area["fillcolor"] for area in data}), 4)
         texts = [area["hovertext"][1] for area in data]
-        self.assertEqual(texts, [f"256 bytes<br>{text}<br>miss ratio in per cent: {share}" for text, share in (
+        self.assertEqual(texts, [
+            f"256 bytes<br>{text}<br>miss ratio in per cent: {share}" for text, share in (
             ("1 way: misses 380, of these conflict 180", 38),
             ("2 ways: misses 300, of these conflict 100", 30),
             ("fully associative: misses 200, of these capacity 150", 20),

@@ -26,8 +26,8 @@ class Point(namedtuple("Point", "x y told ends", defaults=((),))):
 
 class Line(namedtuple("Line", "name points style", defaults=("marks",))):
     """A line of a picture: its name in the legend, its points, with None where it is cut, and a
-    style: `marks`; `curve` has no marks, `dots` nothing else; a `front` goes in steps, as do those of
-    several tables, `steps`, and has a `tail`; an `area` lies on the earlier ones, and a `bar`
+    style: `marks`; `curve` has no marks, `dots` nothing else; a `front` goes in steps, as do those
+    of several tables, `steps`, and has a `tail`; an `area` lies on the earlier ones, and a `bar`
     stands on them."""
 
     @property

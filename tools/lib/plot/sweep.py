@@ -6,8 +6,8 @@ from collections import namedtuple
 
 from lib import costs, table
 from lib.plot import pictures
-from lib.plot.pictures import (Line, Measure, Picture, Point, bytes_text, counted, handful, is_broad,
-                               short, ways_text)
+from lib.plot.pictures import (Line, Measure, Picture, Point, bytes_text, counted, handful,
+                               is_broad, short, ways_text)
 from lib.tool import MOST, fail
 
 # what is made of misses and block size, above pictures and with its unit
@@ -167,7 +167,7 @@ def by_block(sweeps, ways=None):
     several = [row for row in sweeps.rows if sizes[row.size] >= most]
     shown = sweeps._replace(tables=[sweeps.tables[0]._replace(rows=several)])
     return sweeps.picture("block", ways, shown.grouped("size", short), ways_text(ways), "bsize",
-                         "cache size", "bsize")
+                          "cache size", "bsize")
 
 
 def by_traffic(sweeps, ways=None):

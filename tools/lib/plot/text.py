@@ -11,14 +11,14 @@ NARROW = 72  # in fewer columns a legend has no room beside its picture
 def looks_of(picture):
     """Each line with the letters for its strokes and its marks, which may be none."""
     for line, stroke, mark in zip(picture.lines, STROKES, MARKS):
-        yield {"dots": (line, "", "."), "front": (line, "-", "o"),
-               "tail": (line, "-", ""), "curve": (line, stroke, "")}.get(line.style, (line, stroke, mark))
+        own = {"dots": ("", "."), "front": ("-", "o"), "tail": ("-", ""), "curve": (stroke, "")}
+        yield (line, *own.get(line.style, (stroke, mark)))
 
 
 def legend_of(picture, columns):
     """The lines of a legend: beside the picture one for each name; above it several in each."""
-    names = [f"{mark if len(stroke + mark) == 1 or stroke == '-' else stroke * 3 + mark + stroke * 3}"
-             f" {line.name}" for line, stroke, mark in looks_of(picture) if line.name]
+    names = [f"{mark if picture.front else stroke * 3 + mark + stroke * 3} {line.name}"
+             for line, stroke, mark in looks_of(picture) if line.name]
     title = [picture.legend] * bool(picture.legend)
     if columns >= NARROW and not picture.front:
         return title + names
@@ -47,9 +47,9 @@ def draw(rows, picture, place):
             dot(place(point), mark)
     for point in picture.front:
         (column, row), label = place(point), point.told()[1]
-        start = column - len(label)
-        if row + 1 < len(rows) and start > 0 and not {*rows[row + 1][start - 1:column + 1]} - {*" ."}:
-            rows[row + 1][start:column] = label
+        start, below = column - len(label), rows[row + 1] if row + 1 < len(rows) else "x"
+        if start > 0 and not {*below[start - 1:column + 1]} - {*" ."}:
+            below[start:column] = label
             dot((column, row), "O")
 
 
