@@ -41,7 +41,7 @@ class Outputs(ToolTest):
     def by_bash(self, tool, line):
         """What a tool writes, tells and ends with that a line of bash runs."""
         words = "bash", "-c", f"set -o pipefail; {line}", TOOLS / tool, *RUNS[tool][0]
-        ran = self.run_command(*words)
+        ran = self.run_command(*words, env={"COLUMNS": "150", "LINES": "40"})  # of text pictures
         return ran.stdout, ran.stderr.decode(), ran.returncode
 
     def test_all_is_written(self):

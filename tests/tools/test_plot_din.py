@@ -120,6 +120,7 @@ class Kinds(PlotTest):
         self.assertEqual(shown.axes[0].get_ylim()[0], 0)
         bars = self.figures("--only", "kinds", "t.csv")[0]["kinds"]
         self.assertEqual([bar["y"] for bar in bars["32"]], [[25, 0], [15, 22], [10, 10]])
+        self.assertEqual([bars[bsize][0]["x"] for bsize in ("16", "32")], [[0, 1], [0, 1]])
         self.assertEqual(bars["16"][1]["hovertext"][1], "64 bytes<br>read misses 15 of 30<br>"
                          "misses in per cent of references: 15")
         drawn = self.good(self.plot("--only", "kinds", "t.csv", "-"))

@@ -97,9 +97,9 @@ class Page(LooksTest):
         self.assertEqual({area["fill"] for area in data}, {"tozeroy"})
         self.assertEqual(len({area["fillcolor"] for area in data}), 4)
         texts = [area["hovertext"][1] for area in data]
-        self.assertEqual(texts, [
-            f"256 bytes<br>{text}<br>miss ratio in per cent: {share}" for text, share in (
-            ("1 way: misses 380, of these conflict 180", 38),
-            ("2 ways: misses 300, of these conflict 100", 30),
-            ("fully associative: misses 200, of these capacity 150", 20),
-            ("compulsory misses 50", 5))])
+        told = (("1 way: misses 380, of these conflict 180", 38),
+                ("2 ways: misses 300, of these conflict 100", 30),
+                ("fully associative: misses 200, of these capacity 150", 20),
+                ("compulsory misses 50", 5))
+        self.assertEqual(texts, [f"256 bytes<br>{text}<br>miss ratio in per cent: {share}"
+                                 for text, share in told])

@@ -2,6 +2,7 @@
 
 import io
 import logging
+import math
 import re
 import site
 import textwrap
@@ -150,8 +151,9 @@ def add_legend(canvas, axes, picture, columns):
     names = [len(line.name) for line in picture.lines if line.name]
     if canvas.is_narrow or picture.front:
         beside = max(1, int((columns - 10) / (max(names, default=0) + (9 if canvas.mono else 7))))
+        rows = math.ceil(len(names) / beside)
         place = {"loc": "lower center", "bbox_to_anchor": (0.5, 1), "columnspacing": 1.5,
-                 "ncol": min(beside, len(names) or 1)}
+                 "ncol": math.ceil(len(names) / max(1, rows))}
     else:
         place = {"loc": "upper left", "bbox_to_anchor": (1.01, 1.02), "alignment": "left"}
     if names:

@@ -8,9 +8,9 @@ from lib.plot.pictures import (SIZE, Line, Measure, Picture, Point, bytes_text, 
 from lib.tool import fail
 
 MOST_WAYS = len(pictures.STACK) - 2
-OF_REFERENCES = "misses in per cent of references"
 # the measure of each picture
-MEASURES = {"three-c": Measure(is_linear=True), "kinds": Measure(OF_REFERENCES, is_linear=True)}
+MEASURES = {"three-c": Measure(is_linear=True),
+            "kinds": Measure("misses in per cent of references", "Misses", is_linear=True)}
 
 
 def rows_of(given, *columns):
@@ -57,34 +57,37 @@ def three_c(rows, found, bsize):
     return Picture("three-c", bsize, title, SIZE, "", lines)
 
 
-def of_references(rows, found, bsize, ways):
-    """Bars of the misses of fetches, reads and writes, at one block size and associativity."""
+def of_references(rows, found, bsize, ways, sizes):
+    """Bars of the misses of fetches, reads and writes, at one block size and associativity, in the
+    places of some sizes."""
     rows = sorted(row for row in rows if (row.bsize, row.assoc) == (bsize, ways))
     lines = [line(name, rows, lambda row, at=at: found[row.cache][at],
                   lambda row, at=at, name=name: f"{name} misses {int(found[row.cache][at]):,} of "
                                                 f"{row.misses:,}", "bar")
              for at, name in enumerate(("fetch", "read", "write"))]
-    lines = [each._replace(points=[point._replace(x=at) for at, point in enumerate(each.points)])
-             for each in lines]
+    lines = [each._replace(points=[point._replace(x=sizes.index(point.x))
+                                   for point in each.points]) for each in lines]
     title = f"Misses by cache size: blocks of {bytes_text(bsize)}, {ways_text(ways)}"
-    return Picture("kinds", bsize, title, SIZE, "", lines, names=[short(row.size) for row in rows])
+    return Picture("kinds", bsize, title, SIZE, "", lines, names=[*map(short, sizes)])
 
 
 def drawn(asked, given):
-    """The picture of the block size that is asked for, those of all that may be chosen, and the
-    caches."""
-    of_three = asked.only == "three-c"
+    """The picture of the block size that is asked for, those of all that may be chosen in a page,
+    and the caches."""
+    of_three, is_page = asked.only == "three-c", asked.ending == ".html"
     columns = ("capacity", "compulsory") if of_three else (
         "fetch-misses", "read-misses", "write-misses")
     rows, found = rows_of(given, *columns)
     sweeps = sweep.Sweeps(asked, [given._replace(rows=rows)], None)
     fixed = sweeps.fixed("bsize")
-    if of_three:
-        made = {bsize: three_c(rows, found, bsize) for bsize in sorted({row.bsize for row in rows})}
-        if not is_broad(made[fixed]):
-            fail(f"{given.file}: a picture of the three C's is of caches of several sizes")
-    else:
-        ways = sweeps.only("bsize", fixed).fixed("assoc")
-        made = {bsize: of_references(rows, found, bsize, ways) for bsize in sorted(
-            {row.bsize for row in rows if row.assoc == ways})}
+    ways = None if of_three else sweeps.only("bsize", fixed).fixed("assoc")
+    shown = [row for row in rows if is_page or row.bsize == fixed]
+    if not of_three:
+        shown = [row for row in shown if row.assoc == ways]
+    sizes = sorted({row.size for row in shown})
+    made = {bsize: three_c(shown, found, bsize) if of_three else
+            of_references(shown, found, bsize, ways, sizes)
+            for bsize in sorted({row.bsize for row in shown})}
+    if of_three and not is_broad(made[fixed]):
+        fail(f"{given.file}: a picture of the three C's is of caches of several sizes")
     return made[fixed], made, rows

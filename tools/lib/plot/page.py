@@ -31,7 +31,8 @@ LAYOUT = {
     "hovermode": "closest", "hoverlabel": {"align": "left"}, "paper_bgcolor": CLEAR,
     "plot_bgcolor": CLEAR, "modebar": {"bgcolor": CLEAR, "color": "#999", "activecolor": "#222"},
     "margin": {"t": 40, "r": 20, "b": 60, "l": 60},
-    "legend": {"orientation": "h", "x": 0, "y": 1, "yanchor": "bottom"}}
+    "legend": {"orientation": "h", "x": 0, "y": 1, "yanchor": "bottom",
+               "traceorder": "normal"}}
 # Whatever plotly might ask for, the browser must not fetch it.
 POLICY = ("default-src 'none'; script-src 'unsafe-inline'; style-src 'unsafe-inline'; "
           "img-src data: blob:")

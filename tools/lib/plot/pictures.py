@@ -168,14 +168,13 @@ def linear_axis(least, greatest, closest, most):
 
 def log_ticks(low, high, closest):
     """The most ticks for an axis between two values that are at least a part `closest` apart."""
-    whole = [10.0 ** decade for decade in range(math.floor(math.log10(low)),
-                                                math.ceil(math.log10(high)) + 1)]
+    decades = range(math.floor(math.log10(low)), math.ceil(math.log10(high)) + 1)
     span = math.log10(high / low)
     for digits in ((1, 2, 3, 4, 5, 6, 7, 8, 9), (1, 2, 3, 5, 7), (1, 2, 3, 5), (1, 2, 5), (1, 3)):
         if min(map(math.log10, (after / digit for digit, after in zip(
                 digits, (*digits[1:], 10))))) >= closest * span:
-            return [digit * power for power in whole for digit in digits]
-    return whole[:: math.ceil(closest * span)]
+            return [float(f"{digit}e{decade}") for decade in decades for digit in digits]
+    return [float(f"1e{decade}") for decade in decades[:: math.ceil(closest * span)]]
 
 
 def log_axis(values, closest, most):
