@@ -73,6 +73,14 @@ class Drawn(PlotTest):
             self.assertTrue(drawn == self.drawn("--only", "size", "eight.csv", out), out)
             self.write("matplotlibrc", "lines.linewidth: 9\ntext.usetex: True\n")
 
+    @needs("bubblewrap")
+    def test_folders_that_are_read_only(self):
+        """Without a word, though matplotlib would keep there what fonts it found."""
+        around = "bwrap --ro-bind / / --dev /dev --proc /proc --tmpfs /tmp bash -c".split()
+        ran = self.run_command(*around, f"{base.TOOLS}/plot - /tmp/a.png && head -c 4 /tmp/a.png",
+                               env={"HOME": "/nonexistent"}, stdin=EIGHT.encode())
+        self.assertEqual((ran.stdout, ran.stderr, ran.returncode), (b"\x89PNG", b"", 0))
+
     def test_eps(self):
         drawn = self.drawn("--size", "3.3x2in", "--only", "size", "eight.csv", "a.eps")
         left, low, right, top = map(int, re.search(

@@ -98,4 +98,4 @@ def draw(asked):
         write_file(asked.out, page.page(drawn, counts, asked).encode())
     else:
         from lib.plot import figure
-        write_file(asked.out, figure.drawn(drawn, asked))
+        write_file(asked.out, figure.bytes_of(drawn, asked))

@@ -12,6 +12,7 @@ from lib import tool
 from lib.plot import pictures
 
 site.main()  # the tools begin without Debian's packages, which takes less time
+logging.getLogger("matplotlib").setLevel(logging.ERROR)  # it may keep its fonts elsewhere
 try:
     import matplotlib
     from matplotlib.backends.backend_pgf import LatexError
@@ -79,7 +80,6 @@ class Canvas:
                        for part in row.subfigures(1, beside, squeeze=False)[0]]
 
     def set_looks(self):
-        logging.getLogger("matplotlib").setLevel(logging.ERROR)
         matplotlib.rcdefaults()
         points = 0.75 * self.em
         matplotlib.rcParams.update(LOOKS)
@@ -220,8 +220,8 @@ def figure_of(drawn, asked):
     return canvas.figure
 
 
-def drawn(drawn, asked):
-    """The bytes of a picture."""
+def bytes_of(drawn, asked):
+    """The file of a picture."""
     if asked.ending == ".pgf":
         tool.needs("pdflatex", "texlive-latex-base texlive-pictures")
     file, more = io.BytesIO(), {}

@@ -97,18 +97,19 @@ def trace(number, line, colour, up, measure, mono):
     """A line of a picture as plotly has it. None cuts it."""
     some, is_area = line.points, line.style == "area"
     given = {"x": [point and point.x for point in some],
-             "y": [point and (point.y or up.foot) for point in some], "name": plain(line.name),
+             "y": [point and point.y for point in pictures.standing(line, up).points],
+             "name": plain(line.name),
              "hovertext": [point and about(point, line, measure) for point in some],
              "hoverinfo": "text", "showlegend": bool(line.name)}
     if line.style == "bar":
         return graph_objects.Bar(given, marker={"color": colour, "line": EDGE})
     if any(point and point.ends for point in some):
-        ends = [(point.ends or (point.y, point.y)) if point else (0, 0) for point in some]
+        ends = [(point.ends or (point.y, point.y)) if point else (0, 0)
+                for point in pictures.standing(line, up).points]
         given["error_y"] = {
             "type": "data", "symmetric": False, "color": colour, "thickness": 1,
             "array": [point and end[1] - point.y for end, point in zip(ends, some)],
-            "arrayminus": [point and point.y - (end[0] or up.foot)
-                           for end, point in zip(ends, some)]}
+            "arrayminus": [point and point.y - end[0] for end, point in zip(ends, some)]}
     if is_area:
         given.update(fill="tozeroy", fillcolor=colour)
     is_step, is_small = line.style in ("front", "steps"), line.style in ("front", "dots", "tail")

@@ -240,5 +240,6 @@ def seen(line, across, up):
 
 def standing(line, up):
     """A line whose zeros are at the foot of a logarithmic axis."""
-    return line._replace(points=[point and point._replace(y=point.y or up.foot)
-                                 for point in line.points])
+    return line._replace(points=[point and point._replace(
+        y=point.y or up.foot, ends=tuple(end or up.foot for end in point.ends))
+        for point in line.points])
