@@ -168,7 +168,7 @@ class FailureTest(ToolTest):
         with subprocess.Popen(command, **given) as running:
             out, told = self.end_of(running)
         out = out.replace(str(folder).encode(), b"its folder")
-        if (made := folder / words[-1]).suffix == ".png" and made.exists():
+        if (made := folder / words[-1]).suffix in (".html", ".png") and made.exists():
             out = made.read_bytes()
         ran = subprocess.CompletedProcess(words, running.returncode, out, told)
         self.assertTrue(comes(lambda: not processes(running.pid)), f"{name} leaves a process")

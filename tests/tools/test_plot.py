@@ -423,7 +423,7 @@ class Refused(PlotTest):
         own = ".local/lib/python{}.{}/site-packages".format(*sys.version_info)
         for package in "plotly", "matplotlib":
             (self.folder / f"empty/{own}/{package}").mkdir(parents=True)
-            self.write(f"empty/{own}/{package}/__init__.py", "raise ImportError('as if missing')\n")
+            self.write(f"empty/{own}/{package}/__init__.py", "raise ModuleNotFoundError\n")
         env = {"HOME": str(self.folder / "empty"), "PATH": "/usr/bin"}
         for package, *outs in ("matplotlib", "a.png", "a.svg"), ("plotly", "a.html"):
             for out in outs:

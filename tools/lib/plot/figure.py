@@ -1,9 +1,13 @@
 """The pictures of tools/plot by matplotlib: PNG, SVG, PDF, EPS and PGF."""
 
+import atexit
+import contextlib
 import io
 import logging
 import math
+import os
 import re
+import shutil
 import site
 import textwrap
 import warnings
@@ -13,13 +17,20 @@ from lib.plot import pictures
 
 site.main()  # the tools begin without Debian's packages, which takes less time
 logging.getLogger("matplotlib").setLevel(logging.ERROR)  # it may keep its fonts elsewhere
+os.environ.setdefault("OPENBLAS_NUM_THREADS", "1")  # which is said where there are none
+is_named = "MPLCONFIGDIR" in os.environ
 try:
     import matplotlib
     from matplotlib.backends.backend_pgf import LatexError
     from matplotlib.figure import Figure
     from matplotlib.ticker import NullFormatter, NullLocator
-except ImportError:
+except ModuleNotFoundError:
     tool.fail("matplotlib is missing: apt-get install python3-matplotlib")
+except ImportError as fault:
+    tool.fail(f"matplotlib can't be loaded: {fault}")
+if "MPLCONFIGDIR" in os.environ and not is_named:
+    atexit.unregister(shutil.rmtree)
+    atexit.register(lambda: remove(os.environ["MPLCONFIGDIR"]))
 
 MARKS = "os^vDos"
 DASHES = ("-", (0, (5, 2)), (0, (1, 1.5)), (0, (5, 1.5, 1, 1.5)), (0, (9, 3)), (0, (3, 1.5)),
@@ -45,6 +56,14 @@ LATEX = {**{letter: f"\\{letter}" for letter in "#$%&_{}"}, "-": "-{}", **{
     letter: f"\\text{name}{{}}" for letter, name in {
         "\\": "backslash", "~": "asciitilde", "^": "asciicircum", "<": "less", ">": "greater",
         "'": "quotesingle", "`": "asciigrave", '"': "quotedbl", "|": "bar"}.items()}}
+
+
+def remove(folder):
+    """Removes a folder that matplotlib made for its fonts. Its own way needs more descriptors."""
+    with contextlib.suppress(OSError):
+        for name in os.listdir(folder):
+            os.unlink(os.path.join(folder, name))
+        os.rmdir(folder)
 
 
 class Canvas:

@@ -12,7 +12,7 @@ site.main()  # the tools begin without Debian's packages, which takes less time
 try:
     from plotly import graph_objects
     from plotly.offline import get_plotlyjs
-except ImportError:
+except ModuleNotFoundError:
     fail("plotly is missing: apt-get install python3-plotly")
 
 SYMBOLS = ("circle", "square", "triangle-up", "triangle-down", "diamond", "circle-open",
