@@ -153,7 +153,7 @@ class Texts(PlotTest):
     """A title, a measure and a name of a table are drawn as they are, with any letters."""
 
     WILD = ("'a", "''", "a''b", "it's", "'`date`'", "@b", '"q"\\n\'', "{c}^2_3", "'0'7\\0471",
-            "&lt;<b>", "x'$y", "$\\alpha$", "'%g'#;!", "\\frac{1}{2}", "~a|b>c", "]]>", "éü")
+            "&lt;<b>", "x'$y", "$\\alpha$", "'%g'#;!", "\\frac{1}{2}", "~a|b>c", "]]>", "éü", "_a")
 
     def plot_of(self, text, *out):
         rows = f"{table.HEADER},{text}\n16,1,1,16,5,5,4,7\n16,2,1,32,6,4,2,9\n"

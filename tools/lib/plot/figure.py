@@ -155,28 +155,34 @@ def draw_bar(canvas, axes, number, line, colour):
 
 
 def draw(canvas, axes, picture, across, up):
-    """All lines of a picture. Each has a name in an SVG."""
+    """All lines of a picture, for its legend those with a name. Each has one in an SVG."""
+    named = []
     for number, (line, colour) in enumerate(picture.coloured(canvas.mono)):
         line = pictures.standing(pictures.seen(line, across, up), up)
         drawn = {"area": draw_area, "bar": draw_bar}.get(line.style, draw_line)(
             canvas, axes, number, line, colour)
-        drawn.set_label(canvas.text(line.name) or "_")
+        named += [drawn] * bool(line.name)
         for artist in drawn if line.style == "bar" else [drawn]:
             artist.set_gid(f"{picture.name}_{number + 1}")
+    return named
 
 
-def add_legend(canvas, axes, picture, columns):
+def add_legend(canvas, axes, picture, columns, named):
     """The legend right of the picture or, where it is narrow and for a front, above it."""
-    names = [len(line.name) for line in picture.lines if line.name]
+    names = [line.name for line in picture.lines if line.name]
+    if not names:
+        return
     if canvas.is_narrow or picture.front:
-        beside = max(1, int((columns - 10) / (max(names, default=0) + (9 if canvas.mono else 7))))
-        rows = math.ceil(len(names) / beside)
+        broadest = max(map(len, names)) + (9 if canvas.mono else 7)
+        rows = math.ceil(len(names) / max(1, int((columns - 10) / broadest)))
         place = {"loc": "lower center", "bbox_to_anchor": (0.5, 1), "columnspacing": 1.5,
-                 "ncol": math.ceil(len(names) / max(1, rows))}
+                 "ncol": math.ceil(len(names) / rows)}
     else:
         place = {"loc": "upper left", "bbox_to_anchor": (1.01, 1.02), "alignment": "left"}
-    if names:
-        axes.legend(borderaxespad=0, title=canvas.text(picture.legend) or None, **place)
+    legend = axes.legend(named, ["name"] * len(named), borderaxespad=0,
+                         title=canvas.text(picture.legend) or None, **place)
+    for text, name in zip(legend.get_texts(), names):
+        text.set_text(canvas.text(name))  # matplotlib leaves out what begins with '_'
 
 
 def label_front(canvas, axes, picture, up):
@@ -219,10 +225,10 @@ def figure_of(drawn, asked):
         part.suptitle("\n".join(map(canvas.text, picture.title_lines(int(columns) - 2))),
                       fontsize="medium")
         axes.set(xlabel=canvas.text(picture.across), ylabel=canvas.text(drawn.measure.up))
-        draw(canvas, axes, picture, across, up)
+        named = draw(canvas, axes, picture, across, up)
         set_axis(axes, "x", across)
         set_axis(axes, "y", up)
-        add_legend(canvas, axes, picture, columns)
+        add_legend(canvas, axes, picture, columns, named)
     canvas.lay_out()
     boxes = [axes.get_window_extent() for _, _, axes, _ in places]
     em = canvas.em * canvas.unit
@@ -250,6 +256,8 @@ def bytes_of(drawn, asked):
         try:
             figure_of(drawn, asked).savefig(file, format=asked.ending[1:], **more)
         except (ValueError, LatexError) as fault:
+            if asked.ending != ".pgf":
+                raise
             tool.fail(f"LaTeX failed: {' '.join(str(fault).split())}")
     for text in dict.fromkeys(str(one.message) for one in told):
         tool.warn(f"matplotlib: {text}")
