@@ -40,7 +40,6 @@ PACKAGES = {
     "qemu-user": "qemu-x86_64",
     "slurm-client": "sbatch",
     "slurm-wlm": "slurmctld",
-    "texlive-latex-base": "pdflatex",
     "texlive-pictures": "/usr/share/texlive/texmf-dist/tex/latex/pgf/basiclayer/pgf.sty",
     "xz-utils": "xz",
     **{name: name for name in (

@@ -435,8 +435,7 @@ class Refused(PlotTest):
     @needs("python3-matplotlib")
     def test_no_latex(self):
         ran = self.plot("eight.csv", "a.pgf", env={"PATH": str(self.folder)})
-        self.refused(ran, 1, "plot: pdflatex is missing: apt-get install texlive-latex-base "
-                     "texlive-pictures\n")
+        self.refused(ran, 1, "plot: pdflatex is missing: apt-get install texlive-pictures\n")
 
     @needs("python3-matplotlib")
     def test_a_failure_leaves_what_was_there(self):

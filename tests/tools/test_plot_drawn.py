@@ -170,7 +170,7 @@ class Texts(PlotTest):
                 self.assertLessEqual({text, f"{text} 1"}, {*texts})
                 self.assertEqual(texts.count(text), 2)
 
-    @needs("texlive-latex-base", "texlive-pictures", "poppler-utils")
+    @needs("texlive-pictures", "poppler-utils")
     def test_pgf(self):
         """In a paper too: LaTeX sets the letters, and does nothing by them."""
         for text in self.WILD:

@@ -26,7 +26,7 @@ try:
     from matplotlib.ticker import NullFormatter, NullLocator
 except ModuleNotFoundError:
     tool.fail("matplotlib is missing: apt-get install python3-matplotlib")
-except ImportError as fault:
+except (ImportError, RuntimeError) as fault:  # it wants a thread
     tool.fail(f"matplotlib can't be loaded: {fault}")
 if "MPLCONFIGDIR" in os.environ and not is_named:
     atexit.unregister(shutil.rmtree)
@@ -38,10 +38,11 @@ DASHES = ("-", (0, (5, 2)), (0, (1, 1.5)), (0, (5, 1.5, 1, 1.5)), (0, (9, 3)), (
 LETTER, LINE = 0.6, 1.25  # the width of a letter and the height of a line, by the type's size
 NARROW = 72  # in fewer letters a legend has no room beside its picture
 LEAST = 36, 11  # letters and lines that a picture needs
+# the first that has a letter draws it
+FONTS = ["DejaVu Sans", "Verdana", "Noto Sans CJK JP", "Droid Sans Fallback", "sans-serif"]
 # No setting of a user's changes a picture, and that of the same table is the same file.
 LOOKS = {
-    "font.sans-serif": ["DejaVu Sans", "Verdana", "sans-serif"], "axes.titlesize": "medium",
-    "figure.titlesize": "large", "text.parse_math": False, "svg.fonttype": "none",
+    "axes.titlesize": "medium", "figure.titlesize": "large", "text.parse_math": False, "svg.fonttype": "none",
     "svg.hashsalt": "cachesim", "pdf.fonttype": 42, "ps.fonttype": 42, "pgf.rcfonts": False,
     "pgf.texsystem": "pdflatex", "pgf.preamble": r"\usepackage[T1]{fontenc}",
     "axes.spines.top": False, "axes.spines.right": False, "axes.edgecolor": "#606060",
@@ -103,7 +104,7 @@ class Canvas:
         points = 0.75 * self.em
         matplotlib.rcParams.update(LOOKS)
         matplotlib.rcParams.update({
-            "font.family": "serif" if self.ending == ".pgf" else "sans-serif",
+            "font.family": "serif" if self.ending == ".pgf" else FONTS,
             "font.size": points, "figure.constrained_layout.h_pad": points / 150,
             "figure.constrained_layout.w_pad": points / 150,
             "legend.handlelength": 3.2 if self.mono else 2.2,
@@ -248,7 +249,7 @@ def figure_of(drawn, asked):
 def bytes_of(drawn, asked):
     """The file of a picture."""
     if asked.ending == ".pgf":
-        tool.needs("pdflatex", "texlive-latex-base texlive-pictures")
+        tool.needs("pdflatex", "texlive-pictures")
     file, more = io.BytesIO(), {}
     if asked.ending in UNDATED:
         more = {"metadata": UNDATED[asked.ending]}
