@@ -15,6 +15,17 @@ import warnings
 from lib import tool
 from lib.plot import pictures
 
+
+def remove(folder, spare):
+    """Removes a folder that matplotlib made for its fonts, also where there is no descriptor but
+    the one that is kept for this; its own way needs more."""
+    with contextlib.suppress(OSError):
+        os.close(spare)
+        for name in os.listdir(folder):
+            os.unlink(os.path.join(folder, name))
+        os.rmdir(folder)
+
+
 site.main()  # the tools begin without Debian's packages, which takes less time
 logging.getLogger("matplotlib").setLevel(logging.ERROR)  # it may keep its fonts elsewhere
 os.environ.setdefault("OPENBLAS_NUM_THREADS", "1")  # which is said where there are none
@@ -28,9 +39,10 @@ except ModuleNotFoundError:
     tool.fail("matplotlib is missing: apt-get install python3-matplotlib")
 except (ImportError, RuntimeError) as fault:  # it wants a thread
     tool.fail(f"matplotlib can't be loaded: {fault}")
-if "MPLCONFIGDIR" in os.environ and not is_named:
-    atexit.unregister(shutil.rmtree)
-    atexit.register(lambda: remove(os.environ["MPLCONFIGDIR"]))
+finally:
+    if "MPLCONFIGDIR" in os.environ and not is_named:
+        atexit.unregister(shutil.rmtree)
+        atexit.register(remove, os.environ["MPLCONFIGDIR"], os.open(os.devnull, os.O_RDONLY))
 
 MARKS = "os^vDos"
 DASHES = ("-", (0, (5, 2)), (0, (1, 1.5)), (0, (5, 1.5, 1, 1.5)), (0, (9, 3)), (0, (3, 1.5)),
@@ -42,8 +54,9 @@ LEAST = 36, 11  # letters and lines that a picture needs
 FONTS = ["DejaVu Sans", "Verdana", "Noto Sans CJK JP", "Droid Sans Fallback", "sans-serif"]
 # No setting of a user's changes a picture, and that of the same table is the same file.
 LOOKS = {
-    "axes.titlesize": "medium", "figure.titlesize": "large", "text.parse_math": False, "svg.fonttype": "none",
-    "svg.hashsalt": "cachesim", "pdf.fonttype": 42, "ps.fonttype": 42, "pgf.rcfonts": False,
+    "axes.titlesize": "medium", "figure.titlesize": "large", "text.parse_math": False,
+    "svg.fonttype": "none", "svg.hashsalt": "cachesim", "pdf.fonttype": 42, "ps.fonttype": 42,
+    "pgf.rcfonts": False,
     "pgf.texsystem": "pdflatex", "pgf.preamble": r"\usepackage[T1]{fontenc}",
     "axes.spines.top": False, "axes.spines.right": False, "axes.edgecolor": "#606060",
     "axes.grid": True, "axes.axisbelow": True, "grid.color": "#e4e4e4", "xtick.direction": "in",
@@ -57,14 +70,6 @@ LATEX = {**{letter: f"\\{letter}" for letter in "#$%&_{}"}, "-": "-{}", **{
     letter: f"\\text{name}{{}}" for letter, name in {
         "\\": "backslash", "~": "asciitilde", "^": "asciicircum", "<": "less", ">": "greater",
         "'": "quotesingle", "`": "asciigrave", '"': "quotedbl", "|": "bar"}.items()}}
-
-
-def remove(folder):
-    """Removes a folder that matplotlib made for its fonts. Its own way needs more descriptors."""
-    with contextlib.suppress(OSError):
-        for name in os.listdir(folder):
-            os.unlink(os.path.join(folder, name))
-        os.rmdir(folder)
 
 
 class Canvas:
