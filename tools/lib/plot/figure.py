@@ -37,7 +37,7 @@ try:
     from matplotlib.ticker import NullFormatter, NullLocator
 except ModuleNotFoundError:
     tool.fail("matplotlib is missing: apt-get install python3-matplotlib")
-except (ImportError, RuntimeError) as fault:  # it wants a thread
+except (ImportError, OSError, RuntimeError) as fault:  # it wants a thread
     tool.fail(f"matplotlib can't be loaded: {fault}")
 finally:
     if "MPLCONFIGDIR" in os.environ and not is_named:
@@ -265,6 +265,8 @@ def bytes_of(drawn, asked):
             if asked.ending != ".pgf":
                 raise
             tool.fail(f"LaTeX failed: {' '.join(str(fault).split())}")
+        except (OSError, MemoryError) as fault:  # by an end at which that folder goes
+            tool.fail(getattr(fault, "strerror", None) or "out of memory")
     for text in dict.fromkeys(str(one.message) for one in told):
         tool.warn(f"matplotlib: {text}")
     return file.getvalue()
