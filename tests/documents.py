@@ -23,7 +23,7 @@ from typing import NamedTuple
 SECONDS = 120
 NOT_RUN = re.compile(r"<!-- not run: (\S.*) -->")
 COMMANDS = (
-    "cachesim|tools/|tests/|examples/|make|rt|bash|python3|apt-get|git|valgrind|gnuplot|mlr|sbatch"
+    "cachesim|tools/|tests/|examples/|make|rt|bash|python3|apt-get|git|valgrind|mlr|sbatch"
     "|export|set|for|time|sort|tail|head|printf"
 )
 SCRIPT = re.compile(rf"^(\w+=\S* )*({COMMANDS})")

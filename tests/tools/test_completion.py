@@ -56,7 +56,7 @@ LINES = {
     "cachesim-best --fr": "--front",
     "cachesim-trace --with ": "qemu lackey",
     "cachesim-trace --kind=d --wi": "--with",
-    "cachesim-plot --only ": "size block pareto curve three-c",
+    "cachesim-plot --only ": "size block pareto curve three-c traffic kinds",
     "cachesim-sweep-parallel 4 t.din --s": "--sets --size",
     "cachesim-warm 1000 t.din --kind ": "u d i",
     "cachesim-to-din p": "pin",

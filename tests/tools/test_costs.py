@@ -3,9 +3,9 @@
 import csv
 import re
 
-from base import ToolTest, rows_of
+from base import needs, rows_of
 from lib import table
-from test_plot import data_of
+from test_plot import PlotTest
 
 # Hennessy and Patterson, Computer Architecture (fifth edition), figures B.11 and B.12: miss ratios
 # in per cent and access times in cycles, for blocks of 16 to 256 bytes and four cache sizes, where
@@ -45,7 +45,7 @@ ANSWERS = (
 WRONG = "x", "", "80+", "80+2/0", "80+2/", "80*2", "-1", "80+2/1.5", "1e3", "1/2", "1234567890"
 
 
-class Costs(ToolTest):
+class Costs(PlotTest):
     def setUp(self):
         super().setUp()
         self.write("t.csv", TEXT)
@@ -62,9 +62,6 @@ class Costs(ToolTest):
     def best(self, *words, **given):
         text = self.good(self.run_tool("best", *words, **given))
         return text.splitlines()[0], [*csv.DictReader(text.splitlines())]
-
-    def script(self, *words):
-        return self.good(self.run_tool("plot", "--script", *words, "a.svg"))
 
     def test_access_times(self):
         header, rows = self.best("t.csv", *BOOK, "--rows", "20")
@@ -116,18 +113,19 @@ class Costs(ToolTest):
         self.write("t.csv", "8,1,1,8,50,50,49\n")
         self.assertEqual(self.best("t.csv", *BOOK)[1][0]["AMAT"], "41.500")
 
+    @needs("python3-matplotlib")
     def test_drawn(self):
         """By size with blocks of 64 bytes, and of several tables."""
-        script = self.script("--only", "size", *BOOK, "t.csv")
-        drawn = [(int(x), f"{y:.3f}") for x, y in data_of(script)["size_1"][0]]
+        shown = self.shown("--only", "size", *BOOK, "t.csv", "a.svg")
+        drawn = [(int(x), f"{y:.3f}") for x, y in shown.data["size_1"][0]]
         self.assertEqual(drawn, [(size, times[2]) for size, times in TIMES.items()])
-        self.assertIn("set ylabel 'access time in cycles (AMAT)'", script)
-        self.assertIn("'Access time by cache size: blocks of 64 bytes'", script)
-        script = self.script("--only", "pareto", "--measure", "traffic", "t.csv")
-        self.assertIn("'The smallest caches with the least traffic (block size, sets, ways)'",
-                      script)
+        self.assertLessEqual({"access time in cycles (AMAT)",
+                              "Access time by cache size: blocks of 64 bytes"}, shown.texts)
+        shown = self.shown("--only", "pareto", "--measure", "traffic", "t.csv", "a.svg")
+        self.assertIn("The smallest caches with the least traffic (block size, sets, ways)",
+                      shown.texts)
         front = [(size, 16 * ratios[0]) for size, ratios in RATIOS.items()]
-        self.assertEqual(data_of(script)["pareto_front"], [front])
-        script = self.script(*BOOK, "t.csv", "t.csv")
-        self.assertEqual([f"{y:.3f}" for _, y in data_of(script)["size_2"][0]],
+        self.assertEqual(shown.data["pareto_2"], [front])
+        shown = self.shown(*BOOK, "t.csv", "t.csv", "a.svg")
+        self.assertEqual([f"{y:.3f}" for _, y in shown.data["size_2"][0]],
                          [times[2] for times in TIMES.values()])

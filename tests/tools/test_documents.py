@@ -36,7 +36,7 @@ def copied_top():
 PACKAGES = {
     r"tools/trace ": ["qemu-user"],
     r"--from|--to\b|tools/by-line": ["binutils"],
-    r"tools/plot|\bgnuplot\b": ["gnuplot-nox"],
+    r"tools/plot": ["python3-matplotlib"],
     r"tools/plot .*\.html|\.html --": ["python3-plotly"],
     r"\bmlr\b": ["miller"],
     r"\bvalgrind\b|lab-trace": ["valgrind"],
@@ -102,9 +102,9 @@ class Blocks(unittest.TestCase):
         """Those of commands that are run, and no other."""
         text = "mlr\n\n    $ tools/plot t.csv \\\n        a.html\n\n<!-- not run: no -->\n\n"
         text += "    $ valgrind ls\n"
-        self.assertEqual(packages_of(text), ["gnuplot-nox", "python3-plotly"])
+        self.assertEqual(packages_of(text), ["python3-matplotlib", "python3-plotly"])
         text += "\na script, and a piece of a file\n\n    make man\n\nb\n\n    xz 1\n"
-        self.assertEqual(packages_of(text), ["gnuplot-nox", "lowdown", "python3-plotly"])
+        self.assertEqual(packages_of(text), ["lowdown", "python3-matplotlib", "python3-plotly"])
         self.assertLessEqual(set().union(*PACKAGES.values()), set(base.PACKAGES))
 
     def test_any_lines(self):

@@ -35,7 +35,7 @@ RUNS = {
                         "--geometry", "1,1,4"],
     "lab/replay": "-s 1 -E 2 -b 4 -t handout.lackey".split(),
     "over-time": ["long.din", *CACHE, "--each", "50"],
-    "plot script": ["--script", "table.csv", "-"],
+    "plot": ["table.csv", "-"],
     "second-level": ["long.din", *CACHE],
     "sweep-parallel": ["2", "long.din", *SPACE],
     "three-c": ["long.din", *SPACE],
@@ -48,7 +48,6 @@ OF_PACKAGES = {
     "by-line": ["long.din", *CACHE],
     "lab/lab-trace": ["./program"],
     "lab/lab-transpose": ["--size", "8x8", "trans.c"],
-    "plot": ["table.csv", "-"],
     "trace": ["./program"],
     "trace lackey": ["--with", "lackey", "./program"],
 }
@@ -278,7 +277,7 @@ class Ended(EndedTest):
                    for tool, room in drawn(itertools.product(without_traces(self.runs), ROOMS)))
 
 
-of_packages = needs("binutils", "bubblewrap", "gnuplot-nox", "llvm", "qemu-user", "valgrind")
+of_packages = needs("binutils", "bubblewrap", "llvm", "qemu-user", "valgrind")
 
 
 @of_packages

@@ -32,7 +32,7 @@ RUNS = {
     "lab/grade-class": ["students/ann", "--trace", "handout.lackey", "--geometry", "1,1,4"],
     "lab/replay": "-s 1 -E 2 -b 4 -t handout.lackey --text".split(),
     "over-time": ["INPUT", *CACHE, "--each", "50"],
-    "plot": ["--script", "table.csv", "-"],
+    "plot": ["table.csv", "-"],
     "second-level": ["INPUT", *CACHE],
     "sweep-parallel": ["2", "INPUT", *SPACE],
     "three-c": ["INPUT", *SPACE],
@@ -42,12 +42,12 @@ RUNS = {
 }
 UNPACKS = [tool for tool, words in RUNS.items() if "INPUT" in words and tool != "cluster/submit"]
 WRITES_A_TRACE = ("lab/lab-trace", "second-level", "to-din", "trace")
-TO_A_FILE = {"plot png"}  # which is all that they write
+TO_A_FILE = {"plot page", "plot png"}  # which is all that they write
 OF_VALGRIND = ("lab/lab-trace", "lab/lab-transpose", "trace lackey")  # no room in some limits
 # what they run is limited as they are, and judged
 OF_STUDENTS = ("lab/grade", "lab/grade-class", "lab/lab-transpose")
 # all that they run; a command that is not here is not found
-COMMANDS = "addr2line cc gnuplot gzip llvm-addr2line nm readelf valgrind xz zstd".split()
+COMMANDS = "addr2line cc gzip llvm-addr2line nm readelf valgrind xz zstd".split()
 # stand-ins for those of a cluster, which do nothing
 OF_CLUSTERS = {"sbatch": "echo 7", "scancel": "", "squeue": "exit 1"}
 # counts the calls of a command, and fails in that one which the environment names, by a status or
@@ -168,7 +168,7 @@ class FailureTest(ToolTest):
         with subprocess.Popen(command, **given) as running:
             out, told = self.end_of(running)
         out = out.replace(str(folder).encode(), b"its folder")
-        if (made := folder / words[-1]).suffix == ".png" and made.exists():
+        if (made := folder / words[-1]).suffix in (".html", ".png") and made.exists():
             out = made.read_bytes()
         ran = subprocess.CompletedProcess(words, running.returncode, out, told)
         self.assertTrue(comes(lambda: not processes(running.pid)), f"{name} leaves a process")

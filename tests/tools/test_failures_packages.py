@@ -20,12 +20,13 @@ RUNS = {
     "lab/lab-trace": ["./program"],
     "lab/lab-transpose": ["--size", "8x8", "trans.c"],
     "plot png": ["table.csv", "a.png"],
-    "plot text": ["table.csv", "-"],
+    "plot page": ["table.csv", "a.html"],
     "trace from": ["--from", "main", "./traced", "2:1", "2:MAIN", "many:100"],
     "trace lackey": ["--with", "lackey", "--kind", "d", "./program"],
     "trace to": ["--to", "main", "./traced", "2:1", "many:100"],
 }
-of_packages = needs("binutils", "bubblewrap", "gnuplot-nox", "llvm", "valgrind", "xz-utils", "zstd")
+of_packages = needs("binutils", "bubblewrap", "llvm", "python3-matplotlib", "python3-plotly",
+                    "valgrind", "xz-utils", "zstd")
 
 
 class Tools(ToolTest):

@@ -17,7 +17,7 @@ READERS = {
     "by-page": ("d", ["FILE", *CACHE]),
     "din-table": ("d", ["2", "FILE", *CACHE[:2], "-l1-dbsize", "16,32"]),
     "over-time": ("d", ["FILE", *CACHE, "--each", "50"]),
-    "plot": (TABLE, ["--script", "FILE", "-"]),
+    "plot": (TABLE, ["FILE", "-"]),
     "second-level": ("d", ["FILE", *CACHE]),
     "sweep-parallel": ("d", ["2", "FILE", *SPACE]),
     "three-c": ("d", ["FILE", *SPACE]),

@@ -24,7 +24,7 @@ RUNS = {
     "lab/grade-class": (["--geometry", "1,1,4", "--trace", "yi.trace", "students/ann"], 0, 2),
     "lab/replay": ("-s 1 -E 2 -b 4 -t yi.trace".split(), 0, 1),
     "sweep-parallel": (["--pages", "2", *SPACE], 0, 1),
-    "plot": (["--script", "table.csv", "a.svg"], 0, 1),
+    "plot": (["table.csv", "-"], 0, 1),
 }
 # those that write more than there is room for
 LONG = "lab/replay", "plot"
@@ -41,7 +41,7 @@ class Outputs(ToolTest):
     def by_bash(self, tool, line):
         """What a tool writes, tells and ends with that a line of bash runs."""
         words = "bash", "-c", f"set -o pipefail; {line}", TOOLS / tool, *RUNS[tool][0]
-        ran = self.run_command(*words)
+        ran = self.run_command(*words, env={"COLUMNS": "150", "LINES": "40"})  # of text pictures
         return ran.stdout, ran.stderr.decode(), ran.returncode
 
     def test_all_is_written(self):

@@ -1,6 +1,5 @@
-"""Pictures as they come out of gnuplot, and the page as a browser shows it."""
+"""Pictures as they come out of matplotlib, and the page as a browser shows it."""
 
-import math
 import os
 import re
 import shutil
@@ -10,7 +9,7 @@ import xml.etree.ElementTree
 import base
 from base import needs
 from lib import table
-from test_plot import ALL, AXES, TITLES, PlotTest, rows_of
+from test_plot import ALL, AXES, EIGHT, TITLES, PlotTest, rows_of
 
 
 def png_of(data):
@@ -19,20 +18,13 @@ def png_of(data):
     return struct.unpack(">II", data[16:24])
 
 
-def svg_of(data):
-    """The texts of an SVG, and where on it the marks of each colour stand."""
-    texts, marks = [], {}
-    for part in xml.etree.ElementTree.fromstring(data).iter():
-        if part.tag.endswith("}text"):
-            texts.append("".join(part.itertext()))
-        elif part.tag.endswith("}use") and part.get("transform", "").startswith("translate"):
-            place = re.match(r"translate\(([^,]+),([^)]+)\)", part.get("transform")).groups()
-            colour = re.sub(" +", "", part.get("color"))
-            marks.setdefault(colour, []).append(tuple(map(float, place)))
-    return texts, marks
+def texts_of(data):
+    """The texts of an SVG."""
+    return ["".join(part.itertext()) for part in xml.etree.ElementTree.fromstring(data).iter()
+            if part.tag.endswith("}text")]
 
 
-@needs("gnuplot-nox")
+@needs("python3-matplotlib")
 class Drawn(PlotTest):
     def drawn(self, *arguments):
         self.assertEqual(self.good(self.plot(*arguments)), "")
@@ -53,36 +45,47 @@ class Drawn(PlotTest):
         self.assertEqual(self.names(), ["-a.png", "an out.png", "eight.csv"])
 
     def test_svg(self):
-        words = ("--only", "size", "--title", "<&> ]]> 'é'", "eight.csv", "a.svg")
-        texts, marks = svg_of(self.drawn(*words))
-        for text in ("<&> ]] > 'é'", TITLES[0], "cache size in bytes", "miss ratio in per cent",
-                     "1 way", "2 ways", "32", "64", "128"):
-            self.assertIn(text, texts)
-        # One way: 50 % at 32 bytes, 32 % at 64. Two ways: 28 % at 64, 8 % at 128. The third mark of
-        # each is that of the legend.
-        (at_50, at_32, _), (at_28, at_8, _) = marks["rgb(0,114,178)"], marks["rgb(213,94,0)"]
-        self.assertEqual(at_32[0], at_28[0])
-        self.assertAlmostEqual(at_32[0] - at_50[0], at_8[0] - at_28[0], delta=0.1)
-        unit = (at_8[1] - at_50[1]) / math.log(50 / 8)
-        self.assertAlmostEqual(at_32[1] - at_50[1], unit * math.log(50 / 32), delta=0.1)
-        self.assertAlmostEqual(at_28[1] - at_50[1], unit * math.log(50 / 28), delta=0.1)
-        texts, marks = svg_of(self.drawn("eight.csv", "a.svg"))
+        """Texts are texts, and each line has a name."""
+        drawn = self.drawn("eight.csv", "a.svg")
+        texts = texts_of(drawn)
         for text in [*TITLES[:2], TITLES[2] + " (block size, sets, ways)", *AXES, "cache size",
-                     "all caches", "32,2,2"]:
+                     "all caches", "32,2,2", "1 way", "2 ways", "32", "64", "128"]:
             self.assertIn(text, texts)
-        self.assertEqual(len(marks["rgb(187,187,187)"]), len(ALL) + 1)
+        for name in "size_1", "size_2", "block_2", "pareto_2":
+            self.assertIn(f'<g id="{name}">', drawn.decode())
+        marks = re.search('<g id="pareto_1">(.*?)</g>\\s*</g>', drawn.decode(), re.DOTALL)[1]
+        self.assertEqual(marks.count("<use "), len(ALL))
 
     def test_bars(self):
-        """Each goes from the least to the greatest in one piece; nothing white hides others."""
+        """Each goes from the least to the greatest in one piece, in its line's colour."""
         self.write_din()
-        drawn = self.drawn("din.csv", "a.svg")
-        self.assertNotIn("#FFFFFF", svg_of(drawn)[1])
-        bars = re.search(r"d='([^']*)'", drawn.decode().split("gnuplot_plot_3a<")[1])[1]
-        self.assertEqual(len(re.findall(r"M([0-9.]+),[0-9.]+ L\1,[0-9.]+\s", bars)), 2, bars)
+        shown = self.shown("din.csv", "a.svg")
+        self.assertEqual(shown.bars, [[(64, 12), (64, 18)], [(128, 3), (128, 4.2)]])
+        colours = {tuple(several.get_color()[0]) for several in shown.axes[0].collections}
+        self.assertEqual(colours, {(0, 158 / 255, 115 / 255, 1)})  # that of the third line
 
-    def test_the_script_is_what_is_run(self):
-        ran = self.run_command("gnuplot", "-d", stdin=self.script("eight.csv", "a.svg").encode())
-        self.assertEqual(self.good(ran), self.drawn("eight.csv", "a.svg").decode())
+    def test_the_same_file(self):
+        """Of the same table, whatever settings of matplotlib a user has."""
+        self.write("matplotlibrc", "lines.linewidth: 9\ntext.usetex: True\n")
+        for out in "a.png", "a.svg", "a.pdf", "a.html":
+            drawn = self.drawn("--only", "size", "eight.csv", out)
+            (self.folder / "matplotlibrc").unlink(missing_ok=True)
+            self.assertTrue(drawn == self.drawn("--only", "size", "eight.csv", out), out)
+            self.write("matplotlibrc", "lines.linewidth: 9\ntext.usetex: True\n")
+
+    @needs("bubblewrap")
+    def test_folders_that_are_read_only(self):
+        """Without a word, though matplotlib would keep there what fonts it found."""
+        around = "bwrap --ro-bind / / --dev /dev --proc /proc --tmpfs /tmp bash -c".split()
+        ran = self.run_command(*around, f"{base.TOOLS}/plot - /tmp/a.png && head -c 4 /tmp/a.png",
+                               env={"HOME": "/nonexistent"}, stdin=EIGHT.encode())
+        self.assertEqual((ran.stdout, ran.stderr, ran.returncode), (b"\x89PNG", b"", 0))
+
+    def test_eps(self):
+        drawn = self.drawn("--size", "3.3x2in", "--only", "size", "eight.csv", "a.eps")
+        left, low, right, top = map(int, re.search(
+            rb"%%BoundingBox: (\d+) (\d+) (\d+) (\d+)", drawn).groups())
+        self.assertTrue(abs(right - left - 238) < 3 and abs(top - low - 144) < 3)
 
     def test_text(self):
         for columns, lines in ((80, 24), (120, 40)):
@@ -98,8 +101,24 @@ class Drawn(PlotTest):
             self.assertEqual(len(alone), lines - 1)
             self.assertEqual([line for line in alone if line != line.rstrip()], [])
 
+    def test_places_in_a_text(self):
+        """Each mark is above the tick of its size and beside the value of its misses."""
+        drawn = self.good(self.plot("--only", "size", "eight.csv", "-",
+                                    env={"COLUMNS": "90", "LINES": "50"})).splitlines()
+        foot = next(at for at, line in enumerate(drawn) if "+---" in line)
+        ticks = {size: drawn[foot + 1].index(size) + len(size) / 2 for size in ("32", "64", "128")}
+        found = {(letter, at, line.index(letter)) for at, line in enumerate(drawn[:foot])
+                 for letter in "AB" if letter in line.split("***")[0].split("###")[0]}
+        for letter, size in ("A", "32"), ("A", "64"), ("B", "64"), ("B", "128"):
+            self.assertTrue(any(letter == name and abs(column - ticks[size]) <= 1
+                                for name, _, column in found), (letter, size, drawn))
+        rows = {float(line.split("|")[0]): at for at, line in enumerate(drawn)
+                if re.match(r" *[0-9.]+ \|", line)}
+        highest = min(at for name, at, _ in found if name == "A")
+        self.assertLessEqual(abs(highest - rows[50]), 1)  # 50 % with 1 way
+
     def test_odd_tables(self):
-        """Whatever the table, all is drawn, and gnuplot has nothing to say."""
+        """Whatever the table, all is drawn without a word."""
         (self.folder / "tables").mkdir()
         ways = "--bsize 64 --sets 1-2 --assoc 1-2000 --size 64-1m -t".split()
         for name, text in {
@@ -112,7 +131,7 @@ class Drawn(PlotTest):
             "ways": self.sweep(*ways, base.EXAMPLES / "sort.din"),
         }.items():
             self.write(f"tables/{name}", text)
-            for out in ("-", "a.svg"):
+            for out in ("-", "a.svg", "a.html"):
                 drawn = self.good(self.plot(f"tables/{name}", out))
                 for title in [TITLES[0][:24]] + [TITLES[2]] * (text.count("\n") > 1):
                     self.assertIn(title, drawn or (self.folder / out).read_text())
@@ -129,28 +148,48 @@ class Drawn(PlotTest):
         self.assertEqual(len(table.read_table(*table.lines_of(stored / "sort.csv"))), 633)
 
 
-@needs("gnuplot-nox")
+@needs("python3-matplotlib")
 class Texts(PlotTest):
     """A title, a measure and a name of a table are drawn as they are, with any letters."""
 
-    WILD = ("'a", "''", "a''b", "it's", "'`date`'", "'@GPVAL_VERSION", "@b", '"q"\\n\'', "{c}^2_3",
-            "'0'7\\0471", "&lt;<b>", "x'$y", "'%g'#;!")
+    WILD = ("'a", "''", "a''b", "it's", "'`date`'", "@b", '"q"\\n\'', "{c}^2_3", "'0'7\\0471",
+            "&lt;<b>", "x'$y", "$\\alpha$", "'%g'#;!", "\\frac{1}{2}", "~a|b>c", "]]>", "éü", "_a")
 
-    def test_texts(self):
+    def plot_of(self, text, *out):
+        rows = f"{table.HEADER},{text}\n16,1,1,16,5,5,4,7\n16,2,1,32,6,4,2,9\n"
+        self.write(f"{text} 1.csv", rows)
+        self.write("2.csv", rows)
+        words = ["--title", text, "--measure", text, "--only", "size"]
+        self.assertEqual(self.good(self.plot(*words, f"{text} 1.csv", "2.csv", *out)), "")
+
+    def test_svg(self):
         for text in self.WILD:
             with self.subTest(text):
-                rows = f"{table.HEADER},{text}\n16,1,1,16,5,5,4,7\n16,2,1,32,6,4,2,9\n"
-                self.write(f"{text} 1.csv", rows)
-                self.write("2.csv", rows)
-                words = ["--title", text, "--measure", text, "--only", "size"]
-                self.good(self.plot(*words, f"{text} 1.csv", "2.csv", "a.svg"))
-                texts, _ = svg_of((self.folder / "a.svg").read_bytes())
+                self.plot_of(text, "a.svg")
+                texts = texts_of((self.folder / "a.svg").read_bytes())
                 self.assertLessEqual({text, f"{text} 1"}, {*texts})
                 self.assertEqual(texts.count(text), 2)
+
+    @needs("texlive-pictures", "poppler-utils")
+    def test_pgf(self):
+        """In a paper too: LaTeX sets the letters, and does nothing by them."""
+        for text in self.WILD:
+            with self.subTest(text):
+                self.plot_of(text, "a.pgf")
+                self.write("a.tex", "\\documentclass{article}\n\\usepackage[T1]{fontenc}\n"
+                           "\\usepackage{pgf}\n\\begin{document}\n\\input{a.pgf}\n"
+                           "\\end{document}\n")
+                ran = self.run_command("pdflatex", "-halt-on-error", "a.tex")
+                self.assertEqual(ran.returncode, 0, ran.stdout)
+                shown = self.good(self.run_command("pdftotext", "a.pdf", "-"))
+                self.assertIn(text, shown.replace("”", '"').replace("’", "'"))
 
 
 @needs("python3-plotly")
 class Page(PlotTest):
+    def lines(self, *arguments):
+        return self.figures(*arguments)[0]
+
     def page(self, *arguments):
         self.assertEqual(self.good(self.plot(*arguments, "a page.html")), "")
         return (self.folder / "a page.html").read_text()
@@ -163,87 +202,98 @@ class Page(PlotTest):
         self.assertTrue(policy.startswith("default-src 'none';"), policy)
         self.assertNotRegex(policy, r"http|\*|'self'|connect")
         self.assertTrue(len(scripts) == 2 and len(scripts[0]) > 1_000_000)
+        self.assertNotIn("plot.ly", "".join(page.split(scripts[0].split("</script>")[0])))
         self.assertIn("<h1>&lt;Eight&gt; &amp; more</h1>", page)
 
     def test_formats_of_several_tables(self):
         for only in ("size", "pareto"):
             given = "--only", only, "eight.csv", "eight.csv"
-            for out in ("a.png", "a.svg", "a.pdf", "-"):
+            for out in ("a.png", "a.svg", "a.pdf", "a.eps", "-"):
                 self.good(self.plot(*given, out))
-            lines = self.figures(*given)[only].popitem()[1]["data"]
-            shape = None if only == "size" else "hv"
-            self.assertEqual([line["line"].get("shape") for line in lines], [shape] * 2)
-            self.assertTrue(lines[1]["hovertemplate"].startswith("%{fullData.name}<br>"))
-        self.assertIn("<p>2 tables. A point", (self.folder / "a page.html").read_text())
+            lines = self.lines(*given)[only].popitem()[1]
+            shape = "linear" if only == "size" else "hv"
+            self.assertEqual([line["line"]["shape"] for line in lines], [shape] * 2)
+            self.assertTrue(lines[1]["hovertext"][0].startswith("eight.csv<br>"))
+        self.assertIn("<p>2 tables.<span", (self.folder / "a page.html").read_text())
 
     def test_data(self):
-        figures = self.figures("eight.csv")
+        figures = self.lines("eight.csv")
         self.assertEqual({name: list(choices) for name, choices in figures.items()},
                          {"size": ["16", "32"], "block": ["1", "2"], "pareto": ["0"]})
-        one, two = figures["size"]["16"]["data"]
+        one, two = figures["size"]["16"]
         self.assertEqual((one["name"], one["x"], one["y"]), ("1 way", [32, 64], [40, 30]))
         self.assertEqual((two["name"], two["x"], two["y"]), ("2 ways", [64, 128], [25, 10]))
-        self.assertEqual(two["customdata"],
-                         [[16, 2, 2, 64, 75, 25, 21, 25], [16, 4, 2, 128, 90, 10, 2, 10]])
+        self.assertEqual(two["hovertext"][0], "2 ways<br>64 bytes: block 16, sets 2, ways 2<br>"
+                         "hits 75, misses 25, evictions 21<br>miss ratio in per cent: 25")
+        self.assertEqual([one["visible"], figures["size"]["32"][0]["visible"]], [False, True])
         for ways, lines in (("1", {"32": [40, 50], "64": [30, 32]}),
                             ("2", {"64": [25, 28], "128": [10, 8]})):
-            data = figures["block"][ways]["data"]
+            data = figures["block"][ways]
             self.assertEqual({line["name"]: line["y"] for line in data}, lines)
-        every, steps, front = figures["pareto"]["0"]["data"]
+        every, front, tail = figures["pareto"]["0"]
         self.assertEqual(sorted(zip(every["x"], every["y"])), sorted(ALL))
-        self.assertEqual((steps["x"], steps["y"]), ([32, 64, 128, 128], [40, 25, 8, 8]))
-        self.assertEqual(steps["line"]["shape"], "hv")
-        self.assertEqual(list(zip(front["x"], front["y"])), [(32, 40), (64, 25), (128, 8)])
+        self.assertEqual((front["x"], front["y"]), ([32, 64, 128], [40, 25, 8]))
+        self.assertEqual((front["line"]["shape"], every["mode"]), ("hv", "markers"))
+        self.assertEqual((tail["x"], tail["y"], tail["mode"]), ([128, 128], [8, 8], "lines"))
 
     def test_a_column_that_another_choice_widens(self):
         """With 4 ways there is one block size, and with 1 way there are two."""
         rows = rows_of([(1, 500), (2, 300)]) + rows_of([(2, 400)], 32)
         self.write("t.csv", rows + "64,1,4,256,900,100,96\n")
-        self.assertEqual(list(self.figures("t.csv")), ["size", "block", "pareto"])
+        self.assertEqual(list(self.lines("t.csv")), ["size", "block", "pareto"])
         drawn = {name.split("_")[0] for name in self.data("t.csv", "a.svg")}
         self.assertEqual(drawn, {"size", "pareto"})
 
     def test_counts_of_the_table(self):
         page = self.page("--measure", "evictions", "eight.csv")
-        self.assertIn("<h1>Evictions</h1>\n<p>8 caches, 100 references. ", page)
+        self.assertIn("<h1>Evictions</h1>\n<p>8 caches, 100 references.<", page)
         self.write_din()
         self.write("din.csv", (self.folder / "din.csv").read_text().replace(",0\n", ",30\n"))
         # also those that no cache takes
-        self.assertIn("<p>10 runs, 1,030 references. ", self.page("din.csv"))
+        self.assertIn("<p>10 runs, 1,030 references.<", self.page("din.csv"))
 
     def test_a_line_that_is_cut(self):
         """Nothing is between the points where it is cut, and each keeps what is told of it."""
         self.write("t.csv", rows_of([(2, 900), (8, 700), (16, 600)]) + "64,4,2,512,500,500,0\n")
-        line = self.figures("--only", "size", "t.csv")["size"]["64"]["data"][0]
+        line = self.lines("--only", "size", "t.csv")["size"]["64"][0]
         self.assertEqual((line["x"], line["y"]), ([128, None, 512, 1024], [90, None, 70, 60]))
-        self.assertEqual([told and told[:4] for told in line["customdata"]],
-                         [[64, 2, 1, 128], None, [64, 8, 1, 512], [64, 16, 1, 1024]])
+        self.assertEqual([told and told.split("<br>")[1] for told in line["hovertext"]], [
+            "128 bytes: block 64, sets 2, ways 1", None, "512 bytes: block 64, sets 8, ways 1",
+            "1,024 bytes: block 64, sets 16, ways 1"])
 
     def test_axes(self):
         """Plotly takes the ends of a logarithmic axis as powers of ten. Ticks' texts are values."""
-        figure = self.figures("eight.csv")["size"]["32"]
+        layout = self.figures("eight.csv")[1]["size"]
         for axis, least, greatest in (("xaxis", 32, 128), ("yaxis", 8, 50)):
-            self.assertEqual(figure["layout"][axis]["type"], "log")
-            low, high = (10 ** end for end in figure["layout"][axis]["range"])
+            self.assertEqual(layout[axis]["type"], "log")
+            low, high = (10 ** end for end in layout[axis]["range"])
             self.assertTrue(least / 2 < low < least, (axis, low))
             self.assertTrue(greatest < high < 2 * greatest, (axis, high))
-        up = figure["layout"]["yaxis"]
-        for values, texts in (figure["few"], figure["many"], (up["tickvals"], up["ticktext"])):
+            values, texts = layout[axis]["tickvals"], layout[axis]["ticktext"]
             self.assertEqual((len(values) > 1, list(map(float, texts))), (True, values))
 
     def test_data_of_din(self):
         """The mean over three seeds, 3.5, is 0.5 above the least and 0.7 below the greatest."""
         self.write_din()
-        first, _, line = self.figures("din.csv")["size"]["0"]["data"]
+        first, _, line = self.lines("din.csv")["size"]["0"]
         self.assertEqual((first["name"], first["x"], first["y"]), ("LRU", [64, 128], [10, 2]))
         self.assertNotIn("error_y", first)
         self.assertEqual((line["name"], line["x"], line["y"]), ("random", [64, 128], [15, 3.5]))
         for name, bars in ("array", [3, 0.7]), ("arrayminus", [3, 0.5]):
             self.assertEqual([round(length, 9) for length in line["error_y"][name]], bars)
-        self.assertEqual(line["customdata"][1], ["128", "16", "2", "r", 128, "3.5 (3 to 4.2)"])
-        names = "l1-usize", "l1-ubsize", "l1-uassoc", "l1-urepl", "size", "l1-u-percent"
-        told = "<br>".join(f"{name} %{{customdata[{at}]}}" for at, name in enumerate(names))
-        self.assertEqual(line["hovertemplate"], f"{told}<extra></extra>")
+        self.assertEqual(line["hovertext"][1], "random<br>l1-usize 128<br>l1-ubsize 16<br>"
+                         "l1-uassoc 2<br>l1-urepl r<br>size 128<br>miss ratio in per cent: 3.5 (3 "
+                         "to 4.2)")
+
+    def test_names_are_texts(self):
+        """Not HTML, of which plotly takes some, and none ends the script."""
+        name = "</script><b>&"
+        rows = "".join(f"{row},7\n" for row in EIGHT.splitlines())
+        self.write("t.csv", f"{table.HEADER},{name}\n{rows}")
+        page = self.page("--measure", name, "--only", "size", "t.csv")
+        self.assertEqual(page.count("</script>"), page.count("<script"))
+        layout = self.figures("--measure", name, "--only", "size", "t.csv")[1]["size"]
+        self.assertEqual(layout["yaxis"]["title"]["text"], "&lt;/script&gt;&lt;b&gt;&amp;")
 
     @needs("chromium")
     def test_in_a_browser(self):
@@ -256,7 +306,9 @@ class Page(PlotTest):
             const menu = document.querySelector("select[name=ways]");
             menu.value = "1";
             menu.dispatchEvent(new Event("change"));
-            Plotly.Fx.hover("block", [{curveNumber: 1, pointNumber: 1}]);
+            const line = document.getElementById("block").data.findIndex(
+                trace => trace.visible && trace.name == "64");
+            Plotly.Fx.hover("block", [{curveNumber: line, pointNumber: 1}]);
             document.body.dataset.hash = location.hash;
         </script></body>"""
         self.write("watched.html", page.replace("<head>", watch, 1).replace("</body>", choose))
@@ -266,7 +318,7 @@ class Page(PlotTest):
             "Miss ratio by cache size: blocks of 16 bytes", "Miss ratio by block size: 1 way",
             TITLES[2], "Eight</h1>", "<title>Eight</title>", 'data-hash="#bsize=16&amp;ways=1"',
             "64 bytes: block 32, sets 2, ways 1", "hits 68, misses 32, evictions 30",
-            "miss ratio 32 %",
+            "miss ratio in per cent: 32",
         ):
             self.assertIn(text, shown)
         picture = '<div id="?(size|block|pareto)"?[^>]*class="[^"]*js-plotly-plot'

@@ -149,7 +149,7 @@ class Beginnings(base.ToolTest):
             (0, "", "best", "t.csv"),
             (0, "", "best", "t.csv", "--measure", "traffic", "--rows", "2"),
             (0, "fractions decimal", "best", "t.csv", "--below", "99.5"),
-            (0, "html", "plot", "--script", "t.csv", "t.svg"),
+            (0, "decimal fractions shutil", "plot", "t.csv", "-"),
             (0, "random shutil tempfile", "lab/replay", *lab, "--text", "-t", "trace"),
             (0, "json random shutil tempfile", "lab/replay", *lab, "-t", "trace"),
             (1, "ctypes locale random shutil subprocess tempfile threading",

@@ -4,6 +4,7 @@ import fractions
 
 from base import ToolTest, needs
 from lib import table
+from test_plot import PlotTest
 
 LINE, ROW = "16,1,2,32,4,5,3", table.Row(16, 1, 2, 32, 4, 5, 3)
 NO_ROW = "no row of a sweep's table"
@@ -63,7 +64,7 @@ class Pareto(ToolTest):
         self.assertEqual(table.pareto([ROW]), [ROW])
 
 
-class Columns(ToolTest):
+class Columns(PlotTest):
     """Below 0, empty, cut, twice."""
 
     def best(self, text, *words):
@@ -72,7 +73,7 @@ class Columns(ToolTest):
 
     def each(self, *words):
         """What best and plot make of the table."""
-        for tool, *out in ("best",), ("plot", "-", "--script"):
+        for tool, *out in ("best",), ("plot", "-"):
             yield tool, self.run_tool(tool, *words, "t.csv", *out)
 
     def test_best_below_0(self):
@@ -116,26 +117,27 @@ class Columns(ToolTest):
             for tool, ran in self.each():
                 self.refused(ran, 1, f"{tool}: t.csv: line 3")
 
-    @needs("gnuplot-nox")
+    @needs("python3-matplotlib")
     def test_plot_below_0(self):
         """The axis goes below 0, with a tick at or below the least value, and the points there."""
         for least, low, lowest in (-5, -5.25, "-5"), (-13, -14, "-14"):
             self.write("t.csv", HEAD + ROWS[0] + ROWS[1].replace("-5", f"{least}"))
-            words = "plot", "--only", "pareto", "--measure", "conflict"
-            script = self.good(self.run_tool(*words, "--script", "t.csv", "t.svg"))
-            self.assertIn(f"unset logscale y\nset yrange [{low}:0]\n", script)
-            ticks = rf"set ytics \('{lowest}' {lowest}, ('-\d+' -\d+, )+'0' -?0"
-            self.assertRegex(script, ticks)
-            for point in (f"\n32 {least}\n", "\n32 0\n"):
-                self.assertIn(point, script)
-        drawn = self.good(self.run_tool(*words, "t.csv", "-"))
+            words = "--only", "pareto", "--measure", "conflict", "t.csv"
+            shown = self.shown(*words, "t.svg")
+            self.assertEqual((shown.axes[0].get_yscale(), shown.axes[0].get_ylim()),
+                             ("linear", (low, 0)))
+            self.assertEqual([shown.ticks()[at] for at in (0, -1)],
+                             [(lowest, float(lowest)), ("0", 0)])
+            self.assertEqual({*shown.data["pareto_1"][0]}, {(32, least), (32, 0)})
+        drawn = self.good(self.run_tool("plot", *words, "-"))
         self.assertRegex(drawn, r"(?m)^ *-14 [|+]")
 
+    @needs("python3-matplotlib")
     def test_the_lowest_tick(self):
         """On a logarithmic axis there are some below the least value."""
         rows = "".join(f"16,{sets},1,{16 * sets},{10000 - misses},{misses},9\n"
                        for sets, misses in ((1, 5000), (2, 900), (4, 103)))
         self.write("t.csv", f"{table.HEADER}\n{rows}")
-        script = self.good(self.run_tool("plot", "--script", "--only", "size", "t.csv", "t.svg"))
-        self.assertIn("set logscale y\n", script)
-        self.assertIn("set ytics ('0.7' 0.7, '1' 1, ", script)
+        shown = self.shown("--only", "size", "t.csv", "t.svg")
+        self.assertEqual(shown.axes[0].get_yscale(), "log")
+        self.assertEqual(shown.ticks()[0], ("0.7", 0.7))

@@ -130,19 +130,19 @@ class Large(base.ToolTest):
         def seeds(number):
             return self.COLUMNS + "".join(f"64,16,2,r,{seed},9999,{1000 + seed % 99},10.000,0\n"
                                           for seed in range(number))
-        self.judge(seeds, 25000, ("best",), ("best", "--below", "90"), ("plot", "-", "--script"))
+        self.judge(seeds, 25000, ("best",), ("best", "--below", "90"), ("plot", "-"))
 
     def test_cases(self):
         def cases(number):
             return self.COLUMNS + "".join(
                 f"{1 << at % 8},16,{1 + at // 8},l,1,9999,{9000 - at % 8999},10.000,0\n"
                 for at in range(number))
-        self.judge(cases, 10000, ("best",), ("best", "--front"), ("plot", "-", "--script"),
-                   ("plot", "-", "--script", "--only", "pareto"))
+        self.judge(cases, 10000, ("best",), ("best", "--front"), ("plot", "-"),
+                   ("plot", "-", "--only", "pareto"))
 
     def test_caches(self):
         def caches(number):
             return "".join(f"16,{1 << at % 8},{1 + at // 8},{16 * (1 << at % 8) * (1 + at // 8)},"
                            f"{1000 + at % 8999},{9000 - at % 8999},0\n" for at in range(number))
         self.judge(caches, 20000, ("best",), ("best", "--miss-cost", "80+2/16"),
-                   ("plot", "-", "--script"))
+                   ("plot", "-"))

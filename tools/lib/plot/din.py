@@ -1,24 +1,24 @@
 """The pictures of tables of din-table: by cache size, with a line for each of the other values."""
 
 import functools
-import html
 import re
 from collections import namedtuple
 
 from lib.plot import pictures
-from lib.plot.pictures import (MOST_LINES, Line, Measure, Picture, Point, bytes_text, sets_text,
-                               short, ways_text)
+from lib.plot.pictures import (MOST_LINES, Line, Measure, Picture, Point, bytes_text, counted,
+                               evenly, short, ways_text)
 from lib.table import pareto
 from lib.table_din import NUMBERS, WORDS, cache, kind, read_table, usual_measure
 from lib.tool import fail, warn
 
 ACROSS = {"size": pictures.SIZE, "sets": "sets", "bsize": "block size in bytes",
           "assoc": "ways"}
+TEXTS = {"size": bytes_text, "sets": lambda sets: counted(sets, "set", short),
+         "bsize": lambda size: f"blocks of {short(size)}", "assoc": ways_text}
+GLOBAL = "-global"  # in a column's name: misses by the references to the first level
 
 # a table that is drawn, the option on its horizontal axis, and its file
 View = namedtuple("View", "table across file")
-# in a column's name: misses by the references to the first level
-GLOBAL = "-global"
 
 
 def varied(table):
@@ -30,102 +30,67 @@ def varied(table):
 def across_of(wanted, table, file):
     """The option on the horizontal axis: the wanted one, else the last size or number that varies.
     """
+    numbers = [option for option in table.options if kind(option) in NUMBERS]
     if wanted:
-        if wanted not in table.options or kind(wanted) not in NUMBERS:
-            numbers = [option for option in table.options if kind(option) in NUMBERS]
-            fail(f"{file}: no option {wanted} with numbers; there are {', '.join(numbers)}")
-        return wanted
-    for kinds in (("size", "sets"), NUMBERS):
-        for option in reversed(varied(table) or table.options):
-            if kind(option) in kinds:
-                return option
-    return next(option for option in table.options if kind(option) in ("size", "sets"))
-
-
-def of_measure(table, several):
-    """The options that change the measure: those of its own cache alone, if that is in level 1."""
-    if not table.measure.startswith("l1-"):
-        return several
-    return [option for option in several if table.measure.startswith(f"{cache(option)}-")]
-
-
-def chosen_measure(columns, across):
-    """Without a measure it is the miss ratio of the cache on the horizontal axis."""
-    ratio = f"{cache(across)}-percent"
-    return ratio if ratio in columns else usual_measure(columns)
-
-
-def kind_of_ratio(own, caches):
-    """Whether a miss ratio of a second level is by the references to this level or to the first."""
-    if own.endswith(GLOBAL):
-        return "global "
-    is_second = own.startswith("l2-") and any(one.startswith("l1-") for one in caches)
-    return "local " * is_second
+        return wanted if wanted in numbers else fail(
+            f"{file}: no option {wanted} with numbers; there are {', '.join(numbers)}")
+    among = varied(table) or table.options
+    sizes, others = ([option for option in options if kind(option) in kinds] for options, kinds in (
+        (among, ("size", "sets")), (among, NUMBERS)))
+    return (sizes or others or [option for option in numbers if kind(option) in ACROSS])[-1]
 
 
 def measure_of(views):
     """How the measure is called. Where tables have other ones each, it is the miss ratio."""
-    table, options = views[0].table, options_of(views)
-    measures = {view.table.measure for view in views}
-    columns = [*options, "size", table.measure if len(measures) == 1 else "percent"]
-    texts = (f"{html.escape(name)} %{{customdata[{at}]}}" for at, name in enumerate(columns))
-    about = "<br>".join(texts) + "<extra></extra>"
-    if len(measures) > 1:
-        return Measure(about=about)
+    table = views[0].table
+    if len({view.table.measure for view in views}) > 1:
+        return Measure()
     if not table.measure.endswith("-percent"):
         own = re.fullmatch("(l[12]-[diu])-(.*)", table.measure)
         name = f"{own[2].replace('-', ' ')} of {own[1]}" if own else table.measure.replace("-", " ")
-        return Measure(name, name[0].upper() + name[1:], about, False)
+        return Measure(name, name[0].upper() + name[1:], False)
     own = table.measure.removesuffix("-percent")
     caches = {cache(option) for option in table.options}
-    of = f" of {own}" if len(caches) > 1 else ""
-    name = f"{kind_of_ratio(own, caches)}miss ratio{of.removesuffix(GLOBAL)}"
-    return Measure(f"{name} in per cent", f"{name[0].upper()}{name[1:]}", about)
+    of = f" of {own.removesuffix(GLOBAL)}" if len(caches) > 1 else ""
+    # that of a second level is by the references to this level or to the first
+    is_local = own.startswith("l2-") and any(one.startswith("l1-") for one in caches)
+    which = "global " if own.endswith(GLOBAL) else "local " * is_local
+    name = f"{which}miss ratio{of}"
+    return Measure(f"{name} in per cent", f"{name[0].upper()}{name[1:]}")
 
 
 def value_text(option, value, has_caches):
     """A value as a legend has it, with its cache where there are several."""
     word = kind(option)
-    if word in WORDS:
-        text = WORDS[word].get(value, value)
-    else:
-        number = int(value)
-        text = {"size": bytes_text(number), "sets": sets_text(number),
-                "bsize": f"blocks of {short(number)}", "assoc": ways_text(number)}[word]
+    text = WORDS[word].get(value, value) if word in WORDS else TEXTS[word](int(value))
     return f"{cache(option)} {text}" if has_caches else text
 
 
-def told(options, table, lines, has_caches, case):
-    """What is said of a case: the mean of its seeds, its least and greatest; and its label. Options
-    that other tables have are empty."""
+def label(pairs, has_caches):
+    return ", ".join(value_text(*pair, has_caches) for pair in pairs if pair[1])
+
+
+def told(table, lines, has_caches, case):
+    """What is said of a case, and its label. Options that other tables have are empty."""
     given = dict(zip(table.options, case.given))
-    ends = ends_of(case)
-    spread = f" ({ends[0]:.6g} to {ends[1]:.6g})" if ends else ""
-    values = (given.get(option, "") for option in options)
-    label = ", ".join(value_text(option, given[option], has_caches) for option in lines
-                      if given[option])
-    return (*values, case.size, f"{float(case.measured):.6g}{spread}"), label
-
-
-def ends_of(case):
-    """The least and the greatest of several seeds, where they differ."""
-    if len(case.values) == 1:
-        return ()
-    least, greatest = float(min(case.values)), float(max(case.values))
-    return (least, greatest) if least < greatest else ()
+    texts = [f"{option} {value}" for option, value in given.items() if value]
+    return ("\n".join([*texts, f"size {case.size}"]),
+            label([(option, given[option]) for option in lines], has_caches))
 
 
 def points(cases, x, *about):
-    """Some cases as points."""
-    return [Point(x(case), float(case.measured), functools.partial(told, *about, case),
-                  ends_of(case)) for case in cases]
+    """Some cases as points, each with the least and the greatest of several seeds that differ."""
+    for case in cases:
+        ends = float(min(case.values)), float(max(case.values))
+        yield Point(x(case), float(case.measured), functools.partial(told, *about, case),
+                    ends if ends[0] < ends[1] else ())
 
 
 def fixed(asked, table, across, lines, file):
     """The table with one associativity or block size where these are asked for, of the cache on the
     horizontal axis, or where there would be too many lines; and the options that are fixed so, each
     with its value."""
-    found = {}
+    found = []
     for word, wanted, usual in (("assoc", asked.ways, 4), ("bsize", asked.bsize, 64)):
         for option in [one for one in table.options if kind(one) == word and one != across]:
             is_asked = wanted is not None and cache(option) == cache(across)
@@ -136,8 +101,9 @@ def fixed(asked, table, across, lines, file):
                 if value not in values:
                     there = ", ".join(map(str, values))
                     fail(f"{file}: no run has {option} {wanted}; there are {there}")
-                cases = [case for case in table.cases if int(case.given[at]) == value]
-                table, found[option] = table._replace(cases=cases), value
+                table = table._replace(cases=[case for case in table.cases
+                                              if int(case.given[at]) == value])
+                found.append((option, value))
     return table, found
 
 
@@ -150,8 +116,9 @@ def groups(table, lines):
     return found
 
 
-def by_across(asked, view, measure, options):
-    """The measure by the option on the horizontal axis; a line for each value of the others."""
+def by_across(asked, view, measure):
+    """The measure by the option on the horizontal axis; a line for each value of the others that
+    change the measure: those of its own cache alone, if that is in level 1."""
     table, across, file = view
     at = table.options.index(across)
     cases = [case for case in table.cases if case.given[at]]
@@ -159,21 +126,21 @@ def by_across(asked, view, measure, options):
         warn(f"{file}: {len(table.cases) - len(cases)} of {len(table.cases)} caches have no "
              f"{across}, and are left out")
         table = table._replace(cases=cases)
-    lines = [option for option in of_measure(table, varied(table)) if option != across]
+    is_first = table.measure.startswith("l1-")
+    lines = [option for option in varied(table) if option != across
+             and (not is_first or table.measure.startswith(f"{cache(option)}-"))]
     has_caches = len({cache(option) for option in [across, *lines]}) > 1
     table, values = fixed(asked, table, across, lines, file)
     lines = [option for option in lines if option in varied(table)]
-    found = groups(table, lines)
-    shown = []
-    for given in pictures.evenly(list(found)):
-        pairs = [pair for pair in zip(lines, given) if pair[1]]
-        name = ", ".join(value_text(*pair, has_caches) for pair in pairs)
+    found, shown = groups(table, lines), []
+    for given in evenly(list(found)):
         cases = {int(case.given[at]): case for case in reversed(found[given])}
-        shown.append(Line(name, [points([cases[x] for x in sorted(cases)], lambda case: int(
-            case.given[at]), options, table, lines, has_caches)]))
-    remarks = [value_text(*pair, has_caches) for pair in values.items()]
-    remarks += [f"{len(shown)} of {len(found)} lines"] * (len(shown) < len(found))
+        shown.append(Line(label(zip(lines, given), has_caches), list(points(
+            [cases[x] for x in sorted(cases)], lambda case: int(case.given[at]),
+            table, lines, has_caches))))
     what = ACROSS[kind(across)]
+    remarks = [label(values, has_caches)] * bool(values)
+    remarks += [f"{len(shown)} of {len(found)} lines"] * (len(shown) < len(found))
     title = f"{measure.name} by {what.removesuffix(' in bytes')}"
     title = ": ".join([title, *[", ".join(remarks)] * bool(remarks)])
     return Picture("size", 0, title, what + f" ({cache(across)})" * has_caches, "", shown)
@@ -184,28 +151,23 @@ def by_front(table, measure):
     sizes = [option for option in table.options if kind(option) in ("size", "sets")]
     lines = [option for option in varied(table) if kind(option) != "size" or len(sizes) > 1]
     has_caches = len({cache(option) for option in lines}) > 1
-    cloud, front = (points(cases, lambda case: case.size, table.options, table, lines, has_caches)
+    every, front = (list(points(cases, lambda case: case.size, table, lines, has_caches))
                     for cases in (table.cases, pareto(table.cases)))
     words = "size of all caches in bytes" if len(sizes) > 1 else pictures.SIZE
-    lines = [Line("least up to this size", [front])]
-    return Picture("pareto", 0, measure.least, words, "", lines, cloud)
-
-
-def options_of(views):
-    """The options that some tables have."""
-    return list(dict.fromkeys(option for view in views for option in view.table.options))
+    return Picture("pareto", 0, measure.least, words, "",
+                   pictures.front_of(every, front, "least up to this size"))
 
 
 def of_several(asked, tables, views, measure):
     """The picture of several tables."""
-    options, found, drawn = options_of(views), [], []
+    drawn = [by_across(asked, view, measure) for view in views]
     has_own = len({view.table.measure for view in views}) > 1
-    for given, view in zip(tables, views):
-        drawn.append(by_across(asked, view, measure, options))
+    found = []
+    for given, view, picture in zip(tables, views, drawn):
         name = given.name + f" ({cache(view.across)})" * has_own
-        found += [Line(f"{name}, {line.name}" if line.name else name, line.runs)
-                  for line in drawn[-1].lines]
-    lines = pictures.evenly(found)
+        found += [line._replace(name=", ".join(filter(None, (name, line.name))))
+                  for line in picture.lines]
+    lines = evenly(found)
     remarks = [f"{len(lines)} of {len(found)} lines"] * (len(lines) < len(found))
     titles, axes = ({getattr(picture, name) for picture in drawn} for name in ("title", "across"))
     title = drawn[0].title if len(titles) == 1 else drawn[0].title.split(": ")[0]
@@ -221,7 +183,9 @@ def read(asked, given, first=None):
     across = across_of(asked.across or as_first, table, given.file)
     if first and kind(across) != kind(first.across):
         across_of(first.across, table, given.file)  # which fails
-    measure = asked.measure or chosen_measure(columns, across)
+    # without a measure it is the miss ratio of the cache on the horizontal axis
+    own = f"{cache(across)}-percent"
+    measure = asked.measure or (own if own in columns else usual_measure(columns))
     if first and not asked.measure and first.table.measure in columns:
         measure = first.table.measure
     if measure != table.measure:
@@ -241,13 +205,12 @@ def drawn(asked, tables):
         fail("the tables have no measure in common: name one by --measure")
     measure = measure_of(views)
     runs = sum(len(case.values) for case in first.table.cases)
-    counts = f"{runs:,} run{'s' * (runs > 1)}, {first.table.references:,} references"
-    if len(tables) > 1:
-        if asked.only not in (None, "size"):
-            fail("several tables of din have the picture size alone")
-        return of_several(asked, tables, views, measure), measure, counts
-    if asked.only == "pareto":
+    counts = f"{counted(runs, 'run', '{:,}'.format)}, {first.table.references:,} references"
+    if asked.only == "pareto" and len(tables) == 1:
         return by_front(first.table, measure), measure, counts
     if asked.only not in (None, "size"):
-        fail(f"{first.file}: a table of din has the pictures size and pareto")
-    return by_across(asked, first, measure, first.table.options), measure, counts
+        fail("several tables of din have the picture size alone" if len(tables) > 1 else
+             f"{first.file}: a table of din has the pictures size and pareto")
+    picture = (of_several(asked, tables, views, measure) if len(tables) > 1
+               else by_across(asked, first, measure))
+    return picture, measure, counts

@@ -1,20 +1,31 @@
 """What tools/plot draws of the tables that it is given, and where that goes."""
 
 import os
+from collections import namedtuple
 
-from lib import costs, table
-from lib.files import replace
-from lib.plot import canvas as plot_canvas
-from lib.tool import fail, faults_of, write_lines
+from lib import costs, files, table, tool
+from lib.plot import din, kinds, pictures, sweep, text
+
+LONGEST = 24  # letters of a table's name in the legend
+
+# pictures with a measure of their own
+OWN = {"three-c": "misses by their kinds", "kinds": "misses by their kinds", "traffic": "traffic"}
+
+# a table: its file, its name in the legend, its lines, what faults call it, and its rows
+Given = namedtuple("Given", "file name lines shown rows", defaults=((),))
+# the pictures, their measure, what a page says of a single table, and a function of what may be
+# chosen there instead of a picture
+Drawn = namedtuple("Drawn", "pictures measure counts choices")
 
 
-def canvas_of(asked, count):
-    """The canvas for the ending of OUT."""
-    if asked.out == "-":
-        import shutil
-        terminal = shutil.get_terminal_size()
-        return plot_canvas.text(terminal.columns, terminal.lines - 1)
-    return plot_canvas.KINDS[asked.ending](count, asked.size, asked.mono, asked.scale)
+def names_of(paths):
+    """What the legend calls some tables: their files, without folder and ending if that will do. A
+    single one has no name."""
+    short = [os.path.splitext(os.path.basename(path))[0] for path in paths]
+    names = short if len(set(short)) == len(short) else paths
+    names = [pictures.printable("standard input" if name == "-" else name) for name in names]
+    names = [name if len(name) <= LONGEST else f"{name[:LONGEST - 1]}…" for name in names]
+    return names if len(paths) > 1 else [""]
 
 
 def write_file(out, data):
@@ -22,70 +33,69 @@ def write_file(out, data):
     may be read by those who may read the old one."""
     mask = os.umask(0)
     os.umask(mask)
-    with faults_of(out):
+    with tool.faults_of(out):
         place = os.path.realpath(out)  # there may be no working folder
         if os.path.exists(out) and not os.path.isfile(out):
             with open(out, "wb") as file:
                 file.write(data)
         else:
             is_there = os.path.exists(place)
-            replace(place, data, os.stat(place).st_mode & 0o777 if is_there else 0o666 & ~mask)
-
-
-def counts_of(rows):
-    """What a page says of a sweep's table."""
-    return f"{len(rows):,} cache{'s' * (len(rows) > 1)}, {rows[0].references:,} references"
+            mode = os.stat(place).st_mode & 0o777 if is_there else 0o666 & ~mask
+            files.replace(place, data, mode)
 
 
 def of_sweeps(asked, tables):
-    """The pictures of tables of sweeps, their measure, what a page says of a single table, and a
-    function of what may be chosen there in place of a picture."""
-    from lib.plot import sweep as plot_sweep
+    """The pictures of tables of sweeps."""
     if asked.across:
-        fail(f"{asked.table}: --across is for a table of din")
-    column, one = costs.column_of(asked), tables[0]
-    if asked.only == "three-c" and len(tables) == 1:
-        from lib.plot import three_c as plot_three_c
-        if column != "misses":
-            fail("--only three-c draws misses by their kinds, and no other measure")
-        picture, choices, one = plot_three_c.drawn(asked, one)
-        return [picture], plot_three_c.MEASURE, counts_of(one.rows), lambda _: choices
-    tables = [plot_sweep.with_rows(asked, given) for given in tables]
-    measure, rows = plot_sweep.measure_of(column, len(tables) > 1), tables[0].rows
+        tool.fail(f"{asked.tables[0]}: --across is for a table of din")
+    if len(tables) > 1 and asked.only not in (None, "size", "curve", "pareto"):
+        tool.fail(f"several tables have the pictures size, curve, pareto, and not {asked.only}")
+    if asked.only in OWN and costs.column_of(asked) != "misses":
+        tool.fail(f"--only {asked.only} draws {OWN[asked.only]}, and no other measure")
+    if asked.only in kinds.MEASURES:
+        picture, offered, rows = kinds.drawn(asked, tables[0])
+        drawn, measure = [picture], kinds.MEASURES[asked.only]
+    else:
+        measure, offered = sweep.measure_of(asked), None
+        sweeps = sweep.Sweeps(asked, [sweep.with_rows(asked, one) for one in tables], measure)
+        drawn, rows = sweep.drawn(sweeps), sweeps.rows
     if len(tables) == 1 and not rows[0].references:
         asked.title = f"{asked.title} (no references)".strip()
-    drawn = plot_sweep.drawn(asked, tables, measure)
-    return drawn, measure, counts_of(rows), lambda picture: plot_sweep.choices(
-        picture, asked, tables, measure)
+    counts = pictures.counted(len(rows), "cache", "{:,}".format)
+    return Drawn(drawn, measure, f"{counts}, {rows[0].references:,} references",
+                 lambda picture: offered or sweep.choices(sweeps, picture))
 
 
 def of_dins(asked, tables):
-    """The same of tables of din."""
-    from lib.plot import din as plot_din
+    """The picture of tables of din."""
     costs.refuse_din(asked)
-    picture, measure, counts = plot_din.drawn(asked, tables)
-    return [picture], measure, counts, lambda _: {picture.fixed: picture}
+    picture, measure, counts = din.drawn(asked, tables)
+    return Drawn([picture], measure, counts, lambda _: {picture.fixed: picture})
 
 
-def draw(asked, tables):
+def drawn_of(asked):
+    """What is drawn of the tables that are asked for, or their fault."""
+    tables = [Given(path, name, *table.lines_of(path))
+              for path, name in zip(asked.tables, names_of(asked.tables))]
+    are_din = {table.is_din(given.lines) for given in tables}
+    if len(are_din) > 1:
+        tool.fail("tables of sweeps and of din have no picture in common")
+    try:
+        return (of_dins if are_din.pop() else of_sweeps)(asked, tables)
+    except table.BadTable as fault:
+        tool.fail(str(fault))
+
+
+def draw(asked):
     """Draws some tables, and writes what is asked for."""
-    kinds = {table.is_din(given.lines) for given in tables}
-    if len(kinds) > 1:
-        fail("tables of sweeps and of din have no picture in common")
-    drawn, measure, counts, choices = (of_dins if kinds.pop() else of_sweeps)(asked, tables)
-    if asked.ending == ".html":
-        from lib.plot import page as plot_page
-        counts = f"{len(tables)} tables" if len(tables) > 1 else counts
-        offered = list(map(choices, drawn))
-        page = plot_page.page(drawn, offered, measure, asked.title, counts, asked.mono)
-        write_file(asked.out, page.encode())
-        return
-    from lib.plot import gnuplot as plot_gnuplot
-    canvas = canvas_of(asked, len(drawn))
-    script = plot_gnuplot.script(drawn, canvas, asked.title, measure)
-    if asked.script:
-        write_lines(script.splitlines())
-    elif asked.out == "-":
-        write_lines(plot_gnuplot.lines_of(plot_gnuplot.drawn_by(script)))
+    asked.title = pictures.printable(asked.title)
+    drawn = drawn_of(asked)
+    if asked.out == "-":
+        tool.write_lines(text.lines(drawn, asked.title))
+    elif asked.ending == ".html":
+        from lib.plot import page  # which needs plotly, as a figure needs matplotlib
+        counts = f"{len(asked.tables)} tables" if len(asked.tables) > 1 else drawn.counts
+        write_file(asked.out, page.page(drawn, counts, asked).encode())
     else:
-        write_file(asked.out, plot_gnuplot.drawn_by(script))
+        from lib.plot import figure
+        write_file(asked.out, figure.bytes_of(drawn, asked))

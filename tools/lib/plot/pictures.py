@@ -1,19 +1,21 @@
-"""What tools/plot draws, by gnuplot and in a browser alike: lines, points, their axes and ticks."""
+"""What tools/plot draws, on whatever it draws it: lines, points, their axes and ticks."""
 
 import math
 import re
+import textwrap
 from collections import namedtuple
 
 from lib.plot import MOST_LINES
 from lib.tool import size_text
 
-# of Okabe and Ito, but for a pale yellow: all people can tell them apart, also the colour-blind
-COLOURS = ("#0072b2", "#d55e00", "#009e73", "#cc79a7", "#e69f00", "#56b4e9", "#000000")
 SIZE = "cache size in bytes"
 UNIT = re.compile(r" in (per cent|bytes|cycles \(AMAT\))$")
+# of Okabe and Ito, except for a pale yellow: all people can tell them apart, also the colour-blind
+COLOURS = ("#0072b2", "#d55e00", "#009e73", "#cc79a7", "#e69f00", "#56b4e9", "#000000")
 # areas of a stack, above the two lowest: shades that differ in lightness too
 STACK = ("#feedde", "#fdbe85", "#fd8d3c", "#d94701", "#8c2d04", "#6baed6", "#08306b")
 GREYS = ("#f4f4f4", "#dcdcdc", "#c0c0c0", "#a2a2a2", "#848484", "#606060", "#202020")
+CELLS = {"curve": (1000, 500), "dots": (400, 200)}  # columns and rows of what can be seen
 PALE, FRONT, BLACK = "#bbbbbb", "#d55e00", "#000000"
 
 
@@ -21,23 +23,22 @@ class Point(namedtuple("Point", "x y told ends", defaults=((),))):
     """A cache in a picture: its place, ends over several seeds, and a function of what is said of
     it and its label, which few of a million are asked for."""
 
-    @property
-    def values(self):
-        return self.told()[0]
+
+class Line(namedtuple("Line", "name points style", defaults=("marks",))):
+    """A line of a picture: its name in the legend, its points, with None where it is cut, and a
+    style: `marks`; `curve` has no marks, `dots` nothing else; a `front` goes in steps, as do those
+    of several tables, `steps`, and has a `tail`; an `area` lies on the earlier ones, and a `bar`
+    stands on them."""
 
     @property
-    def label(self):
-        return self.told()[1]
+    def places(self):
+        return [(point.x, point.y) for point in self.points if point]
 
 
-class Line(namedtuple("Line", "name runs")):
-    """A line of a picture: its name in the legend, and its points, cut where one is missing."""
-
-
-class Measure(namedtuple("Measure", "up name about is_percent is_linear",
-                         defaults=("miss ratio in per cent", "Miss ratio", "", True, False))):
-    """The vertical axis: its name there and above pictures, what points tell, if it is per cent,
-    and whether it must begin at 0."""
+class Measure(namedtuple("Measure", "up name is_percent is_linear",
+                         defaults=("miss ratio in per cent", "Miss ratio", True, False))):
+    """The vertical axis: its name there and above pictures, if it is per cent, and whether it must
+    begin at 0."""
 
     @property
     def least(self):
@@ -47,35 +48,64 @@ class Measure(namedtuple("Measure", "up name about is_percent is_linear",
         return f"The smallest caches with the least {UNIT.sub('', self.up)}"
 
 
-class Picture(namedtuple("Picture", "name fixed title across legend lines cloud labels is_curve "
-                         "is_front is_stack", defaults=([], "", False, False, False))):
-    """A picture of some caches. `fixed` is the block size, or the ways, that all its caches have.
-    The picture of a Pareto front has one line, the front, above a cloud of all caches, and says
-    what their labels are; those of several tables have a line for each, and no cloud. A curve is a
-    line without marks. In a stack all below a line is filled, and later lines lie on earlier ones.
-    """
+class Picture(namedtuple("Picture", "name fixed title across legend lines labels names",
+                         defaults=("", ()))):
+    """A picture of some caches: the block size, or the ways, that all have, its title, the name of
+    its horizontal axis, the title of its legend, its lines, what the labels of a front are, and the
+    names of bars. A front is the second line, after all caches."""
 
     @property
     def points(self):
-        """All that it shows."""
-        return self.cloud or [point for line in self.lines for run in line.runs for point in run]
+        return [point for line in self.lines for point in line.points if point]
+
+    @property
+    def front(self):
+        """The caches that may have a label, in the order in which they get one: first that which
+        misses least, then sizes that are powers of two."""
+        front = self.lines[1].points if self.lines[0].style == "dots" else []
+        return sorted(front, key=lambda one: one != front[-1] and 1 + (one.x & (one.x - 1) != 0))
+
+    def title_lines(self, columns):
+        """The title in lines of so many letters. In a long one what is fixed, and what labels are,
+        have their own."""
+        labels = f"({self.labels})" * bool(self.labels)
+        whole = f"{self.title} {labels}".strip()
+        parts = [whole] if len(whole) <= columns else [*self.title.split(": ", 1), labels]
+        return [line for part in parts for line in textwrap.wrap(part, max(columns, 9))]
+
+    def coloured(self, mono):
+        """Each line with its colour. The two lowest areas are always the same."""
+        colours = [BLACK] * MOST_LINES if mono else COLOURS
+        if self.lines[0].style == "area":
+            shades = GREYS if mono else STACK
+            colours = [*shades[:len(self.lines) - 2], *shades[-2:]]
+        elif self.lines[0].style == "dots":
+            colours = PALE, *[BLACK if mono else FRONT] * 2
+        elif self.names and mono:
+            colours = GREYS[1::2]
+        return list(zip(self.lines, colours))
 
 
-class Axis(namedtuple("Axis", "low high log ticks minor foot")):
-    """An axis: its ends, whether it is logarithmic, ticks with and without texts, where 0 is."""
+def front_of(every, front, name):
+    """The lines of a Pareto front before all caches. It goes on to the largest of these."""
+    end = front[-1]._replace(x=max(point.x for point in every))
+    return [Line("all caches", every, "dots"), Line(name, front, "front"),
+            Line("", [front[-1], end], "tail")]
+
+
+class Axis(namedtuple("Axis", "low high log ticks foot", defaults=(0.0,))):
+    """An axis: its ends, whether it is logarithmic, ticks with their texts, and where 0 is."""
 
     def fractions(self, values):
         """How far along the axis some values stand: 0 at its low end, 1 at the high one."""
         measure = math.log if self.log else float
         low, high = measure(self.low), measure(self.high)
-        return ((measure(value) - low) / (high - low) for value in values)
+        return [(measure(value or self.foot) - low) / (high - low) for value in values]
 
-    def fraction(self, value):
-        return next(self.fractions([value]))
 
-    def height(self, value):
-        """Where a value of a cache stands."""
-        return value or self.foot
+def printable(words):
+    """A title or a name in one line."""
+    return "".join(letter if letter.isprintable() else " " for letter in words)
 
 
 def short(size):
@@ -83,16 +113,17 @@ def short(size):
     return size_text(size).upper()
 
 
+def counted(number, what, text=str):
+    """A number of some things: 1 way, 2 ways."""
+    return f"1 {what}" if number == 1 else f"{text(number)} {what}s"
+
+
 def ways_text(ways):
-    return "1 way" if ways == 1 else f"{ways} ways"
-
-
-def sets_text(sets):
-    return "1 set" if sets == 1 else f"{short(sets)} sets"
+    return counted(ways, "way")
 
 
 def bytes_text(size):
-    return "1 byte" if size == 1 else f"{short(size)} bytes"
+    return counted(size, "byte", short)
 
 
 def nearest(values, wanted):
@@ -104,29 +135,13 @@ def handful(values, most=MOST_LINES):
     """Some numbers in order: all if they are few, else several powers of two; or evenly thinned."""
     values = sorted(set(values))
     powers = [value for value in values if value & (value - 1) == 0]
-    if len(values) > most and len(powers) > 2:
-        values = powers
-    return evenly(values, most)
+    return evenly(powers if len(values) > most and len(powers) > 2 else values, most)
 
 
 def evenly(values, most=MOST_LINES):
     """At most so many of some values in even steps, and always the last one."""
     chosen = values[:: math.ceil(len(values) / most)]
     return chosen if chosen[-1] == values[-1] else [*chosen[: most - 1], values[-1]]
-
-
-def linear_axis(least, greatest, closest, most):
-    """An axis from 0, or a tick at or below a value below 0, to a bit above a value, or to 0. Its
-    ticks are at least `closest` of it apart."""
-    low, high = 1.05 * min(least, 0), 1.05 * max(greatest, 0)
-    high = high or (0.0 if low else 1.0)
-    span = high - low
-    power = 10.0 ** math.floor(math.log10(span * closest))
-    step = next(step * power for step in (1, 2, 5, 10, 20) if step * power >= span * closest)
-    lowest = math.floor(min(least, 0) / step)
-    values = [step * count for count in range(lowest, int(high / step) + 1)]
-    ticks = [(value, number_text(value)) for value in values if value <= most]
-    return Axis(min(low, lowest * step), high, False, ticks, [], 0.0)
 
 
 def number_text(value):
@@ -137,39 +152,51 @@ def number_text(value):
     return f"{value:.6g}".replace("e-0", "e-").replace("e+", "e")
 
 
+def linear_axis(least, greatest, closest, most):
+    """An axis from 0, or a tick at or below a value below 0, to a bit above a value, or to 0. Its
+    ticks are at least `closest` of it apart."""
+    low, high = 1.05 * min(least, 0), 1.05 * max(greatest, 0)
+    high = high or (0.0 if low else 1.0)
+    gap = (high - low) * closest
+    power = 10.0 ** math.floor(math.log10(gap))
+    step = next(step * power for step in (1, 2, 5, 10, 20) if step * power >= gap)
+    lowest = math.floor(min(least, 0) / step)
+    values = [step * count for count in range(lowest, int(high / step) + 1)]
+    return Axis(min(low, lowest * step), high, False,
+                [(value, number_text(value)) for value in values if value <= most])
+
+
 def log_ticks(low, high, closest):
     """The most ticks for an axis between two values that are at least a part `closest` apart."""
     decades = range(math.floor(math.log10(low)), math.ceil(math.log10(high)) + 1)
-    whole = [10.0 ** decade for decade in decades]
     span = math.log10(high / low)
     for digits in ((1, 2, 3, 4, 5, 6, 7, 8, 9), (1, 2, 3, 5, 7), (1, 2, 3, 5), (1, 2, 5), (1, 3)):
-        gaps = [math.log10(after / digit) for digit, after in zip(digits, digits[1:] + (10,))]
-        if min(gaps) >= closest * span:
-            return [digit * power for power in whole for digit in digits]
-    return whole[:: math.ceil(closest * span)]
+        if min(map(math.log10, (after / digit for digit, after in zip(
+                digits, (*digits[1:], 10))))) >= closest * span:
+            return [float(f"{digit}e{decade}") for decade in decades for digit in digits]
+    return [float(f"1e{decade}") for decade in decades[:: math.ceil(closest * span)]]
 
 
 def log_axis(values, closest, most):
-    """A logarithmic axis around some values. A 0 among them stands at its foot."""
+    """A logarithmic axis around some values. A 0 among them stands at its foot, and no tick between
+    this and the least."""
     least, greatest = min(value for value in values if value), max(values)
     span = greatest / least
     foot = least / span ** 0.12 if 0 in values else 0.0
     low, high = (foot or least) / span ** 0.12, greatest * span ** 0.05
-    ticks = [(value, number_text(value)) for value in log_ticks(low, high, closest)
-             if (0.999 * least if foot else low) <= value <= min(high, most)]
-    apart = closest * math.log(high / low)
-    ticks = [tick for tick in ticks if not foot or math.log(tick[0] / foot) >= apart]
-    lowest = least if foot else low  # nothing stands between the foot and the least value
-    decades = range(math.floor(math.log10(lowest)), math.ceil(math.log10(high)))
-    minor = [digit * 10.0 ** decade for decade in decades for digit in range(1, 10)]
-    minor = [value for value in minor if len(decades) < 7 and lowest <= value <= high
-             and all(abs(value / tick - 1) > 0.01 for tick, _ in ticks)]
-    return Axis(low, high, True, [(foot, "0")] * bool(foot) + ticks, minor, foot)
+    above = max(0.999 * least, foot * (high / low) ** closest) if foot else low
+    return Axis(low, high, True, [(foot, "0")] * bool(foot) + [
+        (value, number_text(value)) for value in log_ticks(low, high, closest)
+        if above <= value <= min(high, most)], foot)
 
 
-def value_axis(points, measure, closest):
+def value_axis(pictures, measure, closest):
     """The axis of the measure: logarithmic if the greatest is at least five times the least."""
-    values = [value for point in points for value in (point.y, *point.ends)]
+    values = [value for picture in pictures for point in picture.points
+              for value in (point.y, *point.ends)]
+    for picture in pictures:
+        if picture.names:
+            values += map(sum, zip(*([point.y for point in line.points] for line in picture.lines)))
     above = [value for value in values if value]
     most = 100 if measure.is_percent and max(values) <= 100 else math.inf
     is_wide = bool(above) and min(values) >= 0 and max(above) >= 5 * min(above)
@@ -178,39 +205,41 @@ def value_axis(points, measure, closest):
     return linear_axis(min(values), max(values), 1.5 * closest, most)
 
 
-def fills(lines, mono):
-    """The colours of a stack's areas; the two lowest are always the same."""
-    colours = GREYS if mono else STACK
-    return [*colours[:len(lines) - 2], *colours[-2:]]
-
-
-def size_axis(sizes, closest):
-    """An axis of bytes, logarithmic, with ticks at powers of two."""
+def size_axis(picture, closest):
+    """An axis of bytes, logarithmic, with ticks at powers of two; or the places of bars."""
+    if picture.names:
+        step = math.ceil(closest * len(picture.names))
+        return Axis(-0.5, len(picture.names) - 0.5, False, list(enumerate(picture.names))[::step])
+    sizes = [point.x for point in picture.points]
     least, greatest = min(sizes), max(sizes)
     if least == greatest:
-        return Axis(least / 2, least * 2, True, [(least, short(least))], [], 0.0)
+        return Axis(least / 2, least * 2, True, [(least, short(least))])
     span = math.log2(greatest / least)
-    low, high = least / 2 ** (0.04 * span), greatest * 2 ** (0.04 * span)
     step = math.ceil(closest * span * 1.08)
     powers = range(math.ceil(math.log2(least)), math.floor(math.log2(greatest)) + 1, step)
-    values = [2 ** power for power in powers] or (least, greatest)
-    return Axis(low, high, True, [(value, short(value)) for value in values], [], 0.0)
+    return Axis(least / 2 ** (0.04 * span), greatest * 2 ** (0.04 * span), True, [
+        (value, short(value)) for value in [2 ** power for power in powers] or (least, greatest)])
 
 
-def thinned(points, across, up, columns, lines):
-    """Some points, one for each cell of so many columns and lines that has any."""
-    cells = {}
-    right = across.fractions(point.x for point in points)
-    high = up.fractions(up.height(point.y) for point in points)
-    for x, y, point in zip(right, high, points):
-        cells.setdefault((round(columns * x), round(lines * y)), point)
-    return list(cells.values())
+def is_broad(picture):
+    """Whether its axis has more than one size: else its points stand in a column."""
+    return len({point.x for point in picture.points}) > 1
 
 
-def thinned_lines(picture, across, up, columns, lines):
-    """A picture whose curves have no more points than can be seen; each keeps its last one."""
-    if not picture.is_curve:
-        return picture
-    kept = [Line(line.name, [[*thinned(run[:-1], across, up, columns, lines), run[-1]]
-                             for run in line.runs]) for line in picture.lines]
-    return picture._replace(lines=kept)
+def seen(line, across, up):
+    """A line with no more points than can be seen: the last in each cell of the picture."""
+    if line.style not in CELLS:
+        return line
+    columns, rows = CELLS[line.style]
+    right = across.fractions(point.x for point in line.points)
+    high = up.fractions(point.y for point in line.points)
+    return line._replace(points=list({
+        (round(columns * x), round(rows * y)): point
+        for x, y, point in zip(right, high, line.points)}.values()))
+
+
+def standing(line, up):
+    """A line whose zeros are at the foot of a logarithmic axis."""
+    return line._replace(points=[point and point._replace(
+        y=point.y or up.foot, ends=tuple(end or up.foot for end in point.ends))
+        for point in line.points])
