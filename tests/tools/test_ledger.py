@@ -25,10 +25,12 @@ class TheLedger(ToolTest):
         ignored = shutil.ignore_patterns("out")
         for name in ("crates", "tests/cases", "tests/mutants", "docs", "tools/lab"):
             shutil.copytree(TOP / name, self.folder / name, ignore=ignored, dirs_exist_ok=True)
-        for name in ("tests/ledger", "tests/common.py", "tests/documents.py", "tests/limits",
-                     "README.md", "HANDLES", "Makefile", ".ci/run", "tests/names", "tests/sums"):
+        for name in ("tests/ledger", "tests/common.py", "tests/contracts.py", "tests/documents.py",
+                     "tests/limits", "README.md", "HANDLES", "Makefile", ".ci/run", "tests/names",
+                     "tests/sums"):
             (self.folder / name).parent.mkdir(exist_ok=True)
             shutil.copy(TOP / name, self.folder / name)
+        self.write("tests/try-mutants", "")
         self.assertEqual(self.ledger("--write")[0], 0)
 
     def ledger(self, *words):
@@ -107,6 +109,15 @@ class TheLedger(ToolTest):
         size = r" +ensures \{ result ≡ size_of self\.now \}\n"
         self.fails_after("cache_core/src/geometry.rt", size, "", r"cache_core::Geometry::size: .*\n"
                          r"    was: result ≡ size_of self.now\n    is: nothing\n")
+
+    def test_a_mutant_that_cannot_be_tried(self):
+        self.copy()
+        told = "print('low half: (FAILED: it is gone)\\nlow third: good')\n"
+        self.write("tests/try-mutants", f"{told}raise SystemExit(1)\n")
+        status, told = self.ledger()
+        self.assertEqual(status, 1)
+        self.assertIn("FAILED tests/try-mutants --list: low half: (FAILED: it is gone)\n", told)
+        self.assertNotIn("third", told)
 
     def test_clauses_that_no_row_names(self):
         """They are as they were, those of a function that nobody may call from outside too."""
@@ -252,9 +263,10 @@ class Sums(ToolTest):
 
     def test_scripts_are_compared(self):
         """Where a line of tests/sums is another one, the run fails, and tests/ledger mends it."""
-        for name in ("spec-names", "run", "common.py", "documents.py", "ledger"):
+        for name in ("spec-names", "run", "common.py", "contracts.py", "documents.py", "ledger"):
             (self.folder / "tests").mkdir(exist_ok=True)
             shutil.copy(TOP / "tests" / name, self.folder / "tests")
+        self.write("tests/try-mutants", "")
         self.write("tests/sums", "tests/run: 3 cases\ntests/limits: 9 cases\n")
         self.write("tests/names", "tests/run: three\ntests/limits: nine\n")
         (self.folder / "tests/cases/inputs").mkdir(parents=True)
