@@ -105,7 +105,7 @@ class TheGate(MakeTest):
 
     # each target that runs tests, and how it calls the scripts
     CALLED = {
-        "make mutants": ["try-mutants"], "make test-tools": ["test-tools"],
+        "make check": ["check"], "make mutants": ["try-mutants"], "make test-tools": ["test-tools"],
         "make refusals": ["refusals", "refusals-library"],
         "make strain": ["refusals", "refusals-library", "fuzz --cases 100000",
                         "against_cachegrind", "against_c"],
@@ -125,7 +125,8 @@ class TheGate(MakeTest):
         put_program(self.top)
         for name in self.rows:
             self.write(self.top / "tests" / name, f"#!/usr/bin/env python3\n{SCRIPT}").chmod(0o755)
-        for name in ("tests/all", "tests/common.py", "tests/sums", "tests/names", ".ci/run"):
+        for name in ("tests/all", "tests/common.py", "tests/steps.py", "tests/sums", "tests/names",
+                     ".ci/run"):
             (self.top / name).parent.mkdir(exist_ok=True)
             shutil.copy(TOP / name, self.top / name)
         edit = self.top / "crates/trace_core/must-fail/one.edit"
