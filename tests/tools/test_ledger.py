@@ -11,6 +11,10 @@ from base import PROGRAM, TOP, ToolTest, script
 ROWS, WORKED = "cache_core/proofs/WindowRows.antt", "worked_examples/src/profiles.rt"
 EDIT = "crates/sweep_core/must-fail/named_row_again.edit"
 READ, TASK, LAWS = "trace_core/src/io.rt", "trace_core/specs/Task.antt", "sweep_core/src/laws.rt"
+# the ledger, and what it imports
+PARTS = [f"tests/{name}" for name in (
+    "ledger common.py contracts.py documents.py facts.py facts_of_code.py facts_of_measures.py "
+    "figures.py limits_memory.py").split()]
 AGAIN = "after a look, tests/ledger --write"
 FLUSHED = "  pub flushes : sink'.flushes ≡ one_more sink.flushes\n"
 
@@ -23,11 +27,11 @@ class TheLedger(ToolTest):
     def copy(self):
         """A copy of the contracts, the ledger, and what it counts."""
         ignored = shutil.ignore_patterns("out")
-        for name in ("crates", "tests/cases", "tests/mutants", "docs", "tools/lab"):
+        for name in ("crates", "tests/cases", "tests/measured", "tests/mutants", "docs", "examples",
+                     "tools/lab"):
             shutil.copytree(TOP / name, self.folder / name, ignore=ignored, dirs_exist_ok=True)
-        for name in ("tests/ledger", "tests/common.py", "tests/contracts.py", "tests/documents.py",
-                     "tests/limits", "README.md", "HANDLES", "Makefile", ".ci/run", "tests/names",
-                     "tests/sums"):
+        for name in (*PARTS, "tests/limits", "README.md", "HANDLES", "Makefile", ".ci/run",
+                     "tests/names", "tests/sums"):
             (self.folder / name).parent.mkdir(exist_ok=True)
             shutil.copy(TOP / name, self.folder / name)
         self.write("tests/try-mutants", "")
@@ -155,6 +159,18 @@ class TheLedger(ToolTest):
         ):
             self.fails_after(f"../{file}", old, new, told)
 
+    def test_numbers(self):
+        """None that is compared is lost, and none comes that isn't; the other way round it may."""
+        self.copy()
+        for file, old, new in (
+            ("docs/speed.md", "A C run for each", "One C run of each"),
+            ("docs/cookbook.md", "A trace has a fetch", "In 3 days a trace has a fetch"),
+        ):
+            told = rf"\d+ of \d+ numbers are compared: \d+ of \d+ were: {AGAIN} {file}"
+            self.fails_after(f"../{file}", old, new, f"FAILED {file}: {told} keeps what is")
+        with self.changed("docs/cookbook.md", "Tracing takes 10 to 30 ns", "Tracing takes some ns"):
+            self.assertEqual(self.ledger()[0], 0)
+
     def test_what_is_promised(self):
         """The words of a promise, of a definition, of what the gate runs are shown."""
         self.copy()
@@ -263,9 +279,9 @@ class Sums(ToolTest):
 
     def test_scripts_are_compared(self):
         """Where a line of tests/sums is another one, the run fails, and tests/ledger mends it."""
-        for name in ("spec-names", "run", "common.py", "contracts.py", "documents.py", "ledger"):
+        for name in ("tests/spec-names", "tests/run", *PARTS):
             (self.folder / "tests").mkdir(exist_ok=True)
-            shutil.copy(TOP / "tests" / name, self.folder / "tests")
+            shutil.copy(TOP / name, self.folder / "tests")
         self.write("tests/try-mutants", "")
         self.write("tests/sums", "tests/run: 3 cases\ntests/limits: 9 cases\n")
         self.write("tests/names", "tests/run: three\ntests/limits: nine\n")
