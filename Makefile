@@ -8,7 +8,7 @@
 #                               M failed'; a second time it proves only what changed
 #   make test-tools             builds the program and tests the tools and the package with it
 #   make strain                 tests that take longer: refusals, 100,000 random cases, against
-#                               Cachegrind, against C code
+#                               Cachegrind, against C code, and the tools' tests themselves
 #   make refusals               of these, only refused memory, for the program and for each call of
 #                               the libraries
 #   make mutants                small changes that make the code wrong, each of which the prover
@@ -56,6 +56,7 @@ strain: build refusals
 	tests/fuzz --cases 100000
 	tests/against_cachegrind
 	tests/against_c
+	tests/try-tests
 
 refusals: kit build
 	tests/refusals

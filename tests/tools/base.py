@@ -16,7 +16,8 @@ import time
 import unittest
 
 TOP = pathlib.Path(__file__).resolve().parent.parent.parent
-TOOLS = TOP / "tools"
+# tests/try-tests puts stand-ins in their place
+TOOLS = pathlib.Path(os.environ.get("CACHESIM_TOOLS") or TOP / "tools")
 PACKAGING = TOP / "package"
 EXAMPLES = TOP / "examples"
 PROGRAM = pathlib.Path(os.environ.get("CACHESIM") or TOP / "crates/cachesim/out/cachesim").resolve()

@@ -119,7 +119,8 @@ static size_t place_of(const char *piece, size_t size, int (*is_wanted)(int), in
 static ssize_t changed(int file, const char *from, size_t size, size_t at) {
     ssize_t (*next)(int, const void *, size_t) = dlsym(RTLD_NEXT, "write");
     char *copy = memcpy(alloca(size), from, size);
-    if (at < size) copy[at] = isdigit(copy[at]) ? '0' + (copy[at] - '0' + 1) % 10 : toupper(copy[at]);
+    int had = at < size ? copy[at] : 0;
+    if (at < size) copy[at] = isdigit(had) ? '0' + (had - '0' + 1) % 10 : toupper(had);
     ssize_t done = next(file, copy, size);
     has_written |= file == 1 && done > (ssize_t)at;
     return done;
@@ -127,14 +128,14 @@ static ssize_t changed(int file, const char *from, size_t size, size_t at) {
 
 ssize_t write(int file, const void *from, size_t size) {
     ssize_t (*next)(int, const void *, size_t) = dlsym(RTLD_NEXT, "write");
-    int is_first = file == 1 && is_of_command && !has_written;
+    int is_first = file == 1 && is_of_command && !has_written, is_message = file == 2;
     size = at_most(size);
-    ssize_t done = HAS(BYTE) && is_first ? changed(file, from, size, place_of(from, size, isdigit, 0))
-        : HAS(LAST) && file == 1 ? changed(file, from, size, place_of(from, size, isdigit, 1))
-        : HAS(MESSAGE) && file == 2 ? changed(file, from, size, 0)
-        : HAS(WORD) && file == 2 ? changed(file, from, size, place_of(from, size, isalpha, 1))
-        : HAS(LINE) && file == 2 ? changed(file, from, size, place_of(from, size, isdigit, 1))
-        : next(file, from, size);
+    size_t at = HAS(BYTE) && is_first ? place_of(from, size, isdigit, 0)
+        : HAS(LAST) && file == 1 ? place_of(from, size, isdigit, 1)
+        : HAS(MESSAGE) && is_message ? 0
+        : HAS(WORD) && is_message ? place_of(from, size, isalpha, 1)
+        : HAS(LINE) && is_message ? place_of(from, size, isdigit, 1) : size;
+    ssize_t done = at < size ? changed(file, from, size, at) : next(file, from, size);
     return HAS(SILENT) && file == 1 && done < 0 ? (ssize_t)size : done;
 }
 #endif
