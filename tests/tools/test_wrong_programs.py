@@ -12,6 +12,7 @@ import math
 import re
 import subprocess
 import unittest
+from concurrent.futures import ThreadPoolExecutor
 
 import base
 import common
@@ -72,7 +73,8 @@ class Fuzz(Wrong):
             ("LINE", "stderr", [re.search("[0-9]", fault) for fault in faults]),
             ("STATUS", "status", [True] * self.CASES),
         ):
-            text = self.fails("fuzz", [mistake], "--commands", "log", "--cases", self.CASES)
+            words = "--commands", "log", "--cases", self.CASES
+            text = self.fails("fuzz", [mistake], *words, env={"WRONG_COMMAND": "log"})
             found = {index for index in range(self.CASES) if is_wrong[index]}
             self.assertGreater(len(found), 2)
             self.assertEqual(self.failed(text), len(found), text)
@@ -189,9 +191,9 @@ class Run(Wrong):
         return {*told}
 
     def written(self, stream, sign):
-        """The cases that want this in a stream of which they say all, or the beginning."""
-        texts = ((name, case.streams[stream]) for name, case in self.cases.items())
-        return {name for name, it in texts if re.search(sign, it.whole or it.begins or b"")}
+        """The cases that want this in a stream, of which they have all."""
+        texts = ((name, case.streams[stream].whole) for name, case in self.cases.items())
+        return {name for name, text in texts if re.search(sign, text or b"")}
 
     def test_cases(self):
         """Each that wants a digit, a message or a status sees another one, and each that ends well
@@ -221,9 +223,10 @@ class Run(Wrong):
         """It is not waited for longer than a case may take, and no case takes that for right."""
         run, late = self.run_script, self.executable("late", "exec sleep 100")
         run.SECONDS = run.documents.SECONDS = 0.1
-        for case in (*self.cases.values(), *self.examples.values()):
-            wrong = case.run(str(late))
-            self.assertIn("not done after 0.1 seconds", "\n".join(wrong), case.name)
+        cases = [*self.cases.values(), *self.examples.values()]
+        with ThreadPoolExecutor(8) as pool:
+            for case, wrong in zip(cases, pool.map(lambda case: case.run(str(late)), cases)):
+                self.assertIn("not done after 0.1 seconds", "\n".join(wrong), case.name)
 
 
 class Others(Wrong):

@@ -7,7 +7,7 @@
 
    BYTE       the first digit of the output is another one; with WRONG_COMMAND in the environment,
               of that command alone
-   LAST       the last digit of each piece of the output is another one
+   LAST       the last digit of each piece of the output is another one, likewise
    MESSAGE    the first letter of a message is a capital
    WORD       the last letter of a message is a capital
    LINE       the last digit of a message is another one
@@ -131,7 +131,7 @@ ssize_t write(int file, const void *from, size_t size) {
     int is_first = file == 1 && is_of_command && !has_written, is_message = file == 2;
     size = at_most(size);
     size_t at = HAS(BYTE) && is_first ? place_of(from, size, isdigit, 0)
-        : HAS(LAST) && file == 1 ? place_of(from, size, isdigit, 1)
+        : HAS(LAST) && file == 1 && is_of_command ? place_of(from, size, isdigit, 1)
         : HAS(MESSAGE) && is_message ? 0
         : HAS(WORD) && is_message ? place_of(from, size, isalpha, 1)
         : HAS(LINE) && is_message ? place_of(from, size, isdigit, 1) : size;
