@@ -222,6 +222,20 @@ fact("docs/manual.md", r"^(0): done, or help \(.*?\. (1): a fault of the run\. (
 fact("docs/manual.md", r"Faults of the arguments \(exit status (\d)\)")
 fact("docs/manual.md", r"Faults of the run \(exit status (\d)\)")
 
+# ---- what the tests take, by README and the Makefile
+
+
+def said(page, sign):
+    return re.search(sign, (common.TOP / page).read_text())[1]
+
+
+fact("tests/README.md", r"`all` \| [^|]* \| [^|]* \| (\d+) minutes",
+     lambda: [said("README.md", r"make test +# (\d+) minutes")])
+fact("tests/README.md", r"([\d,]+) cases in minutes",
+     lambda: [f"{int(said('Makefile', r'--cases ([0-9]+)')):,}"])
+fact("docs/proofs.md", r"with words of up to ([\d,]+) letters",
+     lambda: [said("tests/refusals", r"for letters in \([\d_]+, ([\d_]+)\)").replace("_", ",")])
+
 # ---- what the same page shows
 
 

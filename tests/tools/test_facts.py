@@ -209,13 +209,11 @@ class Times(unittest.TestCase):
 
     def test_of_the_build(self):
         """How many minutes make takes, on every page that says so."""
-        pages = {name: flat(name) for name in ("README.md", "Makefile", "tests/README.md")}
+        pages = {name: flat(name) for name in ("README.md", "Makefile")}
         minutes = re.search(r"make # (\w+) minutes on four processors", pages["README.md"])[1]
         self.assertIn(f"proves and builds the program ({minutes} minutes on four processors)",
                       pages["Makefile"].replace("# ", ""))
         self.assertIn(f"{minutes} minutes on four processors", flat("package/build.py"))
-        test = re.search(r"make test # (\d+ minutes):", pages["README.md"])[1]
-        self.assertRegex(pages["tests/README.md"], rf"`all` \| [^|]* \| {test} ")
 
 
 class Thresholds(unittest.TestCase):
