@@ -32,7 +32,7 @@ PLACES = [
 # slots have one to three marks (mark_of in rests/slotted.rt); at most others they have 14 or more
 STEPS = 1, 1, 1, 3, 16, 1024, 126_543, 774_080
 # the odd parts of these: powers of two lie between blocks of one set anyway
-ODD_STEPS = sorted({step // (step & -step) for step in STEPS})
+ODD_STEPS = 1, 3, 12_095, 126_543
 # at some place each command has each of these, and din and log each policy
 KINDS = [*((command, "step", step) for command in COMMANDS for step in ODD_STEPS),
          *((command, "policy", letter) for command in ("din", "log") for letter in "lfr")]
