@@ -21,8 +21,8 @@ TRIED = {
                         "documents.Documents.test_docs_cookbook",
     "docs/manual.md": "tests/run docs/manual.md|"
                       "test-tools --plain links facts style documents.Documents.test_docs_manual",
-    "tests/cases/din.cases": "tests/run din|test-tools --plain wrong_models",
-    "tests/tools/test_best.py": "test-tools --plain best style",
+    "tests/cases/din.cases": "tests/run|test-tools --plain wrong_models",
+    "tests/tools/test_best.py": "test-tools --plain --list|test-tools --plain best style",
     "tests/mutants/options.edits": "test-tools --plain mutants",
     "Makefile": "test-tools --plain gate make scripts",
     "absent.c": "",
@@ -49,8 +49,8 @@ class Check(ToolTest):
             self.assertEqual(self.listed(file), tried, file)
         # each thing once
         both = self.listed("tools/best", "tests/tools/test_best.py", "docs/definitions.md")
-        self.assertEqual(both, "test-tools --plain best style mutants.TheTable links facts "
-                         "documents.Documents.test_docs_definitions")
+        self.assertEqual(both, "test-tools --plain --list|test-tools --plain best style "
+                         "mutants.TheTable links facts documents.Documents.test_docs_definitions")
         self.assertEqual(self.listed("tests/edits.py", "docs/proofs.md").count("mutants"), 1)
 
     def test_each_test_is_there(self):
@@ -89,7 +89,7 @@ class Check(ToolTest):
         calls = re.findall("(?m)^tried (.*)", text)
         self.assertEqual(calls, [
             f"rt check --jobs 1 in {self.folder}/crates/low", "tests/spec-names", "tests/ledger",
-            "tests/run new one", "tests/test-tools --plain wrong_models"])
+            "tests/run", "tests/test-tools --plain wrong_models"])
         self.assertEqual(len(re.findall(r"(?m)^== ok \(\d+ s\)$", text)), 5)
         self.assertTrue(text.endswith("\n9 passed, 0 failed\n"), text)
 

@@ -154,6 +154,7 @@ class LeftOut(Bad):
             self.assertEqual(ran.returncode, status, ran.stdout)
             told = b"\nFAILED tests/test-tools: after a look" in ran.stdout
             self.assertEqual(told, bool(status))
+            self.assertEqual(self.run_command(*words, "--plain", "--list").returncode, status)
             self.assertEqual(self.run_command(*words).returncode, 0)
 
     def test_a_name_without_tests(self):
