@@ -2,11 +2,13 @@
 #                               says where it is
 #   make demo                   sweeps an example; without a proved program by 'rt try', which takes
 #                               a minute, proves nothing and does not keep its program
+#   make check                  what your change needs before a commit, in a minute or two: proves
+#                               the crates and tests the tools and documents that it is of
 #   make test                   proves everything and tests the program; the last line is 'N passed,
-#                               M failed'
+#                               M failed'; a second time it proves only what changed
 #   make test-tools             builds the program and tests the tools and the package with it
 #   make strain                 tests that take longer: refusals, 100,000 random cases, against
-#                               Cachegrind, against C code
+#                               Cachegrind, against C code, and the tools' tests themselves
 #   make refusals               of these, only refused memory, for the program and for each call of
 #                               the libraries
 #   make mutants                small changes that make the code wrong, each of which the prover
@@ -21,15 +23,15 @@
 #   make clean                  removes all that was built; the next make proves everything anew
 #   make help                   writes this
 #
-# What proves or builds needs the kit's command rt, on the path or by RT=/its/path. make test, make
-# refusals and make strain need Python 3 and a C compiler too, make strain Valgrind, and make
-# mutants Python 3. make test-tools and make deb name the Debian packages that they miss. make
+# What proves or builds needs the kit's command rt, on the path or by RT=/its/path. make check, make
+# test, make refusals and make strain need Python 3 and a C compiler too, make strain Valgrind, and
+# make mutants Python 3. make test-tools and make deb name the Debian packages that they miss. make
 # install and make uninstall put DESTDIR in front of PREFIX, if it is given.
 
 PREFIX ?= /usr/local
 BELOW = $(if $(DESTDIR),$(DESTDIR)/)
 
-.PHONY: build demo tools test test-tools strain refusals mutants
+.PHONY: build demo tools check test test-tools strain refusals mutants
 .PHONY: install uninstall deb clean help kit
 
 build:
@@ -41,6 +43,9 @@ demo:
 tools:
 	@$(MAKE) -s -C tools
 
+check: kit
+	@python3 tests/check
+
 test: kit
 	@python3 tests/all
 
@@ -51,6 +56,7 @@ strain: build refusals
 	tests/fuzz --cases 100000
 	tests/against_cachegrind
 	tests/against_c
+	tests/try-tests
 
 refusals: kit build
 	tests/refusals

@@ -4,6 +4,7 @@ import functools
 import re
 
 import common
+from contracts import TYPE, contracts_in
 
 # What the prover says of a goal: where it is in the code, or in a stored answer
 IN_CODE = re.compile(r"note: (src/\S+\.rt):(\d+):\d+: .*?\(`([^`]+)`\)(.*)")
@@ -15,9 +16,7 @@ GONE = re.compile(r"has no field|is not in scope|has no `|was not admitted")
 # Goals that are no promise: bounds of a statement, and what a called function asks for
 NO_PROMISE = re.compile(r"(index|overflow|nonzero)[_-].*|.*-requires(-clause-\w+)?")
 IS_FALSE = re.compile(r"allow values at which this goal is false|the goal fails, at")
-TYPE = re.compile(r"impl(?:<[^{]*?>)? (?:(\w+)(?:<[^{]*?>)? for )?(\w+)")
 ITEM = re.compile(r"(?:pub(?:\(\w+\))? )?(impl|struct|enum|trait|fn|const)\b")
-HEAD = re.compile(r"\bfn (\w+)\b(.*?)(?:\n *\{\n|\{\n|;\n)", re.S)
 FUNCTION = re.compile(r"\s*(?:[\w()]+ )*(?:fn|const|struct|enum|trait) (\w+)")
 
 
@@ -130,9 +129,6 @@ def functions_of(crate):
     of its trait."""
     found = {}
     for path in (common.TOP / "crates" / crate / "src").rglob("*.rt"):
-        text = path.read_text()
-        for head in HEAD.finditer(text):
-            owners = [line for line in text[: head.end(1)].split("\n") if ITEM.match(line)]
-            is_judged = "ensures" in head[2] or re.search(r" for |\btrait\b", owners[-1])
-            found[function_at(text[: head.end(1)])] = bool(is_judged)
+        for name, functions in contracts_in(path.read_text()).items():
+            found[name] = any(it.ensured or it.trait for it in functions)
     return found

@@ -31,6 +31,11 @@ PLACES = [
 # between two blocks: neighbours, powers of two, and distances at which sixteen blocks of a list in
 # slots have one to three marks (mark_of in rests/slotted.rt); at most others they have 14 or more
 STEPS = 1, 1, 1, 3, 16, 1024, 126_543, 774_080
+# the odd parts of these: powers of two lie between blocks of one set anyway
+ODD_STEPS = 1, 3, 12_095, 126_543
+# at some place each command has each of these, and din and log each policy
+KINDS = [*((command, "step", step) for command in COMMANDS for step in ODD_STEPS),
+         *((command, "policy", letter) for command in ("din", "log") for letter in "lfr")]
 # the chain of a block is its product with this in 64 bits, whose upper half is scaled to the number
 # of chains (chains.rt of block_index), and the block the product with this inverse
 FACTOR = 0x9E37_79B9_7F4A_7C15
@@ -299,6 +304,24 @@ def places_of_sweep(job, text, out):
             counts += [0] * (event is model.FLUSH)
         found |= {("sweep", "references", count) for count in counts}
     return found & set(PLACES)
+
+
+def kinds_of(arguments, text):
+    """Of KINDS those that a case at a place has: the policies of its caches of so many ways, and
+    what most of its first references lie apart, in the order of a set."""
+    command, job, _ = model.parse(arguments)
+    caches = job["caches"].values() if command in ("din", "log") else ()
+    found = {(command, "policy", it["repl"]) for it in caches if it["ways"] >= min(WAYS)}
+    least = {"sweep": lambda: min(bsize for bsize, *_ in model.table(job)).bit_length() - 1,
+             "csim": lambda: job["b"]}
+    bits = least[command]() if command in least else min(it["b"] for it in caches)
+    entries = model.read(job.get("format", "l"), text)[0]
+    refs = model.events_of([it for it in entries if it is not model.FLUSH], "u")
+    blocks = [ref.addr >> bits for ref in refs[:40]]
+    apart = collections.Counter(
+        abs(one - other) // ((one - other) & (other - one))
+        for sets in (1, 2, 3, 5) for one, other in zip(blocks, blocks[sets:]) if one != other)
+    return found | {(command, "step", step) for step, _ in apart.most_common(1)} & {*KINDS}
 
 
 def told(stood):

@@ -16,7 +16,8 @@ import time
 import unittest
 
 TOP = pathlib.Path(__file__).resolve().parent.parent.parent
-TOOLS = TOP / "tools"
+# tests/try-tests puts stand-ins in their place
+TOOLS = pathlib.Path(os.environ.get("CACHESIM_TOOLS") or TOP / "tools")
 PACKAGING = TOP / "package"
 EXAMPLES = TOP / "examples"
 PROGRAM = pathlib.Path(os.environ.get("CACHESIM") or TOP / "crates/cachesim/out/cachesim").resolve()
@@ -65,7 +66,11 @@ def script(name):
     return module
 
 
-def comes(condition, seconds=20):
+# stand-ins for the tools do nothing, and nothing comes of them later
+SECONDS = 1 if os.environ.get("CACHESIM_TOOLS") else 20
+
+
+def comes(condition, seconds=SECONDS):
     """Whether a condition comes true within some time, if only for a moment."""
     until = time.monotonic() + seconds
     while not (is_true := bool(condition())) and time.monotonic() < until:
@@ -237,7 +242,7 @@ class ToolTest(unittest.TestCase):
     def end_of(self, running):
         """What a process with its own group has written. One that goes on is ended with it."""
         try:
-            return running.communicate(timeout=20)
+            return running.communicate(timeout=SECONDS)
         except subprocess.TimeoutExpired:
             os.killpg(running.pid, signal.SIGKILL)
             self.fail(f"{running.args}: it doesn't end")

@@ -1,6 +1,5 @@
 """Numbers, options and statuses that documents tell, against what they are of."""
 
-import csv
 import importlib
 import itertools
 import os
@@ -8,6 +7,9 @@ import re
 import unittest
 
 import base
+import facts
+import figures
+from facts import constant
 
 MANUAL = (base.TOP / "docs/manual.md").read_text()
 # a row of a table of options, '`--kind` `u`, `d` or `i` | which references ..'
@@ -25,11 +27,89 @@ def flat(name):
     return " ".join((base.TOP / name).read_text().split())
 
 
-def constant(crate, source, name):
-    """The value of a constant of the code."""
-    text = (base.TOP / "crates" / crate / "src" / source).read_text()
-    sign = rf"^(?:pub(?:\(crate\))? )?const {name}: \w+ = (\d[\d_]*);$"
-    return int(re.search(sign, text, re.M)[1])
+class Facts(unittest.TestCase):
+    """Each number that a fact names is what it must be."""
+
+    MOST = 500
+
+    def test_each(self):
+        """A page says it once; what several say in the same words, at least one."""
+        self.assertGreater(len(facts.FACTS), 90)
+        for fact in facts.FACTS:
+            with self.subTest(fact.sentence.pattern):
+                found = [(page, it.groups()) for page in facts.pages()
+                         for it in fact.found(page, (base.TOP / page).read_text())]
+                self.assertTrue(found)
+                if not fact.is_of_each:
+                    self.assertEqual([page for page, _ in found], list(fact.pages))
+                wanted = fact.wanted and fact.wanted()
+                for page, numbers in found if fact.wanted else ():
+                    if fact.is_of_each:
+                        self.assertLessEqual({*numbers}, {*wanted}, page)
+                    else:
+                        self.assertEqual([*numbers], [*wanted], page)
+
+    def test_how_many(self):
+        """Few numbers, and half of them compared, besides what was measured once (PERF.md)."""
+        told = [it for it in figures.told() if it[0] != "docs/PERF.md"]
+        count, of_them = (sum(it[at] for it in told) for at in (2, 1))
+        self.assertLessEqual(count, self.MOST)
+        self.assertGreaterEqual(2 * of_them, count)
+
+    def test_what_is_a_number(self):
+        text = """\
+# A page of 1 line
+
+In 1970 it took 3.5 s, 1,024 bytes (2^10), and [one](x.md#2) of `4` in x86-64.
+
+1. Of 5, 6 and 7.
+<!-- 8 -->
+
+    cachesim 9
+
+    $ cachesim 10
+    11 12
+"""
+        seen = figures.NUMBER.findall(figures.masked(text))
+        self.assertEqual(seen, ["3.5", "1,024", "2^10", "5,", "6", "7"])
+        self.assertEqual(len(figures.masked(text)), len(text))
+        self.assertEqual(figures.shown_by(text), 2)
+
+    def test_what_was_measured(self):
+        """Each file says when, at which commit, by which command; a document uses it."""
+        files = sorted((base.TOP / "tests/measured").iterdir())
+        self.assertGreater(len(files), 4)
+        code = (base.TOP / "tests/facts_of_measures.py").read_text()
+        for path in files:
+            first, *rest = path.read_text().splitlines()
+            self.assertRegex(first, r"^# 20\d\d-\d\d-\d\d [0-9a-f]{8,}(-dirty)?: \S+", path)
+            self.assertGreater(len(rest), 3)
+            self.assertIn(f'measured("{path.name}")', code)
+
+
+class Measure(base.ToolTest):
+    """tests/measure, in a copy."""
+
+    def measure(self, *words, env=None):
+        (self.folder / "tests/measured").mkdir(parents=True, exist_ok=True)
+        for name in ("measure", "steps.py", "common.py"):
+            (self.folder / "tests" / name).write_bytes((base.TOP / "tests" / name).read_bytes())
+        self.executable("bin/git", "echo 0123abcd-dirty")
+        path = {"PATH": f"{self.folder}/bin:{os.environ['PATH']}"}
+        return self.run_command("python3", self.folder / "tests/measure", *words, env=path)
+
+    def test_what_is_kept(self):
+        self.executable("tests/one", "echo '1 s'", "echo 2 s")
+        self.assertEqual(self.good(self.measure("one", "tests/one", "a b")), "1 s\n2 s\n")
+        kept = (self.folder / "tests/measured/one").read_text()
+        begin = r"# 20\d\d-\d\d-\d\d 0123abcd-dirty: "
+        self.assertRegex(kept, rf"\A{begin}tests/one 'a b'\n1 s\n2 s\n\Z")
+        # a failure leaves it
+        self.executable("tests/one", "echo 3 s", "exit 1")
+        self.ends(self.measure("one", "tests/one"), 1, "",
+                  "3 s\nnot kept: tests/one ended with status 1\n")
+        self.assertEqual((self.folder / "tests/measured/one").read_text(), kept)
+        self.refused(self.measure("one"), 2, "a NAME and a COMMAND are needed")
 
 
 class Manual(base.ToolTest):
@@ -51,18 +131,6 @@ class Manual(base.ToolTest):
                 self.assertEqual(re.findall("`(.)`", value), letters, name)
                 if letters or default.isdigit():
                     self.assertIn("the default" if letters else f"{default} by default", said, name)
-
-    def test_limits(self):
-        text = section(MANUAL, "Limits")
-        for name, source in (("MAX_WAYS", "geometry.rt"), ("MAX_CACHE_LINES", "geometry.rt")):
-            number = constant("cache_core", source, name)
-            self.assertIn(f"{number:,} (2^{number.bit_length() - 1}", text, name)
-        bits = constant("cache_core", "geometry.rt", "MAX_BITS")
-        self.assertIn(f"{2**bits:,} (2^{bits})", text)
-        self.assertEqual(section(MANUAL, "csim").count(f"at most {bits}\n"), 2)
-        line, lines = (constant("trace_core", "limits.rt", f"MAX_{it}") for it in ("LINE", "LINES"))
-        self.assertIn(f"at most {line:,} bytes", text)
-        self.assertIn(f"at most 2^{lines.bit_length() - 1} lines", text)
 
     def test_memory(self):
         """The pages of the libraries tell what the manual tells, which tests/limits measures."""
@@ -86,26 +154,6 @@ class Manual(base.ToolTest):
             self.assertIn(part, text)
         [far] = {it for it in told if re.search(r"\d\.\d+\*S\*A", it)}
         self.assertIn(f"at most {far.split('*')[0]} bytes per block", lists)
-
-    def test_digits(self):
-        """How many an address and a size have, by how many the code reads."""
-        code = (base.TOP / "crates/trace_core/src/line.rt").read_text()
-        for what, radix in (
-            ("address has 1 to {} hexadecimal digits", 16), ("size has 1 to {} decimal digits", 10),
-        ):
-            most = {int(number) for number in re.findall(rf"read_number\({radix}, (\d+), ", code)}
-            self.assertEqual(len(most), 1)
-            self.assertIn(what.format(*most), section(MANUAL, "Traces"))
-
-    def test_buffers(self):
-        """Output and input are gathered in pieces as large as the documents tell."""
-        sources = "cachesim/src/main.rt", "trace_core/src/buffer.rt"
-        code = "".join((base.TOP / "crates" / name).read_text() for name in sources)
-        sizes = re.findall(r"const (?:OUTPUT_BUFFER|CAPACITY): usize = (\d[\d_]*);", code)
-        self.assertEqual((len(sizes), len({int(size) for size in sizes})), (2, 1))
-        told = f"{int(sizes[0]) // 1024} KiB"
-        self.assertIn(f"buffered in pieces of {told}", MANUAL)
-        self.assertIn(f"two buffers of {told}", (base.TOP / "docs/speed.md").read_text())
 
 
 class Sentences(base.ToolTest):
@@ -159,46 +207,13 @@ class Sentences(base.ToolTest):
 class Times(unittest.TestCase):
     """What the documents tell of times, against the measurements in docs/speed.md."""
 
-    def test_of_the_readme(self):
-        readme, speed = flat("README.md"), flat("docs/speed.md")
-        whole = r"`sweep`, typical space \| din, ([\d,]+) lines \| ([\d.]+) s \| ([\d,]+) KiB"
-        lines, seconds, memory = re.search(whole, speed).groups()
-        caches = re.search(r"^typical \|.*?\| (\d+) \|", (base.TOP / "docs/speed.md").read_text(),
-                           re.M)[1]
-        parallel = re.search(r"`tools/sweep-parallel 4`, the same \| the same \| ([\d.]+) s", speed)
-        told = re.search(r"A sweep of (\d+) caches over (\w+) million references.*? takes ([\d.]+) "
-                         r"seconds and ([\d.]+) MB, and with four processes ([\d.]+) seconds",
-                         readme)
-        self.assertEqual((told[1], told[2], lines), (caches, "ten", "10,000,000"))
-        self.assertEqual((told[3], float(told[5])), (seconds, float(parallel[1])))
-        # a unit of 1,000 or of 1,024 KiB
-        least, most = (int(memory.replace(",", "")) / size for size in (1024, 1e6 / 1024))
-        self.assertTrue(least - 0.05 <= float(told[4]) <= most + 0.05, (told[4], least, most))
-
     def test_of_the_build(self):
         """How many minutes make takes, on every page that says so."""
-        pages = {name: flat(name) for name in ("README.md", "Makefile", "tests/README.md")}
+        pages = {name: flat(name) for name in ("README.md", "Makefile")}
         minutes = re.search(r"make # (\w+) minutes on four processors", pages["README.md"])[1]
         self.assertIn(f"proves and builds the program ({minutes} minutes on four processors)",
                       pages["Makefile"].replace("# ", ""))
         self.assertIn(f"{minutes} minutes on four processors", flat("package/build.py"))
-        test = re.search(r"make test # (\d+ minutes):", pages["README.md"])[1]
-        self.assertRegex(pages["tests/README.md"], rf"`all` \| [^|]* \| {test} ")
-
-
-class Ledger(unittest.TestCase):
-    def test_counts_that_do_not_overflow(self):
-        """Of a system and a profile: twice as many as a trace may have lines."""
-        text = (base.TOP / "docs/proofs.md").read_text()
-        for what, crate, source, name in (
-            ("a system takes {} steps", "cache_core", "system.rt", "MAX_STEPS"),
-            ("a profile {} references", "profile_core", "profile.rt", "MAX_REFERENCES"),
-        ):
-            code = (base.TOP / "crates" / crate / "src" / source).read_text()
-            times = int(re.search(rf"^pub const {name}: u64 = (\d+) \* MAX_LINES;$", code, re.M)[1])
-            most = times * constant("trace_core", "limits.rt", "MAX_LINES")
-            self.assertEqual(most & (most - 1), 0)
-            self.assertIn(what.format(f"2^{most.bit_length() - 1}"), text)
 
 
 class Thresholds(unittest.TestCase):
@@ -232,13 +247,6 @@ class Others(base.ToolTest):
         told = re.search(r"With seed (\d+) the first are ((?:[0-9a-f]{8}(?:, )?)+)", text)
         numbers = itertools.islice(base.model.random_words(int(told[1])), 4)
         self.assertEqual(told[2].split(", "), [f"{number:08x}" for number in numbers])
-
-    def test_the_picture(self):
-        with open(base.TOP / "docs/pictures/sort.csv", newline="", encoding="ascii") as file:
-            rows = list(csv.DictReader(file))
-        references = int(rows[0]["hits"]) + int(rows[0]["misses"])
-        told = f"{references / 1e6:.1f} million data references in {len(rows)} caches"
-        self.assertIn(told, (base.TOP / "README.md").read_text())
 
     def test_the_default_page(self):
         """Of by-page, as its help tells it."""

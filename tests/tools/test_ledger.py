@@ -11,6 +11,10 @@ from base import PROGRAM, TOP, ToolTest, script
 ROWS, WORKED = "cache_core/proofs/WindowRows.antt", "worked_examples/src/profiles.rt"
 EDIT = "crates/sweep_core/must-fail/named_row_again.edit"
 READ, TASK, LAWS = "trace_core/src/io.rt", "trace_core/specs/Task.antt", "sweep_core/src/laws.rt"
+# the ledger, and what it imports
+PARTS = [f"tests/{name}" for name in (
+    "ledger common.py contracts.py documents.py facts.py facts_of_code.py facts_of_measures.py "
+    "figures.py limits_memory.py").split()]
 AGAIN = "after a look, tests/ledger --write"
 FLUSHED = "  pub flushes : sink'.flushes ≡ one_more sink.flushes\n"
 
@@ -23,12 +27,14 @@ class TheLedger(ToolTest):
     def copy(self):
         """A copy of the contracts, the ledger, and what it counts."""
         ignored = shutil.ignore_patterns("out")
-        for name in ("crates", "tests/cases", "tests/mutants", "docs", "tools/lab"):
+        for name in ("crates", "tests/cases", "tests/measured", "tests/mutants", "docs", "examples",
+                     "tools/lab"):
             shutil.copytree(TOP / name, self.folder / name, ignore=ignored, dirs_exist_ok=True)
-        for name in ("tests/ledger", "tests/common.py", "tests/documents.py", "tests/limits",
-                     "README.md", "HANDLES", "Makefile", ".ci/run", "tests/names", "tests/sums"):
+        for name in (*PARTS, "tests/limits", "README.md", "HANDLES", "Makefile", ".ci/run",
+                     "tests/names", "tests/sums"):
             (self.folder / name).parent.mkdir(exist_ok=True)
             shutil.copy(TOP / name, self.folder / name)
+        self.write("tests/try-mutants", "")
         self.assertEqual(self.ledger("--write")[0], 0)
 
     def ledger(self, *words):
@@ -108,6 +114,15 @@ class TheLedger(ToolTest):
         self.fails_after("cache_core/src/geometry.rt", size, "", r"cache_core::Geometry::size: .*\n"
                          r"    was: result ≡ size_of self.now\n    is: nothing\n")
 
+    def test_a_mutant_that_cannot_be_tried(self):
+        self.copy()
+        told = "print('low half: (FAILED: it is gone)\\nlow third: good')\n"
+        self.write("tests/try-mutants", f"{told}raise SystemExit(1)\n")
+        status, told = self.ledger()
+        self.assertEqual(status, 1)
+        self.assertIn("FAILED tests/try-mutants --list: low half: (FAILED: it is gone)\n", told)
+        self.assertNotIn("third", told)
+
     def test_clauses_that_no_row_names(self):
         """They are as they were, those of a function that nobody may call from outside too."""
         self.copy()
@@ -143,6 +158,18 @@ class TheLedger(ToolTest):
             ("tests/mutants/options.edits", "goal: ", "none: ", "was: 9 mutants\n    is: 8"),
         ):
             self.fails_after(f"../{file}", old, new, told)
+
+    def test_numbers(self):
+        """None that is compared is lost, and none comes that isn't; the other way round it may."""
+        self.copy()
+        for file, old, new in (
+            ("docs/speed.md", "A C run for each", "One C run of each"),
+            ("docs/cookbook.md", "A trace has a fetch", "In 3 days a trace has a fetch"),
+        ):
+            told = rf"\d+ of \d+ numbers are compared: \d+ of \d+ were: {AGAIN} {file}"
+            self.fails_after(f"../{file}", old, new, f"FAILED {file}: {told} keeps what is")
+        with self.changed("docs/cookbook.md", "Tracing takes 10 to 30 ns", "Tracing takes some ns"):
+            self.assertEqual(self.ledger()[0], 0)
 
     def test_what_is_promised(self):
         """The words of a promise, of a definition, of what the gate runs are shown."""
@@ -252,9 +279,10 @@ class Sums(ToolTest):
 
     def test_scripts_are_compared(self):
         """Where a line of tests/sums is another one, the run fails, and tests/ledger mends it."""
-        for name in ("spec-names", "run", "common.py", "documents.py", "ledger"):
+        for name in ("tests/spec-names", "tests/run", *PARTS):
             (self.folder / "tests").mkdir(exist_ok=True)
-            shutil.copy(TOP / "tests" / name, self.folder / "tests")
+            shutil.copy(TOP / name, self.folder / "tests")
+        self.write("tests/try-mutants", "")
         self.write("tests/sums", "tests/run: 3 cases\ntests/limits: 9 cases\n")
         self.write("tests/names", "tests/run: three\ntests/limits: nine\n")
         (self.folder / "tests/cases/inputs").mkdir(parents=True)

@@ -103,7 +103,7 @@ class Mutants(ToolTest):
         self.top = self.folder / "a copy"
         for folder in ("tests/mutants/low", "crates/low/src", "crates/low/must-fail"):
             (self.top / folder).mkdir(parents=True)
-        for name in ("try-mutants", "common.py", "prover.py"):
+        for name in ("try-mutants", "common.py", "contracts.py", "edits.py", "prover.py"):
             shutil.copy(TOP / "tests" / name, self.top / "tests")
         (self.top / "crates/low/src/lib.rt").write_text(SOURCE)
         (self.top / "crates.txt").write_text("low:\n")
@@ -344,12 +344,81 @@ class Mutants(ToolTest):
             self.tried(said + REFUSED, "--write-goals")
             self.assertEqual(self.mutant.read_text(), f"goal: Half::of {goal}\n{EDIT}")
 
-    def test_code_that_is_gone(self):
-        self.mutant.write_text(EDIT.replace("number / 2", "number / 4"))
+    def listed(self, text, told=None):
+        """Lists a mutant, which can't be tried for this reason."""
+        self.mutant.write_text(text)
         lines, status = self.tried("", "--list")
-        told = r"\(FAILED: an 'old:' text is in src/lib.rt 0 times, and not once\)$"
-        self.assertRegex(lines[-1], told)
-        self.assertEqual(status, 1)
+        end = f"(FAILED: {told})" if told else "Refused at: "
+        self.assertIn(end, lines[-1])
+        self.assertEqual((status, lines[-1].endswith(end)), (bool(told),) * 2, lines[-1])
+
+    def test_code_that_is_gone(self):
+        old, goal = EDIT.replace("number / 2", "number / 4"), "goal: Half::of value\n"
+        self.listed(goal + old, "an 'old:' text is in src/lib.rt 0 times, and not once")
+        twice = EDIT.replace("old:         number / 2", "old: number / 2")
+        self.listed(goal + twice, "an 'old:' text is in src/lib.rt 2 times, and not once")
+
+    def test_a_goal_that_is_gone(self):
+        """Its function, its clause, or the loop that it names."""
+        for goal in "value", "returns", "invariant_of-self", "loop-number-preserved":
+            self.listed(f"goal: Half::of {goal}\n{EDIT}")
+        for goal in "small", "loop-half-init":
+            told = f"the clause of its goal is gone: Half::of {goal}"
+            self.listed(f"goal: Half::of {goal}\n{EDIT}", told)
+        gone = "the function of its goal is gone: Third::of"
+        self.listed(f"goal: Third::of value\n{EDIT}", gone)
+        # a clause of two has its name; one of a trait is where the trait is
+        source = self.top / "crates/low/src/lib.rt"
+        two = SOURCE.replace("    {\n        number", "        ensures { result ≤ number }\n    {\n"
+                             "        number")
+        source.write_text(two.replace("ensures {", "ensures small {"))
+        self.listed(f"goal: Half::of small\n{EDIT}")
+        self.listed(f"goal: Half::of returns\n{EDIT}",
+                    "the clause of its goal is gone: Half::of returns")
+        of_trait = SOURCE.replace("impl Half", "impl Part for Half").replace(
+            "        ensures value { result ≡ number / 2 }\n", "")
+        source.write_text(of_trait)
+        self.listed(f"goal: HalfPart::of any\n{EDIT}")  # of a trait that is nowhere
+        source.write_text(of_trait + "\npub trait Part {\n    fn of(&self, number: u64) -> u64\n"
+                          "        ensures value { result ≤ number };\n}\n")
+        self.listed(f"goal: HalfPart::of value\n{EDIT}")
+        self.listed(f"goal: HalfPart::of any\n{EDIT}",
+                    "the clause of its goal is gone: HalfPart::of any")
+
+    def test_a_clause_of_its_own(self):
+        """A mutant is to break the contract that is there, and may give one to a new function."""
+        function = "fn of(&self, number: u64) -> u64"
+        head = f"goal: Half::of value\nfile: src/lib.rt\nold:     pub {function}\n"
+        wrong = f"new:     pub {function}{{}} {{{{ 0 }}}} fn more() ensures {{{{ a }}}}\n"
+        brought = "it brings a clause of of, and is to break one that is there"
+        other = "it has another contract for Half::of, and is to break its own"
+        for clause, told in ((" ensures value { result ≡ number / 2 }", brought),
+                             (" ensures value { result ≤ number }", other), ("", other)):
+            self.listed(head + wrong.format(clause), told)
+        clause = "        ensures value { result ≡ number / 2 }"
+        more = " { 0 } fn more(&self, number: u64) -> u64 ensures { result ≡ number / 2 }\n"
+        head = f"goal: Half::of value\nfile: src/lib.rt\nold: {clause}\n"
+        self.listed(f"{head}new: {clause}{more}")
+        self.listed(f"{head}new:         requires {{ number ≤ 2 }} {clause}\n", other)
+
+    def test_a_control_of_many_words(self):
+        """It is the mutant but for a few, wherever they stand."""
+        own = [f"and number {at}" for at in range(4)]
+        new = EDIT.replace("number / 3", f"number / 3 {' '.join(own)}")
+        goal, right = "goal: Half::of value\n", "right:         number >> 1"
+        self.listed(f"{goal}{new}{right} {' '.join(reversed(own))}\n", None)
+        many = "its control differs from it by 12 words, and may by 10"
+        self.listed(f"{goal}{new}{right}\n", many)
+
+    def test_each_of_many_is_tried(self):
+        """Those of a crate are parted, and none is lost."""
+        self.mutant.unlink()
+        self.mutant.parent.rmdir()
+        for count in 1, 24, 25, 60:
+            sections = (f"== third_{at}\ngoal: Half::of value\n{EDIT}" for at in range(count))
+            (self.top / "tests/mutants/low.edits").write_text("\n".join(sections))
+            lines, status = self.tried(IN_CODE + REFUSED)
+            self.assertEqual((lines[-1], status), (f"{count} passed, 0 failed", 0))
 
     def test_names_and_list(self):
         gate = self.top / "crates/low/must-fail/no_half.edit"

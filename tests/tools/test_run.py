@@ -137,6 +137,26 @@ class LeftOut(Bad):
         told = "no program /absent: make builds it\n0 passed, 1 failed\n"
         self.ends(ran, 1, "", told)
 
+    def test_names_are_compared(self):
+        """Of a whole run without what needs packages, with those that are kept."""
+        (self.folder / "tests/tools").mkdir(parents=True)
+        for name in ("test-tools", "common.py"):
+            shutil.copy(TOP / "tests" / name, self.folder / "tests")
+        self.write("tests/tools/test_one.py", "import unittest\n\n\nclass One(unittest.TestCase):\n"
+                   "    def test_one(self):\n        pass\n")
+        words = self.folder / "tests/test-tools", "--program", "/bin/true"
+        names = "tests/test-tools: One.test_one\n"
+        for count, kept, status in ((1, names, 0), (2, names, 1), (1, names * 2, 0), (1, "", 1),
+                                    (1, names.replace("one", "two"), 1)):
+            self.write("tests/sums", f"tests/test-tools: {count} cases\n")
+            self.write("tests/names", kept)
+            ran = self.run_command(*words, "--plain")
+            self.assertEqual(ran.returncode, status, ran.stdout)
+            told = b"\nFAILED tests/test-tools: after a look" in ran.stdout
+            self.assertEqual(told, bool(status))
+            self.assertEqual(self.run_command(*words, "--plain", "--list").returncode, status)
+            self.assertEqual(self.run_command(*words).returncode, 0)
+
     def test_a_name_without_tests(self):
         ran = self.run_tests("table", "by-lime", "absent.Reading")
         self.refused(ran, 2, "test-tools: no tests of by-lime or absent.Reading; ")

@@ -18,12 +18,11 @@ class Scripts(base.ToolTest):
         scripts = [path.name for path in (base.TOP / "tests").iterdir()
                    if path.is_file() and os.access(path, os.X_OK) and not path.suffix]
         self.assertEqual(sorted(name.strip("`") for name, *_ in rows), sorted(scripts))
-        quick = {name.strip("`") for name, _, takes in rows
+        quick = {name.strip("`"): run_by for name, run_by, _, takes in rows
                  if re.fullmatch("seconds|a second|half a minute", takes)}
         self.assertGreater(len(quick), 5)
-        gate = (base.TOP / "tests/all").read_text()
-        named = set(re.findall(r'(?:\[|alone, )"([\w-]+)"', gate))
-        self.assertEqual(quick - ELSEWHERE - named, set())
+        elsewhere = {name for name, run_by in quick.items() if "`make test`" not in run_by}
+        self.assertEqual(elsewhere, ELSEWHERE)
 
     def test_spec_names_reads_all(self):
         """As many names as the ledger finds definitions."""

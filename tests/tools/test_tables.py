@@ -1,11 +1,11 @@
 """Tables of documents, against what they speak of: the code, help, and what the program writes."""
 
-import collections
 import re
 import unittest
 
 import base
-from test_facts import MANUAL, constant, flat, section
+from facts import constant
+from test_facts import MANUAL, section
 
 # what the code writes at a place, and what the manual has there
 PLACES = {
@@ -175,46 +175,12 @@ class Speed(base.ToolTest):
             self.assertRegex(time, r"^\d+\.\d+ s$")
             self.assertRegex(memory, r"^(\d+,\d+ KiB)?$")
 
-    def test_ratios_on_other_pages(self):
-        """Those that README tells in words, and those that PERF.md repeats."""
-        readme, rows = flat("README.md"), table(self.TEXT, "Space")
-        told = re.search(r"for the same algorithm takes a (\w+) to a (\w+) longer", readme)
-        ours = [float(row[5].partition(" ")[0]) for row in rows]
-        for part, ratio in zip(told.groups(), (max(ours), min(ours))):
-            parts = {"tenth": 10, "fifth": 5, "quarter": 4, "third": 3, "half": 2}
-            self.assertAlmostEqual(1 / ratio - 1, 1 / parts[part], delta=0.03)
-        depths = table(self.TEXT, "Trace")
-        told = re.search(r"65,536 ways take (\w+) to (\w+) times as long as 16 on "
-                         r"\[(\w+) traces", readme)
-        first, last = ([int(row[at].partition(",")[0]) for row in depths] for at in (1, -1))
-        times = [deep / short for short, deep in zip(first, last)]
-        numbers = "none one two three four five six seven eight nine ten".split()
-        found = [numbers[round(it)] for it in (min(times), max(times), len(depths))]
-        self.assertEqual(list(told.groups()), found)
-        plain = {row[0]: row[7].partition(" ")[0] for row in rows}
-        told = "takes {typical} of the time in the typical space, {large} in the large"
-        self.assertIn(told.format(**plain), flat("docs/PERF.md"))
-
     def test_gains(self):
         """What PERF.md tells of a workload's gain is that of its times, by medians of each."""
         rows = table((base.TOP / "docs/PERF.md").read_text(), "Workload")
         self.assertEqual(len(rows), 6)
         for name, before, now, gain in rows:
             self.assertAlmostEqual(float(before) / float(now), float(gain), delta=0.03, msg=name)
-
-
-class Examples(unittest.TestCase):
-    def test_what_they_hold(self):
-        """As many references of each kind as examples/README.md tells, and no others."""
-        rows = table((base.EXAMPLES / "README.md").read_text(), "File")
-        self.assertEqual(len(rows), 3)
-        for name, format, held in rows:
-            lines = (base.EXAMPLES / name.strip("`")).read_text().splitlines()
-            kinds = dict(reads="0", writes="1", fetches="2") if format == "din" else dict(
-                loads="L", stores="S", fetches="I")
-            told = {kinds[kind]: int(count.replace(",", ""))
-                    for count, kind in re.findall(rf"([\d,]+) ({'|'.join(kinds)})\b", held)}
-            self.assertEqual(collections.Counter(line.split()[0] for line in lines), told, name)
 
 
 class Scripts(base.ToolTest):

@@ -8,9 +8,11 @@ import contextlib
 import importlib
 import io
 import itertools
+import math
 import re
 import subprocess
 import unittest
+from concurrent.futures import ThreadPoolExecutor
 
 import base
 import common
@@ -61,12 +63,18 @@ class Fuzz(Wrong):
     def test_of_log(self):
         """Each case whose output, message or status differs is found, and no other."""
         wanted = self.wanted("log")
+        # of a fault of the arguments the model has the first words alone
+        faults = [message if message != "cachesim: error:" else "" for _, message, _ in wanted]
         for mistake, stream, is_wrong in (
             ("BYTE", "stdout", [re.search("[0-9]", out) for out, *_ in wanted]),
+            ("LAST", "stdout", [re.search("[0-9]", out) for out, *_ in wanted]),
             ("MESSAGE", "stderr", [message for _, message, _ in wanted]),
+            ("WORD", "stderr", [re.search("[a-z]$", fault.strip()) for fault in faults]),
+            ("LINE", "stderr", [re.search("[0-9]", fault) for fault in faults]),
             ("STATUS", "status", [True] * self.CASES),
         ):
-            text = self.fails("fuzz", [mistake], "--commands", "log", "--cases", self.CASES)
+            words = "--commands", "log", "--cases", self.CASES
+            text = self.fails("fuzz", [mistake], *words, env={"WRONG_COMMAND": "log"})
             found = {index for index in range(self.CASES) if is_wrong[index]}
             self.assertGreater(len(found), 2)
             self.assertEqual(self.failed(text), len(found), text)
@@ -113,14 +121,43 @@ class Fuzz(Wrong):
         fuzz, thresholds = base.script("fuzz"), importlib.import_module("thresholds")
         variety, total = fuzz.Variety(), common.Sum()
         variety.random, variety.bad, variety.seeds = 10000, 5000, set(range(500))
+        variety.high = 1000
         variety.stood.update(dict.fromkeys(thresholds.PLACES, 2))
+        variety.stood.update(dict.fromkeys(thresholds.KINDS, 4))
         with contextlib.redirect_stdout(io.StringIO()) as told:
             variety.judge(total)
-            self.assertEqual((total.passed, total.failed), (3, 0))
+            self.assertEqual((total.passed, total.failed), (5, 0))
             variety.stood[thresholds.PLACES[0]] = 1
+            variety.stood[thresholds.KINDS[0]] = 3
+            variety.high = 800
             variety.judge(total)
-        self.assertEqual((total.passed, total.failed), (5, 1))
-        self.assertIn("[('sweep', 'ways', 11)]", told.getvalue().splitlines()[-1])
+        self.assertEqual((total.passed, total.failed), (7, 3))
+        self.assertIn("[('sweep', 'ways', 11)]", told.getvalue())
+        self.assertIn("[('sweep', 'step', 1)]", told.getvalue())
+
+    def test_of_kinds(self):
+        """By a case's arguments and trace: the policies of its large caches, and what lies between
+        its blocks."""
+        thresholds = importlib.import_module("thresholds")
+        words = "-l1-usets 2 -l1-ubsize 16 -l1-uassoc 128 -l1-urepl".split()
+        for command, step, kinds in (
+            (["din", *words, "f"], 3, {("din", "policy", "f"), ("din", "step", 3)}),
+            (["log", *words, "r"], 126_543, {("log", "policy", "r"), ("log", "step", 126_543)}),
+            (["din", *words[:5], "8"], 1024, {("din", "step", 1)}),
+            (["csim", *"-s 1 -E 17 -b 4 -t x".split()], 774_080, {("csim", "step", 12_095)}),
+            (["sweep", *"--bsize 16-64 --sets 2 --assoc 17 --size 0-1g".split()], 7, set()),
+        ):
+            line = " L {:x},1\n" if command[0] == "csim" else "0 {:x}\n"
+            # two sets in turns
+            text = "".join(line.format((at * step * 2 + set_) << 4)
+                           for at in range(20) for set_ in range(2))
+            self.assertEqual(thresholds.kinds_of(command, text.encode()), kinds)
+
+    def test_of_high_addresses(self):
+        high = base.script("fuzz").HIGH
+        for text, is_high in (b"0 fffffffffffff000\n1 0xFFFFFFFFFFFFFFFF\n", True), (
+                b"0 fffffffffffff000\n1 ffffffffffff0fff\n", False), (b"0 10\n", False):
+            self.assertEqual(bool(high.search(text)), is_high)
 
     def test_a_report_that_does_not_count_the_log(self):
         """Where din alone is wrong, in the name of a cache, it is found of each that is reached.
@@ -139,38 +176,57 @@ class Fuzz(Wrong):
 
 
 class Run(Wrong):
-    FILES = ["sweep-words", "lines-lackey", "csim", "din", "log", "help"]
+    def setUp(self):
+        super().setUp()
+        self.run_script, inputs = base.script("run"), base.TOP / "tests/cases/inputs"
+        found = [case for case, _ in self.run_script.read_all(inputs.parent, inputs)]
+        self.cases = {case.name: case for case in found if not hasattr(case, "command")}
+        self.examples = {case.name: case for case in found if hasattr(case, "command")}
+
+    def told(self, mistake):
+        """The cases that fail of a program with this mistake, all that there are."""
+        text = self.fails("run", [mistake])
+        told = re.findall(r"^FAILED (\S+) \(", text, re.M)
+        self.assertEqual(self.failed(text), len(told))
+        return {*told}
+
+    def written(self, stream, sign):
+        """The cases that want this in a stream, of which they have all."""
+        texts = ((name, case.streams[stream].whole) for name, case in self.cases.items())
+        return {name for name, text in texts if re.search(sign, text or b"")}
 
     def test_cases(self):
-        run = base.script("run")
-        inputs = base.TOP / "tests/cases/inputs"
-        cases, _ = run.chosen(run.read_all(inputs.parent, inputs), self.FILES)
-        wanted = {
-            case.name: [it.whole or it.begins or b"" for it in case.streams.values()]
-            for case in cases
-        }
-        for mistake, found in (
-            ("BYTE", {name for name, (out, _) in wanted.items() if re.search(rb"\d", out)}),
-            ("MESSAGE", {name for name, (_, message) in wanted.items() if message}),
-            ("STATUS", set(wanted)),
+        """Each that wants a digit, a message or a status sees another one, and each that ends well
+        sees a message behind its last word."""
+        good = {name for name, case in self.cases.items() if not case.status}
+        for mistake, wanted in (
+            ("BYTE", self.written("stdout", rb"\d")), ("LAST", self.written("stdout", rb"\d")),
+            ("MESSAGE", self.written("stderr", rb"^c")), ("LINE", self.written("stderr", rb"\d")),
+            ("WORD", self.written("stderr", rb"[a-z]\n\Z")), ("WARNS", good),
+            ("STATUS", {*self.cases}),
         ):
-            text = self.fails("run", [mistake], *self.FILES)
-            told = set(re.findall(r"^FAILED (\S+) \(tests/cases/", text, re.M))
-            self.assertGreater(len(found), 2)
-            self.assertLessEqual(found, told)
-            self.assertEqual(self.failed(text), len(told))
-
-    def test_a_program_that_ends_late(self):
-        """It is not waited for longer than a case may take."""
-        run = base.script("run")
-        run.SECONDS = 1
-        inputs = base.TOP / "tests/cases/inputs"
-        cases, _ = run.chosen(run.read_all(inputs.parent, inputs), ["sweep-one-size"])
-        self.assertEqual(cases[0].run(self.program("LATE")), ["not done after 1 seconds"])
+            with self.subTest(mistake):
+                self.assertGreater(len(wanted), 20)
+                self.assertEqual(wanted - self.told(mistake), set())
 
     def test_examples_of_documents(self):
-        text = self.fails("run", ["BYTE"], "README.md")
-        self.assertRegex(text, r"(?m)^FAILED \S*README.md:\d+ ")
+        """Each with a digit sees another one, and each a message that is not shown."""
+        shown = {name for name, it in self.examples.items()
+                 if re.search(r"\d", "\n".join(it.command.wanted))}
+        self.assertGreater(len(shown), 5)
+        # what is behind a pipe may be another digit, or a text of no digit
+        self.assertGreater(2 * len(shown & self.told("BYTE")), len(shown))
+        good = {name for name, it in self.examples.items() if "2>&1" not in it.command.text}
+        self.assertEqual(good - self.told("WARNS"), set())
+
+    def test_a_program_that_ends_late(self):
+        """It is not waited for longer than a case may take, and no case takes that for right."""
+        run, late = self.run_script, self.executable("late", "exec sleep 100")
+        run.SECONDS = run.documents.SECONDS = 0.1
+        cases = [*self.cases.values(), *self.examples.values()]
+        with ThreadPoolExecutor(8) as pool:
+            for case, wrong in zip(cases, pool.map(lambda case: case.run(str(late)), cases)):
+                self.assertIn("not done after 0.1 seconds", "\n".join(wrong), case.name)
 
 
 class Others(Wrong):
@@ -203,6 +259,10 @@ class Others(Wrong):
         refusals = base.script("refusals")
         good, bad = self.named("refusals", ["MESSAGE", "KEEPS", "PIECES"])
         self.assertEqual([name[:9] for name in good], ["four rows"] * 2 + ["each faul"])
+        lengths = {letters: len(word) for letters, word in refusals.WORDS.items()}
+        self.assertEqual(lengths, {6_000: 6_000, 100_000: 100_000})
+        for _, arguments in refusals.of_a_word("w" * 100_000):
+            self.assertGreaterEqual(max(map(len, arguments)), 100_000)
         words = len(refusals.WORDS) * len([*refusals.of_a_word("")])
         told = len(refusals.FAULTS) + words
         self.assertEqual(len(bad), 2 * len(refusals.RUNS) + 4 + 2 + 4 + told)
@@ -243,6 +303,59 @@ class Others(Wrong):
             "a sweep with S = 8192 and A = 255: two blocks in each set",
         ):
             self.assertIn(name, bad)
+
+
+class Judging(unittest.TestCase):
+    """What tests/limits makes of numbers on both sides of each bound."""
+
+    def judged(self, name, *given, **measured):
+        """Whether a judgement is good, where the limits measure this."""
+        limits = base.script("limits")
+        total = limits.Limits("program", 1)
+        for what, value in measured.items():
+            setattr(total, what, value if callable(value) else lambda *_, of=value: of)
+        with contextlib.redirect_stdout(io.StringIO()):
+            getattr(total, name)("name", *given)
+        self.assertEqual(total.passed + total.failed, 1)
+        return not total.failed
+
+    def of_runs(self, here, there):
+        """Measures one run so, and the other so."""
+        return lambda arguments, *_: here if arguments == "run" else there
+
+    def test_bytes_that_are_asked_for(self):
+        """As many as the manual tells, neither more nor less, or at most, and not much less."""
+        run, small = ("run", 1000), ("small", 10)
+        for seen, is_right in (1000, True), (1000.5, True), (1001, False), (999, False), (
+                math.nan, False):
+            got = self.judged("takes", run, small, {}, beside_words=self.of_runs(seen, 10))
+            self.assertEqual(got, is_right, seen)
+        for seen, is_right in (1000, True), (900, True), (1001, False), (899, False):
+            got = self.judged("takes", run, small, {}, 0.5, 0.9,
+                              beside_words=self.of_runs(seen, 10))
+            self.assertEqual(got, is_right, seen)
+
+    def test_memory(self):
+        slack = base.script("limits").SLACK
+        for more, is_right in (0, True), (slack, True), (-slack, True), (slack + 1, False), (
+                -slack - 1, False), (math.nan, False):
+            got = self.judged("memory", "run", "small", 5000, {},
+                              peak=self.of_runs(9000 + more, 4000))
+            self.assertEqual(got, is_right, more)
+        most = base.script("limits").ANY_RUN
+        for more, is_right in (0, True), (1, False), (math.nan, False):
+            got = self.judged("memory_in_all", "run", 5000, {}, peak=5000 + most + more)
+            self.assertEqual(got, is_right, more)
+
+    def test_times(self):
+        for here, is_right in (2.0, True), (2.1, True), (2.2, False):
+            seconds = self.of_runs(here, 0.1)
+            got = self.judged("no_slower", ("run", b""), ("other", b""), seconds=seconds)
+            self.assertEqual(got, is_right, here)
+        for here, is_right in (2.0, True), (2.1, False):
+            seconds = self.of_runs(here, 1.0)
+            got = self.judged("in_ratio", ("run", b""), ("other", b""), 2, seconds=seconds)
+            self.assertEqual(got, is_right, here)
 
 
 if __name__ == "__main__":

@@ -7,7 +7,11 @@
 
    BYTE       the first digit of the output is another one; with WRONG_COMMAND in the environment,
               of that command alone
+   LAST       the last digit of each piece of the output is another one, likewise
    MESSAGE    the first letter of a message is a capital
+   WORD       the last letter of a message is a capital
+   LINE       the last digit of a message is another one
+   WARNS      a run that goes well writes a message behind its last word
    STATUS     a run that goes well ends with status 3, and one that fails with status 0
    SILENT     a write that fails is taken for one that went well
    AGAIN      behind the end of its input the program reads once more
@@ -73,7 +77,8 @@ static void take(size_t size) {
 static void end(int status, void *unused) {
     (void)unused;
     fflush(NULL);
-    _exit(status ? 0 : 3);
+    if (HAS(WARNS) && !status) dprintf(2, "all went well\n");
+    if (HAS(STATUS)) _exit(status ? 0 : 3);
 }
 
 __attribute__((destructor)) static void delay(void) {
@@ -85,7 +90,7 @@ __attribute__((constructor)) static void begin(int argc, char **argv) {
     (void)argc;
     const char *command = getenv("WRONG_COMMAND");
     is_of_command = !command || is_among(command, argv);
-    if (HAS(STATUS)) on_exit(end, NULL);
+    if (HAS(STATUS) || HAS(WARNS)) on_exit(end, NULL);
     if (HAS(SLOW) && is_among("-v", argv)) work(1000);
     if (HAS(GREEDY) && has_many_sets(argv)) take(4 << 20);
 }
@@ -101,13 +106,21 @@ ssize_t read(int file, void *into, size_t size) {
     return HAS(AGAIN) && !got ? next(file, into, size) : got;
 }
 
-/* Writes a piece in which one letter is another one. */
-static ssize_t changed(int file, const char *from, size_t size) {
+/* The place of the first or the last digit, or letter, of a piece; its size if there is none. */
+static size_t place_of(const char *piece, size_t size, int (*is_wanted)(int), int is_last) {
+    for (size_t at = 0; at < size; at++) {
+        size_t place = is_last ? size - 1 - at : at;
+        if (is_wanted((unsigned char)piece[place])) return place;
+    }
+    return size;
+}
+
+/* Writes a piece in which the letter or the digit at a place is another one. */
+static ssize_t changed(int file, const char *from, size_t size, size_t at) {
     ssize_t (*next)(int, const void *, size_t) = dlsym(RTLD_NEXT, "write");
-    size_t at = 0;
     char *copy = memcpy(alloca(size), from, size);
-    while (file == 1 && at < size && !isdigit(copy[at])) at++;
-    if (at < size) copy[at] = file == 1 ? '0' + (copy[at] - '0' + 1) % 10 : toupper(copy[at]);
+    int had = at < size ? copy[at] : 0;
+    if (at < size) copy[at] = isdigit(had) ? '0' + (had - '0' + 1) % 10 : toupper(had);
     ssize_t done = next(file, copy, size);
     has_written |= file == 1 && done > (ssize_t)at;
     return done;
@@ -115,10 +128,14 @@ static ssize_t changed(int file, const char *from, size_t size) {
 
 ssize_t write(int file, const void *from, size_t size) {
     ssize_t (*next)(int, const void *, size_t) = dlsym(RTLD_NEXT, "write");
-    int is_first = file == 1 && is_of_command && !has_written;
-    int is_changed = (HAS(BYTE) && is_first) || (HAS(MESSAGE) && file == 2);
+    int is_first = file == 1 && is_of_command && !has_written, is_message = file == 2;
     size = at_most(size);
-    ssize_t done = is_changed && size ? changed(file, from, size) : next(file, from, size);
+    size_t at = HAS(BYTE) && is_first ? place_of(from, size, isdigit, 0)
+        : HAS(LAST) && file == 1 && is_of_command ? place_of(from, size, isdigit, 1)
+        : HAS(MESSAGE) && is_message ? 0
+        : HAS(WORD) && is_message ? place_of(from, size, isalpha, 1)
+        : HAS(LINE) && is_message ? place_of(from, size, isdigit, 1) : size;
+    ssize_t done = at < size ? changed(file, from, size, at) : next(file, from, size);
     return HAS(SILENT) && file == 1 && done < 0 ? (ssize_t)size : done;
 }
 #endif

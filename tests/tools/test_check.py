@@ -1,0 +1,102 @@
+"""What a change needs before a commit, by tests/check."""
+
+import re
+import shutil
+import sys
+
+from base import PROGRAM, TOP, ToolTest, script
+
+# what is tried of a change of a file, beside the ledger
+TRIED = {
+    "crates/cache_core/src/cache.rt": "in crates/cache_core, rt check --jobs 1|tests/spec-names",
+    "crates/cache_core/CALLING.md": "test-tools --plain links documents.Callers",
+    "tools/best": "test-tools --plain best style",
+    "tools/by-line": "test-tools --plain by_line by_line_hand by_line_names style",
+    "tools/lib/by_line/elf.py": "test-tools --plain by_line by_line_hand by_line_names style",
+    "tools/lib/to-din.c": "test-tools --plain to_din style",
+    "tools/lib/paging.py": "test-tools --plain din_table sweep_parallel style",
+    "tools/lib/tool.py": "test-tools --plain tool unexpected outputs waiting style",
+    "tools/lab/replay": "test-tools --plain replay style",
+    "docs/cookbook.md": "test-tools --plain links facts style "
+                        "documents.Documents.test_docs_cookbook",
+    "docs/manual.md": "tests/run docs/manual.md|"
+                      "test-tools --plain links facts style documents.Documents.test_docs_manual",
+    "tests/cases/din.cases": "tests/run|test-tools --plain wrong_models",
+    "tests/tools/test_best.py": "test-tools --plain --list|test-tools --plain best style",
+    "tests/mutants/options.edits": "test-tools --plain mutants",
+    "Makefile": "test-tools --plain gate make scripts",
+    "absent.c": "",
+}
+STAND_IN = """\
+import sys
+
+print("tried", *sys.argv)
+print("0 passed, 1 failed" if "{0}" in sys.argv[0] else "2 passed, 0 failed")
+"""
+
+
+class Check(ToolTest):
+    def listed(self, *files):
+        """What would be run of these files, without the ledger."""
+        words = [TOP / "tests/check", "--list", *(TOP / file for file in files)]
+        lines = self.good(self.run_command(*words, env={"RT": "rt"})).splitlines()
+        self.assertIn("== python3 tests/ledger", lines)
+        said = [re.sub("^== (python3 )?(tests/(?=test-tools))?", "", line) for line in lines]
+        return "|".join(line for line in said if line != "tests/ledger")
+
+    def test_what_is_tried(self):
+        for file, tried in TRIED.items():
+            self.assertEqual(self.listed(file), tried, file)
+        # each thing once
+        both = self.listed("tools/best", "tests/tools/test_best.py", "docs/definitions.md")
+        self.assertEqual(both, "test-tools --plain --list|test-tools --plain best style "
+                         "mutants.TheTable links facts documents.Documents.test_docs_definitions")
+        self.assertEqual(self.listed("tests/edits.py", "docs/proofs.md").count("mutants"), 1)
+
+    def test_each_test_is_there(self):
+        """Those that are named, and some of each tool and each part of one."""
+        check = script("check")
+        names = {name for tests in check.TRIED_BY.values() for name in tests} | {*check.OF_MANY}
+        for name in names:
+            file, _, test = name.partition(".")
+            text = (TOP / f"tests/tools/test_{file}.py").read_text()
+            self.assertTrue(f"class {test}(" in text if test else text, name)
+        self.assertGreater(len(check.tools()), 12)
+        code = [path for path in (TOP / "tools").rglob("*.py") if path.name != "__init__.py"]
+        for path in (*check.tools().values(), *code):
+            file = str(path.relative_to(TOP))
+            self.assertNotEqual(check.tests_of_tool(file), [], file)
+
+    def copy(self, failing="nothing", status=0):
+        """A copy in which all that is called is a stand-in, and git tells two files."""
+        for folder in ("tests/tools", "tests/cases", "crates/low/src"):
+            (self.folder / folder).mkdir(parents=True, exist_ok=True)
+        for name in ("check", "steps.py", "common.py"):
+            shutil.copy(TOP / "tests" / name, self.folder / "tests")
+        for name in ("ledger", "test-tools", "spec-names", "run"):
+            self.write(f"tests/{name}", STAND_IN.format(failing))
+        self.write("tests/cases/new one.cases", "")
+        self.write("crates/low/src/lib.rt", "")
+        told = r"printf ' M crates/low/src/lib.rt\0?? tests/cases/new one.cases\0'"
+        self.executable("bin/git", "[ $1 = status ] || exit 1", told)
+        self.executable("bin/rt", 'echo "tried rt $* in $PWD"', f"exit {status}")
+        return self.run_command(sys.executable, self.folder / "tests/check", env={
+            "PATH": f"{self.folder}/bin:{PROGRAM.parent}", "RT": str(self.folder / "bin/rt")})
+
+    def test_what_was_changed(self):
+        """By git, a new file too. Each step is told with its time, and the sum is that of all."""
+        text = self.good(self.copy())
+        calls = re.findall("(?m)^tried (.*)", text)
+        self.assertEqual(calls, [
+            f"rt check --jobs 1 in {self.folder}/crates/low", "tests/spec-names", "tests/ledger",
+            "tests/run", "tests/test-tools --plain wrong_models"])
+        self.assertEqual(len(re.findall(r"(?m)^== ok \(\d+ s\)$", text)), 5)
+        self.assertTrue(text.endswith("\n9 passed, 0 failed\n"), text)
+
+    def test_each_failure_counts(self):
+        for failing in ("ledger", "test-tools", "spec-names", "run"):
+            ran = self.copy(failing)
+            self.assertEqual(ran.returncode, 1)
+            self.assertTrue(ran.stdout.endswith(b"\n7 passed, 1 failed\n"), ran.stdout)
+        ran = self.copy(status=1)
+        self.assertEqual((ran.returncode, ran.stdout[-20:]), (1, b"\n8 passed, 1 failed\n"))
