@@ -32,6 +32,9 @@ OPTIONS = {
     "cachesim-by-line": f"{DIN} --at --program --base --map --by --heap --evicted-by --callgrind",
     "cachesim-second-level": f"{DIN} --format",
     "cachesim-three-c": SWEEP,
+    "cachesim-optimal": SWEEP,
+    "cachesim-any-index": "-h --help --sets --bsize --assoc --index --kind --format",
+    "cachesim-prefetch": f"{DIN} --buffer --cache --format",
     "cachesim-warm": SWEEP,
     "cachesim-sweep-parallel": f"{SWEEP} --pages",
 }

@@ -2,8 +2,7 @@
 //! would name only their first letter, or propose another option. No contract speaks of texts.
 
 use clap::error::ErrorKind;
-use std::alloc::Global;
-use std::fmt;
+use std::alloc::{AllocError, Global};
 
 /// Where the manual says what takes the place of such an option.
 const WHERE_TO_LOOK: &str =
@@ -44,7 +43,7 @@ pub fn refusal_text(
     alloc: Global,
     error: &clap::Error,
     arguments: &[String],
-) -> Result<String, fmt::Error> {
+) -> Result<String, AllocError> {
     let text = format!(in alloc; "{error}")?;
     if error.kind() != ErrorKind::UnknownArgument {
         return Ok(text);
