@@ -128,12 +128,13 @@ class AnyIndex(reading_base.Reading, base.ToolTest):
         for text, status, told in (
             ("block %", 2, "is no expression"), ("", 2, "is no expression"),
             ("blocks", 2, "has blocks that"), ("__import__", 2, "has __import__ that"),
-            ("block.real", 2, "has a sign that"), ("[block][0]", 2, "has a sign that"),
-            ("'a'", 2, "has a sign that"), ("(block := 3)", 2, "has a sign that"),
-            ("block, 3", 1, "block 0x40171: "), ("block % 0", 1, "block 0x40171: "),
+            ("block.real", 2, "has real that"), ("[block][0]", 2, "has a sign that"),
+            ("'0'", 2, "has a sign that"), ("(block := 3)", 2, "has a sign that"),
+            ("block / 2", 1, "block 0x40171: 131256.5 is no whole number"),
+            ("block, 3", 1, "(262513, 3) is no whole number"), ("block % 0", 1, "block 0x40171: "),
             ("block", 1, "is in set 262513, and there are 12 sets"),
             ("0 - block", 1, "is in set -262513, and there are 12 sets"),
-            ("parity", 1, "block 0x40171: "), ("(" * 300 + ")" * 300, 2, "is no expression"),
+            ("parity", 1, "is no whole number"), ("(" * 300 + ")" * 300, 2, "is no expression"),
         ):
             ran = self.run_tool("any-index", "trace", *self.OPTIONS, f"--index={text}")
             self.refused(ran, status, "any-index: --index: ", told)

@@ -72,7 +72,13 @@ def steps(text, options):
 
 class Prefetch(log_base.Filtering, base.ToolTest):
     TOOL = "prefetch"
-    HEADER = HEADER + "l1-d,next-line,0,0,0.000\nl1-d,stride,0,0,0.000\nl1-d,either,0,0,0.000\n"
+
+    def test_nothing(self):
+        """Traces without a reference to the cache; of which one has a fetch."""
+        line = HEADER + "l1-d,next-line,0,0,0.000\n"
+        both = line + "l1-d,stride,0,0,0.000\nl1-d,either,0,0,0.000\n"
+        for text, wanted in (b"", line), (b"3 1\n\n", line), (b"2 10\n", both):
+            self.assertEqual(self.good(self.run_on("-", *self.CACHE, stdin=text)), wanted)
 
     def table(self, text, options, size, place):
         given = " ".join(map(str, options)).replace("=", " ").replace(" --", " -").split()
@@ -97,13 +103,15 @@ class Prefetch(log_base.Filtering, base.ToolTest):
                     caches[name].miss(reference.addr, history if of_data else [])
             if event.access != "fetch" and arrived and is_new:
                 history.append(event.addr)
-        return HEADER + "".join(row for cache in caches.values() for row in cache.rows())
+        rows = [row for cache in caches.values() for row in cache.rows()]
+        return HEADER + "".join(row for row in rows if instruction is not None
+                                or ",next-line," in row)
 
     def judge(self, text, options, size=16, place=None):
         own = [*["--buffer", size] * (size != 16), *[f"--cache={place}"] * bool(place)]
-        ran = self.run_on("-", *options, *own, stdin=text)
+        answer = self.good(self.run_on("-", *options, *own, stdin=text))
         wanted = self.table(text, options, size, place)
-        self.assertEqual((ran.returncode, ran.stdout.decode()), (0, wanted), (options, own))
+        self.assertEqual(answer, wanted, (options, own))
         return wanted
 
     def test_examples(self):
@@ -149,10 +157,8 @@ class Prefetch(log_base.Filtering, base.ToolTest):
 
     def test_a_trace_without_fetches(self):
         text = b"0 10\n0 20\n0 30\n0 40\n"
-        ran = self.run_on("-", *shape("l1-d", 16, 1, 1), stdin=text)
-        self.assertEqual(ran.stderr, b"prefetch: the trace has no fetches, so all data are taken "
-                         b"as one instruction's\n")
-        self.assertIn(b"l1-d,stride,4,1,25.000\n", ran.stdout)
+        answer = self.good(self.run_on("-", *shape("l1-d", 16, 1, 1), stdin=text))
+        self.assertEqual(answer, HEADER + "l1-d,next-line,4,3,75.000\n")
 
     def test_own_options(self):
         for words in ("--buffer", "--buffer=0", "--buffer=x", "--buffer=2000000"):
