@@ -132,8 +132,8 @@ class AnyIndex(reading_base.Reading, base.ToolTest):
             ("'0'", 2, "has a sign that"), ("(block := 3)", 2, "has a sign that"),
             ("block / 2", 1, "block 0x40171: 131256.5 is no whole number"),
             ("block, 3", 1, "(262513, 3) is no whole number"), ("block % 0", 1, "block 0x40171: "),
-            ("block", 1, "is in set 262513, and there are 12 sets"),
-            ("0 - block", 1, "is in set -262513, and there are 12 sets"),
+            ("block", 1, "is in set 262513, and there are 12"),
+            ("0 - block", 1, "is in set -262513, and there are 12"),
             ("parity", 1, "is no whole number"), ("(" * 300 + ")" * 300, 2, "is no expression"),
         ):
             ran = self.run_tool("any-index", "trace", *self.OPTIONS, f"--index={text}")

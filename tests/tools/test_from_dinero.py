@@ -19,7 +19,8 @@ HERE = {f"-{cache}{name}" for cache in ("l1-i", "l1-d", "l1-u", "l2-u")
 OPTIONS = {f"-l{level}-{kind}{name}" for level in "12345" for kind in "uid" for name in OF_A_CACHE}
 OTHERS = ("-skipcount -flushcount -maxcount -stat-interval -stat-idcombine -on-trigger "
           "-off-trigger -custom -copyright -contact -dineroIII -trname").split()
-LAST = ('For options of Dinero IV see "From Dinero IV" in the manual: docs/manual.md, man cachesim.')
+LAST = ('For options of Dinero IV see "From Dinero IV" in the manual: docs/manual.md, '
+        'man cachesim.')
 
 
 def command_of(option, at=0):

@@ -6,9 +6,9 @@
 // reference to the block before. The file CACHES has that block size in its first line, and then a
 // line 'bsize,sets,assoc' for each cache, by rising bsize, then sets, then assoc.
 //
-// Optimal replacement keeps the blocks that are referenced soonest. It is a stack algorithm (Mattson
-// and others 1970): the blocks of a set stand in a list of which the first E are those that E ways
-// hold. So one list for each set gives the counts of all numbers of ways.
+// Optimal replacement keeps the blocks that are referenced soonest. It is a stack algorithm
+// (Mattson and others 1970): the blocks of a set stand in a list, of which E ways hold the first E.
+// So one list for each set gives the counts of all numbers of ways.
 #include <inttypes.h>
 #include <signal.h>
 #include <stdbool.h>
@@ -148,9 +148,9 @@ static void find_next(unsigned bits) {
 
 // ---- The lists
 
-// The blocks of a set are told apart by when they are referenced next; which is now for the one that
-// is referenced. It goes to the front. The block that was there goes on to the next place, and from
-// each place the one of the two goes on that is referenced later, up to where the first was.
+// The blocks of a set are told apart by when they are referenced next, which is now for the one
+// that is referenced. It goes to the front. The block that was there goes on to the next place, and
+// from each place the one of the two goes on that is referenced later, up to where the first was.
 static uint32_t place_in(uint32_t *list, uint32_t *length, uint32_t ways, uint32_t now) {
     uint32_t moved = list[0], at = 0;
     if (*length && moved == now) {

@@ -1,5 +1,5 @@
-//! The options of Dinero IV that `din` and `log` do not have, and what is said of them. `clap` alone
-//! would name only their first letter, or propose another option. No contract speaks of texts.
+//! The options of Dinero IV that `din` and `log` do not have, and what is said of them. `clap` by
+//! itself names only their first letter, or proposes another option. No contract speaks of texts.
 
 use clap::error::ErrorKind;
 use std::alloc::{AllocError, Global};
