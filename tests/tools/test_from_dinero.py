@@ -10,6 +10,8 @@ MANUAL = (base.TOP / "docs/manual.md").read_text().partition("## From Dinero IV"
 ROWS = [line.split(" | ", 1) for line in MANUAL.partition("\n\n## ")[0].split("\n")
         if " | " in line][1:]
 LINES = (base.EXAMPLES / "sort.din").read_text().splitlines(keepends=True)
+# the line that first has the address of the triggers
+TRIGGER = [line.endswith(" 1fff000558\n") for line in LINES].index(True)
 CACHES = "-l1-isize 256 -l1-ibsize 16 -l1-dsize 256 -l1-dbsize 16 -l1-dassoc 2".split()
 FIRST = "1 2 3 4 5".split()
 OF_A_CACHE = "size bsize sbsize assoc repl fetch pfdist pfabort walloc wback ccc".split()
@@ -25,7 +27,7 @@ LAST = ('For options of Dinero IV see "From Dinero IV" in the manual: docs/manua
 
 def command_of(option, at=0):
     """A command of the line that begins with an option."""
-    answer, = (answer for options, answer in ROWS if options.startswith(f"`{option}"))
+    answer, = (answer for options, answer in ROWS if options.startswith((option, f"`{option}")))
     commands = [span for span in re.findall("`([^`]*)`", answer.replace("\\|", "|"))
                 if re.match("tools/|cachesim |sed |awk ", span)]
     return commands[at]
@@ -44,15 +46,22 @@ class FromDinero(base.ToolTest):
         text = "".join(lines).encode()
         return self.good(self.run_command(base.TOP / "tests/model.py", "din", *caches, stdin=text))
 
-    def test_each_line_is_looked_at(self):
-        """A line with a command is run by a test below, whose name is its option's."""
-        names = {name.partition("test_")[2] for name in dir(self) if name.startswith("test_")}
-        for options, answer in ROWS:
-            if re.search("`(tools/|cachesim din |sed |awk )", answer):
-                option = re.match("`-(?:l(?:N-T|[0-9]-[a-z]*?))?([a-zA-Z-]*)( D)?", options)
-                name = f"{option[1]}{option[2] or ''}".replace("-", "_").replace(" ", "_").lower()
-                self.assertIn(name or "fetch", names | {"other_values"}, options)
-        self.assertGreater(len(ROWS), 18)
+    def test_each_line_is_run(self):
+        """Of the lines with a command each has a test below."""
+        run = [options.split("`")[1] for options, answer in ROWS
+               if re.search("`(tools/|cachesim din |sed |awk )", answer)]
+        self.assertEqual(run, [
+            "-informat D", "fetch", "-lN-Tccc", "-skipcount 1000", "-maxcount 1000",
+            "-flushcount 1000", "-stat-interval 1000", "-stat-idcombine",
+            "-on-trigger 1fff000558", "-off-trigger 1fff000558", "-l3-usize", "-l2-isize"])
+        self.assertGreater(len(ROWS), len(run) + 5)
+
+    def test_fetch(self):
+        """Its counts have tests of their own."""
+        header, *rows = self.run_line("other values").splitlines()
+        self.assertEqual(header, "cache,prefetcher,misses,found,percent")
+        misses = {row.split(",")[0]: int(row.split(",")[2]) for row in rows}
+        self.assertEqual(sum(misses.values()), self.misses_of(LINES))
 
     def test_informat_d(self):
         labels = {"0": "r", "1": "w", "2": "i"}
@@ -96,12 +105,10 @@ class FromDinero(base.ToolTest):
         self.assertEqual(int(self.run_line("-stat-idcombine")), self.misses_of(LINES))
 
     def test_on_trigger(self):
-        at = LINES.index("0 1fff000558\n")
-        self.assertEqual(self.run_line("-on-trigger"), self.report(LINES[at:]))
+        self.assertEqual(self.run_line("-on-trigger"), self.report(LINES[TRIGGER:]))
 
     def test_off_trigger(self):
-        at = LINES.index("0 1fff000558\n") + 1
-        self.assertEqual(self.run_line("-off-trigger"), self.report(LINES[:at]))
+        self.assertEqual(self.run_line("-off-trigger"), self.report(LINES[:TRIGGER + 1]))
 
     def sent(self, caches):
         """What caches send on, by the model's log."""
