@@ -171,10 +171,10 @@ class Optimal(reading_base.Reading, base.ToolTest):
 
     def test_many_different_blocks(self):
         """More than there is room for at first; addresses at both ends."""
-        text = "".join(f"0 {number * 0xfffffffffff:x}\n" for number in range(1 << 20))
-        rows = self.rows(text.encode() * 2, *"--bsize 1 --sets 1m --assoc 4 --size 4m".split())
-        wanted = Nearest(1, 1 << 20, 4).counts(base.references(text.encode() * 2))
-        self.assertEqual(rows, [(1, 1 << 20, 4, 1 << 22, *wanted)])
+        text = "".join(f"0 {number * 0xfffffffffff:x}\n" for number in range(1 << 18))
+        rows = self.rows(text.encode() * 2, *"--bsize 1 --sets 64k --assoc 3 --size 192k".split())
+        wanted = Nearest(1, 1 << 16, 3).counts(base.references(text.encode() * 2))
+        self.assertEqual(rows, [(1, 1 << 16, 3, 3 << 16, *wanted)])
         text = b"0 0\n1 ffffffffffffffff\n2 0\n0 fffffffffffffff0\n"
         self.assertEqual(self.judge(Belady, text, *"--bsize 1-16 --sets 1 --assoc 1-2 --size "
                                     "0-1m --pow2".split())[-2:], [4, 2])
