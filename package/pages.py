@@ -63,7 +63,8 @@ def of_program(texts, names):
                   lambda code: re.sub(r"(?<!\\)-", r"\\-", code[0]), page, flags=re.S | re.M)
     # no word is cut, and no line is filled with blanks
     page = re.sub(r"^(\.TH .*\n)", r".nr HY 0\n\1.ad l\n", page, count=1, flags=re.M)
-    return page.replace("\\fC", "\\fB")
+    # a pipe in the code of a table has a backslash there, which lowdown keeps
+    return page.replace("\\e|", "|").replace("\\fC", "\\fB")
 
 
 def plain(text):

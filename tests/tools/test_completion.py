@@ -32,6 +32,9 @@ OPTIONS = {
     "cachesim-by-line": f"{DIN} --at --program --base --map --by --heap --evicted-by --callgrind",
     "cachesim-second-level": f"{DIN} --format",
     "cachesim-three-c": SWEEP,
+    "cachesim-optimal": SWEEP,
+    "cachesim-any-index": "-h --help --sets --bsize --assoc --index --kind --format",
+    "cachesim-prefetch": f"{DIN} --buffer --cache --format",
     "cachesim-warm": SWEEP,
     "cachesim-sweep-parallel": f"{SWEEP} --pages",
 }
@@ -215,7 +218,7 @@ class Shells(ToolTest):
             found = re.findall(r"(?m)^(?:\(.*?\)|\*)(--?[\w-]+)[=+]?\[", told)
             self.assertEqual(set(found), set(options.split()))
             self.assertEqual("*:file:_files\n" in told, "-" in command)
-        start = "#compdef cachesim cachesim-best cachesim-by-line cachesim-by-page "
+        start = "#compdef cachesim cachesim-any-index cachesim-best cachesim-by-line "
         self.assertTrue(written("zsh").startswith(start))
         self.assertIn("'1:word:((pin\\:\"Pin", written("zsh"))
 

@@ -40,7 +40,7 @@ PACKAGES = {
     r"tools/plot .*\.html|\.html --": ["python3-plotly"],
     r"\bmlr\b": ["miller"],
     r"\bvalgrind\b|lab-trace": ["valgrind"],
-    r"\bgcc\b|\bcc\b|tools/(trace|to-din|by-line|second-level) ": ["gcc"],
+    r"\bgcc\b|\bcc\b|tools/(trace|to-din|by-line|second-level|optimal) ": ["gcc"],
     r"\bg\+\+": ["g++"],
     r"\bxz": ["xz-utils"],
     r"\bzst": ["zstd"],

@@ -27,6 +27,7 @@ FAKE = {"FAKE_VERSION": "7.2.22", "FAKE_HELP": "-plugin ..", "FAKE_START": "0"}
 # what each tool is given; behind a blank stands what sets a run apart, as that of a stand-in for
 # QEMU. These need Python, a C compiler and bash, ..
 RUNS = {
+    "any-index": ["long.din", *"--bsize 16 --sets 99 --assoc 1-2".split()],
     "best": ["table.csv", "--rows", "999"],
     "by-page": ["long.din", *CACHE],
     "din-table": ["2", "long.din", *CACHE[2:], "-l1-dsize", "128,256"],
@@ -34,8 +35,10 @@ RUNS = {
     "lab/grade-class": ["students/ann", "students/bob", "--trace", "handout.lackey",
                         "--geometry", "1,1,4"],
     "lab/replay": "-s 1 -E 2 -b 4 -t handout.lackey".split(),
+    "optimal": ["long.din", *SPACE],
     "over-time": ["long.din", *CACHE, "--each", "50"],
     "plot": ["table.csv", "-"],
+    "prefetch": ["long.din", *CACHE],
     "second-level": ["long.din", *CACHE],
     "sweep-parallel": ["2", "long.din", *SPACE],
     "three-c": ["long.din", *SPACE],
@@ -237,7 +240,7 @@ class EndedTest(ToolTest):
     @classmethod
     def setUpClass(cls):
         """Each of several processes makes runs, and adopts what these leave behind."""
-        for tool in ("by-line", "second-level", "to-din", "trace"):
+        for tool in ("by-line", "optimal", "second-level", "to-din", "trace"):
             subprocess.run([TOOLS / tool, "--build"], check=True)
         folder = pathlib.Path(tempfile.mkdtemp(prefix="cachesim-ended-"))
         cls.addClassCleanup(shutil.rmtree, folder, ignore_errors=True)

@@ -24,6 +24,7 @@ FAKE = {"FAKE_VERSION": "7.2.22", "FAKE_HELP": "-plugin ..", "FAKE_START": "0"}
 # is behind the start of the code. Behind a blank stands what it is asked for beside its usual work,
 # by options that call other commands. Those that need packages are in test_failures_packages.py
 RUNS = {
+    "any-index": ["INPUT", *"--bsize 16 --sets 3 --assoc 1-2".split()],
     "best": ["table.csv"],
     "by-page": ["INPUT", *CACHE],
     "cluster/submit": ["run", "2", "INPUT", *SPACE],
@@ -31,8 +32,10 @@ RUNS = {
     "lab/grade": ["./csim", "handout.lackey", "--geometry", "1,1,4"],
     "lab/grade-class": ["students/ann", "--trace", "handout.lackey", "--geometry", "1,1,4"],
     "lab/replay": "-s 1 -E 2 -b 4 -t handout.lackey --text".split(),
+    "optimal": ["INPUT", *SPACE],
     "over-time": ["INPUT", *CACHE, "--each", "50"],
     "plot": ["table.csv", "-"],
+    "prefetch": ["INPUT", *CACHE],
     "second-level": ["INPUT", *CACHE],
     "sweep-parallel": ["2", "INPUT", *SPACE],
     "three-c": ["INPUT", *SPACE],
@@ -41,6 +44,7 @@ RUNS = {
     "warm": ["9", "INPUT", *SPACE],
 }
 UNPACKS = [tool for tool, words in RUNS.items() if "INPUT" in words and tool != "cluster/submit"]
+OWN_COMMANDS = "optimal", "second-level", "to-din"  # parts in C
 WRITES_A_TRACE = ("lab/lab-trace", "second-level", "to-din", "trace")
 TO_A_FILE = {"plot page", "plot png"}  # which is all that they write
 OF_VALGRIND = ("lab/lab-trace", "lab/lab-transpose", "trace lackey")  # no room in some limits
@@ -82,7 +86,7 @@ class FailureTest(ToolTest):
         cls.addClassCleanup(shutil.rmtree, cls.place, ignore_errors=True)
         cls.tools, cls.commands, cls.given = (
             cls.place / name for name in ("tools", "commands", "given"))
-        for tool in ("by-line", "second-level", "to-din", "trace"):
+        for tool in ("by-line", "optimal", "second-level", "to-din", "trace"):
             subprocess.run([TOOLS / tool, "--build"], check=True)
         copy_tools(cls.tools, *(path.name for path in TOOLS.iterdir() if path.is_file()))
         for folder in ("cluster", "lab"):
@@ -106,7 +110,7 @@ class FailureTest(ToolTest):
             (cls.system / name).symlink_to(shutil.which(name))
         for name, path in real.items():
             cls.replace(cls.commands / name, path)
-        for name in ("second-level", "to-din"):
+        for name in OWN_COMMANDS:
             cls.replace(cls.tools / "out" / name, TOOLS / "out" / name)
 
         given = cls.given
@@ -250,7 +254,7 @@ class Commands(FailureTest):
         for tool in self.runs:
             whole, calls = self.whole(tool)
             called = {call.rpartition(".")[0] for call in calls}
-            for command in called - {"cachesim", "second-level", "to-din"}:
+            for command in called - {"cachesim", *OWN_COMMANDS}:
                 few = self.folder / f"few {tool} {command}".replace("/", "")
                 few.mkdir()
                 for path in self.commands.iterdir():

@@ -12,12 +12,15 @@ CACHE = "-l1-dsize 128 -l1-dbsize 16 -l1-dassoc 2".split()
 TABLE = "bsize,sets,assoc,size,hits,misses,evictions\n16,1,1,16,5,5,4\n16,1,2,32,6,4,2\n"
 # tools that read a file or standard input, and their words; FILE stands for its name or '-'
 READERS = {
+    "any-index": ("d", ["FILE", *"--bsize 16 --sets 3 --assoc 1-2".split()]),
     "best": (TABLE, ["FILE"]),
     "by-line": ("d", ["FILE", *CACHE]),
     "by-page": ("d", ["FILE", *CACHE]),
     "din-table": ("d", ["2", "FILE", *CACHE[:2], "-l1-dbsize", "16,32"]),
+    "optimal": ("d", ["FILE", *SPACE]),
     "over-time": ("d", ["FILE", *CACHE, "--each", "50"]),
     "plot": (TABLE, ["FILE", "-"]),
+    "prefetch": ("d", ["FILE", *CACHE]),
     "second-level": ("d", ["FILE", *CACHE]),
     "sweep-parallel": ("d", ["2", "FILE", *SPACE]),
     "three-c": ("d", ["FILE", *SPACE]),

@@ -40,7 +40,7 @@ class Page(ToolTest):
         does = "simulates processor caches over a trace of memory references"
         self.assertIn(f'"cachesim - {does}"', named)
         for heading in ("NAME", "SYNOPSIS", "DESCRIPTION", "TRACES", "SWEEP", "CSIM", "DIN", "LOG",
-                        "FAULTS", "EXIT STATUS", "LIMITS", "SEE ALSO"):
+                        "FROM DINERO IV", "FAULTS", "EXIT STATUS", "LIMITS", "SEE ALSO"):
             self.assertIn(heading, lines)
         synopsis = "\n".join(lines[lines.index("SYNOPSIS"):lines.index("DESCRIPTION")])
         for command in ("sweep", "csim", "din", "log"):
@@ -57,7 +57,7 @@ class Page(ToolTest):
         for part in ("2^40", "2^20", "$ cachesim csim -v -s 4 -E 1 -b 4 -t", "--kind",
                      "-l1-uwback"):
             self.assertIn(part, text)
-        for part in ("](", "<#", ".md>", "<!--", "**", "`", "\u2010"):
+        for part in ("](", "<#", ".md>", "<!--", "**", "`", "\u2010", "\\|"):
             self.assertNotIn(part, text)
         # a tool has the name that it is installed with
         manual = (TOP / "docs/manual.md").read_text()

@@ -23,6 +23,9 @@ PAGES = "sweep-parallel", "--pages", "2", *SPACE
 READERS = {
     "three-c": ([], SPACE),
     "warm": (["2"], SPACE),
+    "optimal": ([], SPACE),
+    "any-index": ([], "--bsize 16 --sets 3 --assoc 1-2".split()),
+    "prefetch": ([], CACHE),
     "second-level": ([], CACHE),
     "over-time": ([], [*CACHE, "--each", "2"]),
     "by-page": ([], CACHE),
@@ -32,8 +35,8 @@ READERS = {
     "to-din": (["addresses"], []),
 }
 # those that run the program while they read, and how many processes there are then
-JOINING = {"three-c": 4, "warm": 3, "second-level": 3, "over-time": 2, "by-page": 2,
-           "sweep-parallel": 3, "din-table": 3}
+JOINING = {"three-c": 4, "warm": 3, "second-level": 3, "optimal": 3, "over-time": 2, "by-page": 2,
+           "any-index": 3, "prefetch": 2, "sweep-parallel": 3, "din-table": 3}
 ALL = {**JOINING, "to-din": 2, "by-line": 4}
 TRACES = ("second-level", "to-din")
 LINES = "".join(f"0 {place:x}\n" for place in range(0, 4000, 16)).encode()

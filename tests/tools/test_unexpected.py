@@ -13,6 +13,9 @@ SPACE = "--bsize 16 --sets 1-4 --assoc 1-2 --size 64"
 CACHE = "-l1-dsize 128 -l1-dbsize 16 -l1-dassoc 2"
 # of each tool lines of words, of which N is a number; t.din is a trace, t.csv a table
 NUMBERS = {
+    "any-index": tuple(f"t.din --bsize {words}" for words in (
+        "N --sets 3 --assoc 1", "16 --sets N --assoc 1", "16 --sets 3 --assoc N",
+        "16 --sets 3 --assoc 1 --index N", "16 --sets 3 --assoc 1 --index block%N")),
     "best": ("t.csv --up-to N", "t.csv --rows N", "t.csv --within N", "t.csv --below N",
              "t.csv --miss-cost N", "t.csv --miss-cost 1+N", "t.csv --miss-cost 1+1/N"),
     "by-line": (f"t.din {CACHE.replace('128', 'N')}",
@@ -27,9 +30,12 @@ NUMBERS = {
     "lab/lab-transpose": ("--size NxN t.c", "--seconds N t.c"),
     "lab/replay": ("-s N -E 2 -b 4 -t t.din", "-s 1 -E N -b 4 -t t.din",
                    "-s 1 -E 2 -b N -t t.din", "-s 1 -E 2 -b 4 -t t.din --only N"),
+    "optimal": (f"t.din {SPACE.replace('64', 'N')}",),
     "over-time": (f"t.din {CACHE} --each N",),
     "plot": ("--bsize N t.csv t.svg", "--ways N t.csv t.svg", "--size N t.csv t.svg",
              "--scale N t.csv t.svg", "--miss-cost N t.csv t.svg"),
+    "prefetch": (f"t.din {CACHE} --buffer N", f"t.din {CACHE.replace('128', 'N')}",
+                 "t.din -l1-dsize 128 -l1-dbsize N"),
     "second-level": (f"t.din {CACHE.replace('128', 'N')}",),
     "sweep-parallel": (f"N t.din {SPACE}", f"2 t.din {SPACE.replace('64', 'N')}",
                        f"--pages N {SPACE}"),
@@ -39,11 +45,14 @@ NUMBERS = {
 }
 # the same where TRACE is a file that is not there, or is no trace
 NAMES = {
-    "best": "TRACE", "by-line": f"TRACE {CACHE}", "by-page": f"TRACE {CACHE}",
+    "any-index": "TRACE --bsize 16 --sets 3 --assoc 1", "best": "TRACE",
+    "by-line": f"TRACE {CACHE}", "by-page": f"TRACE {CACHE}",
     "cluster/submit": f"run 2 TRACE {SPACE}", "din-table": f"2 TRACE {CACHE}",
     "lab/grade": "TRACE", "lab/grade-class": "TRACE", "lab/lab-transpose": "TRACE",
-    "lab/replay": "-s 1 -E 2 -b 4 -t TRACE", "over-time": f"TRACE {CACHE} --each 9",
-    "plot": "TRACE t.svg", "second-level": f"TRACE {CACHE}", "sweep-parallel": f"2 TRACE {SPACE}",
+    "lab/replay": "-s 1 -E 2 -b 4 -t TRACE", "optimal": f"TRACE {SPACE}",
+    "over-time": f"TRACE {CACHE} --each 9",
+    "plot": "TRACE t.svg", "prefetch": f"TRACE {CACHE}", "second-level": f"TRACE {CACHE}",
+    "sweep-parallel": f"2 TRACE {SPACE}",
     "three-c": f"TRACE {SPACE}", "to-din": "lackey TRACE", "trace": "-o out ./TRACE",
     "warm": f"9 TRACE {SPACE}",
 }

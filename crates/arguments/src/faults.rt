@@ -14,8 +14,8 @@ pub enum WordsFault {
     /// Memory was refused.
     #[error("out of memory")]
     Memory,
-    /// The arguments are no call of a command, as the text of `clap` says; or help was asked for,
-    /// which is then the text.
+    /// The arguments are no call of a command, as the text of `clap` says, or one about an option
+    /// of Dinero IV; or help was asked for, which is then the text.
     #[error("{text}")]
     Usage { text: String, help: bool },
     /// The value of an option can't be read. The option is named as the tables of options do.

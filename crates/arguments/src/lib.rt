@@ -3,6 +3,7 @@
 
 mod csim_job;
 mod din_job;
+mod dinero;
 pub mod faults;
 pub mod job;
 pub mod laws;

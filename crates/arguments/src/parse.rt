@@ -13,6 +13,7 @@ ghost use Rattle.options.specs.Respell.{respelling_of};
 
 use crate::csim_job::csim_job;
 use crate::din_job::{din_job, log_job};
+use crate::dinero::refusal_text;
 use crate::faults::WordsFault;
 use crate::job::Job;
 use crate::readings::text_at;
@@ -60,7 +61,7 @@ pub fn parse(alloc: Global, arguments: &[String]) -> Result<Command, WordsFault>
     let command = cachesim_command(alloc)?;
     match command.try_get_matches_from(respelled.as_slice()) {
         Ok(matches) => read_command(alloc, &matches),
-        Err(error) => Err(usage_fault(alloc, &error)),
+        Err(error) => Err(usage_fault(alloc, &error, arguments)),
     }
 }
 
@@ -106,8 +107,8 @@ fn file_at(alloc: Global, options: &ArgMatches<'_>) -> Result<Option<String>, Al
     }
 }
 
-/// The fault of an error of `clap`, with its text less the last LF.
-fn usage_fault(alloc: Global, error: &clap::Error) -> WordsFault
+/// The fault of an error of `clap` for these arguments, with its text less the last LF.
+fn usage_fault(alloc: Global, error: &clap::Error, arguments: &[String]) -> WordsFault
     ensures silent { job_fault_of result ≡ None }
     ensures memory { kind_of error.now ≡ ErrorKind.OutOfMemory → usage_of result ≡ None }
     ensures help { IfSome (usage_of result) (λ help. help ≡ is_help (kind_of error.now)) }
@@ -116,7 +117,7 @@ fn usage_fault(alloc: Global, error: &clap::Error) -> WordsFault
     if kind == ErrorKind::OutOfMemory {
         return WordsFault::Memory;
     }
-    match format!(in alloc; "{error}") {
+    match refusal_text(alloc, error, arguments) {
         Ok(mut text) => {
             if text.as_str().ends_with('\n') {
                 let _ = text.pop();
