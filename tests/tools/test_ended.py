@@ -49,6 +49,7 @@ OF_PACKAGES = {
     "lab/lab-trace": ["./program"],
     "lab/lab-transpose": ["--size", "8x8", "trans.c"],
     "plot": ["table.csv", "-"],
+    "profile fake": [*CACHE, "--by", "object", "./program", "many:600000"],
     "trace": ["./program"],
     "trace lackey": ["--with", "lackey", "./program"],
 }
@@ -103,7 +104,7 @@ class Place:
         (folder / f"fake/qemu-{platform.machine()}").symlink_to(fake)
 
     def given(self, tool, private):
-        fake = f"{self.folder}/fake:" if tool == "trace fake" else ""
+        fake = f"{self.folder}/fake:" if tool.endswith(" fake") else ""
         own = {"CACHESIM": PROGRAM, "PATH": f"{fake}{os.environ['PATH']}", "TMPDIR": private}
         env = {**os.environ, **{name: str(value) for name, value in own.items()}, **FAKE}
         return {"cwd": self.folder, "env": env, "stdin": subprocess.DEVNULL,
@@ -238,7 +239,7 @@ class EndedTest(ToolTest):
     @classmethod
     def setUpClass(cls):
         """Each of several processes makes runs, and adopts what these leave behind."""
-        for tool in ("by-line", "second-level", "to-din", "trace"):
+        for tool in ("by-line", "over-time", "second-level", "to-din", "trace"):
             subprocess.run([TOOLS / tool, "--build"], check=True)
         folder = pathlib.Path(tempfile.mkdtemp(prefix="cachesim-ended-"))
         cls.addClassCleanup(shutil.rmtree, folder, ignore_errors=True)

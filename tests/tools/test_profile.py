@@ -69,7 +69,8 @@ class Profile(base.ToolTest):
         self.assertEqual(row["source"], "all += matrix[i][j];")
 
     def test_objects_and_sites(self):
-        self.assertEqual(self.table("--by", "object", "--during", "sum")["matrix"]["misses"], "8192")
+        rows = self.table("--by", "object", "--during", "sum")
+        self.assertEqual(rows["matrix"]["misses"], "8192")
         row = self.table("--by", "site", "--callers", "2", "--from", "main")["columns.c:12"]
         # 10,000 writes and one read, of 1,250 blocks
         self.assertEqual((row["references"], row["compulsory"]), ("10001", "1250"))
@@ -81,9 +82,10 @@ class Profile(base.ToolTest):
         self.assertEqual((ran.stderr, ran.returncode), (b"1\n", 7))
         caches, names, row, rest = ran.stdout.decode().splitlines()
         self.assertEqual(caches, " ".join(CACHE))
-        self.assertEqual(names.split(), "share misses references mostly line function source".split())
+        wanted = "share misses references mostly line function source"
+        self.assertEqual(names.split(), wanted.split())
         self.assertRegex(row, r" *\d+\.\d+ +819[012] +8192 +capacity +columns\.c:8 +sum +all \+= ")
-        self.assertRegex(rest, r"\(and \d+ more rows, with \d+\.\d % of the misses: --rows 0 shows all\)")
+        self.assertRegex(rest, r"\(and \d+ more rows, with \d+\.\d % of the misses: --rows 0 ")
 
     def test_output(self):
         """The table in a file, which is left as it is where the program can't be run. What the
@@ -132,7 +134,7 @@ class Profile(base.ToolTest):
         self.assertEqual([*private.iterdir()], [])
 
     def test_arguments(self):
-        for words, told in (([], "a program is wanted"), (["--rows", "x", "true"], "--rows takes a"),
+        for words, told in (([], "a program is wanted"), (["--rows", "x", "true"], "--rows takes"),
                             (["--bogus=1", "true"], "--bogus is no option")):
             self.refused(self.run_tool("profile", *words), 125, f"profile: {told}")
         program = self.write("program", self.program.read_bytes())

@@ -96,11 +96,13 @@ class Counted(Sharing):
             self.assertEqual(sorted(found), wanted, text)
 
     def test_faults(self):
-        for text in ("0 10\n", "0 10 0\n", "0 10 1 x\n", "x 10 1\n", "0 g 1\n", "\n", "0 10 1 4 5\n",
-                     f"0 {1 << 64:x} 1\n", f"0 10 {1 << 32}\n", "trace: a signal ended it\n"):
-            ran = self.run_tool("by-line", "-", "--shared", *CACHE, stdin=f"0 1 1\n{text}".encode())
+        for text in ("0 10\n", "0 10 0\n", "0 10 1 x\n", "x 10 1\n", "0 g 1\n", "\n",
+                     "0 10 1 4 5\n", f"0 {1 << 64:x} 1\n", f"0 10 {1 << 32}\n",
+                     "trace: a signal ended it\n"):
+            text = f"0 1 1\n{text}".encode()
+            ran = self.run_tool("by-line", "-", "--shared", *CACHE, stdin=text)
             self.refused(ran, 1, "by-line: line 2 is none of `trace --threads`\n")
-        for words, told in ((["--shared", "--evicted-by"], "--shared goes without --evicted-by and"),
+        for words, told in ((["--shared", "--evicted-by"], "--shared goes without --evicted-by"),
                             (["--shared", "-informat", "l"], "--shared is for a din trace"),
                             (["--callers", "2"], "--callers and --skip-site are for --by site"),
                             (["--by", "object", "--source"], "--source is for --by line and --by")):

@@ -15,7 +15,8 @@ static uint64_t lines_read;
 
 static const char *past_number(const char *at, uint32_t *number) {
     uint64_t sum = 0;
-    for (; *at >= '0' && *at <= '9' && sum <= UINT32_MAX; at++) sum = 10 * sum + (uint64_t)(*at - '0');
+    for (; *at >= '0' && *at <= '9' && sum <= UINT32_MAX; at++)
+        sum = 10 * sum + (uint64_t)(*at - '0');
     *number = (uint32_t)sum;
     return sum <= UINT32_MAX ? at : at - 1;
 }
@@ -183,8 +184,9 @@ static void write_shared(void) {
     for (uint32_t i = 0; i < row_numbers.count; i++) {
         const struct row *row = (const struct row *)rows + i;
         uint64_t sharer = sharer_numbers.keys[row_numbers.keys[i] >> 32];
-        printf("shared %lx %lu %lu %u %u %lu %lu %lu %lu\n", shared_numbers.keys[sharer >> 32] << shift,
-               sharer & UINT32_MAX, row_numbers.keys[i] & UINT32_MAX, row->first, row->last,
-               row->reads, row->writes, row->true_misses, row->false_misses);
+        printf("shared %lx %lu %lu %u %u %lu %lu %lu %lu\n",
+               shared_numbers.keys[sharer >> 32] << shift, sharer & UINT32_MAX,
+               row_numbers.keys[i] & UINT32_MAX, row->first, row->last, row->reads, row->writes,
+               row->true_misses, row->false_misses);
     }
 }
