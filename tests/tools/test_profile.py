@@ -80,8 +80,8 @@ class Profile(base.ToolTest):
         """The caches, the first rows, how many more there are, and the program's status."""
         ran = self.profile("--rows", "1", self.program, "7")
         self.assertEqual((ran.stderr, ran.returncode), (b"1\n", 7))
-        caches, names, row, rest = ran.stdout.decode().splitlines()
-        self.assertEqual(caches, " ".join(CACHE))
+        caches, what, names, row, rest = ran.stdout.decode().splitlines()
+        self.assertEqual((caches, what), (" ".join(CACHE), "misses of l1-d:"))
         wanted = "share misses references mostly line function source"
         self.assertEqual(names.split(), wanted.split())
         self.assertRegex(row, r" *\d+\.\d+ +819[012] +8192 +capacity +columns\.c:8 +sum +all \+= ")
@@ -161,12 +161,20 @@ class Machine(base.ToolTest):
         """The first level, and the last one, whose sets become a power of two: 40,960 of 11 ways
         are 28,835,840 bytes, and 32,768 sets of 13 ways the most that is not larger."""
         found = self.found(SHAPES)
-        self.assertEqual([(*one,) for one in found], [
+        self.assertEqual([(*one.simulated(),) for one in found], [
             ("l1-d", 1, 64, 64, 12), ("l1-i", 1, 64, 128, 4), ("l2-u", 3, 64, 32768, 13)])
-        options = " ".join(found[2].options())
+        options = " ".join(found[2].simulated().options())
         self.assertEqual(options, "-l2-ubsize 64 -l2-usets 32768 -l2-uassoc 13")
-        self.assertIn("instead of 40960 sets of 11 ways", found[2].text())
-        self.assertEqual(found[0].text(), "l1-d  48k, 64 sets of 12 ways, 64 bytes  (L1)")
+        self.assertIn("instead of 28160k, 40960 sets of 11 ways", found[2].told())
+        first = "l1-d  48k, 64 sets of 12 ways, blocks of 64 bytes (L1)"
+        self.assertEqual(found[0].told(), first)
+
+    def test_more_lines_than_cachesim_has(self):
+        """480 MiB: as many ways as make up for the sets, then half of these, 240 MiB."""
+        last = self.found([*SHAPES[:1], ("Unified", 3, 64, 491520, 16)])[1]
+        self.assertEqual((*last.simulated(),), ("l2-u", 3, 64, 131072, 30))
+        words = [*last.simulated().options(), "-t", "/dev/null"]
+        self.good(self.run_command(base.PROGRAM, "din", *cache("1k", "64"), *words))
 
     def test_others(self):
         """One level, a unified first one; and none that is told."""

@@ -7,31 +7,39 @@ import os
 from lib import tool
 
 FOLDER = "/sys/devices/system/cpu/cpu0/cache"
+MOST_LINES = 1 << 22  # of a cache of cachesim
 KINDS = {"Data": "d", "Instruction": "i", "Unified": "u"}
 
 
 class Cache(collections.namedtuple("Cache", "name level block sets ways")):
-    """A cache of cachesim, and the level of the machine that it stands for."""
+    """A cache of a machine, by the name that it has in cachesim, and its level there."""
 
     def options(self):
         for what, number in (("bsize", self.block), ("sets", self.sets), ("assoc", self.ways)):
             yield from (f"-{self.name}{what}", str(number))
 
     def text(self):
-        """Its size, ways and sets, and where it has others than the machine, why."""
         size = tool.size_text(self.block * self.sets * self.ways)
-        text = f"{self.name}  {size}, {self.sets} sets of {self.ways} ways, {self.block} bytes"
-        return f"{text}  (L{self.level})"
+        return f"{size}, {self.sets} sets of {self.ways} ways, blocks of {self.block} bytes"
 
+    def simulated(self):
+        """The one that cachesim can have in its place: with the next smaller power of two of sets,
+        and more ways, so that it is as large or nearly, as Cachegrind takes it; with fewer sets
+        where there would be too many lines."""
+        sets = 1 << self.sets.bit_length() - 1
+        ways = self.sets * self.ways // sets
+        while sets * ways > MOST_LINES:
+            sets //= 2
+        return self._replace(sets=sets, ways=ways)
 
-class Rounded(Cache):
-    """One whose number of sets is no power of two on the machine."""
-
-    real_sets = real_ways = 0
-
-    def text(self):
-        return (f"{super().text()}, instead of {self.real_sets} sets of {self.real_ways} ways: "
-                "cachesim takes a power of two")
+    def told(self):
+        """What is simulated, and why, if it is another cache."""
+        taken = self.simulated()
+        line = f"{self.name}  {taken.text()} (L{self.level})"
+        if taken == self:
+            return line
+        return (f"{line},\n      instead of {self.text()}:\n      cachesim takes a power of two "
+                f"of sets, and up to {MOST_LINES:,} lines")
 
 
 def number(folder, name):
@@ -48,17 +56,6 @@ def kind(folder):
             return KINDS.get(file.read().strip(), "")
     except OSError:
         return ""
-
-
-def with_power_of_two(name, level, block, sets, ways):
-    """A cache as large as the machine's, or nearly, with the next smaller power of two of sets and
-    more ways, as Cachegrind takes it."""
-    fewer = 1 << sets.bit_length() - 1
-    if fewer == sets:
-        return Cache(name, level, block, sets, ways)
-    found = Rounded(name, level, block, fewer, sets * ways // fewer)
-    found.real_sets, found.real_ways = sets, ways
-    return found
 
 
 def found_in(folder):
@@ -84,4 +81,4 @@ def caches(folder=FOLDER):
     if not first:
         tool.fail(f"{folder} tells of no cache: give some, such as -l1-dsize 32k -l1-dbsize 64 "
                   "-l1-dassoc 8")
-    return [with_power_of_two(*one) for one in [*first, *last]]
+    return [Cache(*one) for one in [*first, *last]]
