@@ -129,6 +129,35 @@ class Known(HeapTest):
                 others = sum(found.get(name, 0) for name in REGIONS)
                 self.assertEqual(sum(found.values()) - others, self.counted_plainly())
 
+    def test_callers(self):
+        """Alike at all levels of optimization, though it makes calls jumps or inlines them: each
+        function that led to a block, and how often the source refers to this."""
+        source = TRACED / "wrappers.cc"
+
+        def marked(*marks):
+            return " < ".join(site(source, mark) for mark in marks)
+
+        pool = "get", "zeroed", "make"
+        skips = "--skip-site", "pool::*", "--skip-site", "*wrap"
+        for compiler, level in ("g++", "-O0"), ("g++", "-O2"), ("clang++", "-O2"):
+            if not shutil.which(compiler):
+                continue
+            with self.subTest(compiler=compiler, level=level):
+                self.run_traced(program_of(source, "-g", level, compiler=compiler))
+                for options, wanted in (
+                    (["--callers", "9"], {
+                        marked(*pool, "numbers"): 300, marked(*pool, "values"): 200,
+                        marked("wrap", "bytes"): 100}),
+                    ([], {marked("get"): 500, marked("wrap"): 100}),
+                    ([*skips, "--callers", "1"], {
+                        marked("make", "numbers"): 300, marked("make", "values"): 200,
+                        marked("bytes"): 100}),
+                ):
+                    rows = self.table("site", "--heap", "heap", *options)
+                    found = {row["site"]: int(row["references"]) for row in rows
+                             if source.name in row["site"]}
+                    self.assertEqual(found, wanted, options)
+
     def test_by_hand(self):
         """From a line's number on, which is how many references stand before it."""
         self.write("heap.din", "2 400000\n" + "0 500000\n" * 3 + "1 50000f\n" + "0 600000\n" * 4)

@@ -39,9 +39,17 @@ SHAPES = (("Data", 1, 64, 64, 12), ("Instruction", 1, 64, 128, 4), ("Unified", 2
           ("Unified", 3, 64, 40960, 11))
 
 
-def columns():
-    source = trace_base.built() / "columns.c"
-    source.write_text(COLUMNS)
+WAITS = """\
+#include <unistd.h>
+int main(void) {
+    return write(1, "ready\\n", 6) + pause();
+}
+"""
+
+
+def built(name, text):
+    source = trace_base.built() / f"{name}.c"
+    source.write_text(text)
     return program_of(source, "-g")
 
 
@@ -49,7 +57,7 @@ def columns():
 class Profile(base.ToolTest):
     @classmethod
     def setUpClass(cls):
-        cls.program = columns()
+        cls.program = built("columns", COLUMNS)
 
     def profile(self, *words, **given):
         return self.run_tool("profile", *CACHE, *words, **given)
@@ -120,8 +128,7 @@ class Profile(base.ToolTest):
 
     def test_signals(self):
         """One ends the tool and the program; nothing is left."""
-        sleeps = self.executable("sleeps", "echo ready", "sleep 60")
-        words = [base.TOOLS / "profile", *CACHE, sleeps]
+        words = [base.TOOLS / "profile", *CACHE, built("waits", WAITS)]
         private = self.folder / "private"
         private.mkdir()
         given = self.in_folder(TMPDIR=str(private))
@@ -190,7 +197,7 @@ class Piped(ByLineTest):
     """A trace that comes to by-line through a pipe from the run that writes its map."""
 
     def test_same_as_from_files(self):
-        shutil.copy(columns(), self.folder / "program")
+        shutil.copy(built("columns", COLUMNS), self.folder / "program")
         trace = f"PATH={base.TOOLS}:$PATH; trace --program-output none --map m"
         cases = [("", ""), ("--by object", ""), ("--by line,object --source", ""),
                  ("--by site --heap h", "--heap h"), ("--shared", "--threads")]

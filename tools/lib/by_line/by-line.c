@@ -19,8 +19,8 @@
 // PC is '-' before the first fetch, OBJECT counts from 0 or is -1. With a HEAP it goes on with the
 // sites. No answer where a log goes away.
 //
-// The last two are for blocks that threads share (by-line-shared.h). The first writes their numbers,
-// the second reads these from the file BLOCKS and writes, with a line for each cell,
+// The last two are for blocks that threads share (by-line-shared.h). The first writes the numbers
+// of these, the second reads them from the file BLOCKS, and writes, with a line for each cell,
 //
 //     shared BLOCK THREAD CELL FIRST LAST READS WRITES TRUE FALSE
 #define _GNU_SOURCE

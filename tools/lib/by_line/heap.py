@@ -6,7 +6,7 @@ import fnmatch
 import re
 
 from lib import regular, tool
-from lib.by_line import elf
+from lib.by_line import elf, tail_calls
 
 # trace-heap-run.h explains them
 LINE = re.compile(
@@ -68,10 +68,13 @@ class Heap:
 
     def sites(self, layout, asked):
         """The code of each site, and then of those that called it."""
-        # where a caller goes on may be in the next line
-        stacks = [[int(word, 16) - 1 for word in words.split()] for words in self.callers]
-        codes = functions(layout, {address for stack in stacks for address in stack})
         own = layout.files[0].path if layout.files else None
+        of_program = [file for file in layout.files if is_of_program(file.path, own)]
+        stacks = [[int(word, 16) for word in words.split()] for words in self.callers]
+        # where a caller goes on may be in the next line
+        stacks = [[back - 1 for back in stack]
+                  for stack in tail_calls.completed(of_program, stacks)]
+        codes = functions(layout, {address for stack in stacks for address in stack})
         return [*([named(name)] for name in KINDS.values()),
                 *(site([code for at in stack for code in codes.get(at, ())], own, asked)
                   for stack in stacks)]
@@ -96,6 +99,11 @@ def functions(layout, addresses):
     return found
 
 
+def is_of_program(path, own):
+    """Whether a file is the program itself, or a library that is none of the system."""
+    return path == own or not SYSTEM.match(path)
+
+
 def is_skipped(name, asked):
     return any(fnmatch.fnmatchcase(name, pattern) for pattern in asked.skipped)
 
@@ -103,8 +111,7 @@ def is_skipped(name, asked):
 def site(codes, own, asked):
     """Of the functions that led to a block, the innermost one in the program's sources, and if none
     is there, in the program; and then as many of its callers there as are asked for."""
-    of_program = [code for code in codes
-                  if code.function.program == own or not SYSTEM.match(code.function.program)]
+    of_program = [code for code in codes if is_of_program(code.function.program, own)]
     callers = [code for code in of_program if not WRAPPER.match(code.function.name)
                and not is_skipped(code.function.name.partition("(")[0], asked)]
     with_lines = [code for code in callers
