@@ -6,6 +6,7 @@ import shutil
 
 import base
 import trace_base
+from lib.by_line import heap
 from trace_base import TRACED, program_of, symbols_of, within
 
 OPTIONS = "--map", "heap.map", "--heap", "heap", "-o", "heap.din"
@@ -157,6 +158,18 @@ class Known(HeapTest):
                     found = {row["site"]: int(row["references"]) for row in rows
                              if source.name in row["site"]}
                     self.assertEqual(found, wanted, options)
+
+    def test_sources_of_others(self):
+        """What package managers fetch is not the program's own, and what only looks so is."""
+        home = "/home/ann"
+        for path in ("/rust/deps/hashbrown-0.15.2/src/raw/mod.rs", "/usr/include/c++/12/bits/map.h",
+                     f"{home}/.cargo/registry/src/index.crates.io-6f17d22bba15001f/a-1/src/lib.rs",
+                     f"{home}/.conan/data/fmt/1/_/_/package/2/include/fmt.h",
+                     f"{home}/.conan2/p/b/fmt8/p/include/fmt.h", f"{home}/vcpkg/buildtrees/a.c",
+                     f"{home}/own/vcpkg_installed/x64-linux/a.h", "/rustc/9fc6/library/a.rs"):
+            self.assertTrue(heap.FOREIGN.match(path), path)
+        for path in (f"{home}/own/src/main.rs", f"{home}/conan/a.c", f"{home}/rust/deps/a.rs"):
+            self.assertFalse(heap.FOREIGN.match(path), path)
 
     def test_by_hand(self):
         """From a line's number on, which is how many references stand before it."""

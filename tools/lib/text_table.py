@@ -50,7 +50,7 @@ def rest_of(rows):
 def text_table(text, most, width):
     """The text of a table in CSV: at most so many rows, if that is not 0, in lines of at most a
     width, if there is one."""
-    reader = csv.DictReader(text.splitlines())
+    reader = csv.DictReader(text.split("\n"))
     rows, names = list(reader), list(reader.fieldnames or [])
     shown = rows[:most or len(rows)]
     names, cells = columns_of(shown, names)

@@ -143,10 +143,21 @@ static void end_at_count(void) {
 
 // ---- Blocks of references, from QEMU
 
+static char *put_number(char *at, unsigned number) {
+    char digits[10];
+    size_t count = 0;
+    do digits[count++] = (char)('0' + number % 10);
+    while (number /= 10);
+    for (*at++ = ' '; count; count--) *at++ = digits[count - 1];
+    return at;
+}
+
 // Goes on behind a line that has just been put.
 static char *put_thread(char *end, unsigned thread, unsigned bytes) {
-    if (!bytes) return end - 1 + sprintf(end - 1, " %u\n", thread);
-    return end - 1 + sprintf(end - 1, " %u %u\n", thread, bytes);
+    char *at = put_number(end - 1, thread);
+    if (bytes) at = put_number(at, bytes);
+    *at = '\n';
+    return at + 1;
 }
 
 static void write_references(const struct block *block, size_t first, size_t end) {
