@@ -349,7 +349,7 @@ class Faults(ByLineTest):
     def test_faults(self):
         absent, some = "No such file or directory\n", b"0 1\n"
         by = "argument --by: 'lines' is not one or more of line, function and object"
-        empty = "an empty map; if the trace comes through a pipe"
+        empty = "an empty map; it is whole when the run that"
         self.write("empty.map", "")
         self.write("bad.map", "1000-2000 rw-p 00000000 00:00 0\n1000-2000 rw-p\n")
         for words, status, fault, *text in (

@@ -24,12 +24,15 @@ OPTIONS = {
     "cachesim log": f"{DIN} -t",
     "cachesim-best": "-h --help --up-to --within --below --rows --front --measure --miss-cost",
     "cachesim-trace": "-h --help -o --output --program-output --from --to --during --kind --skip "
-    "--count --with --libraries --any-version --map --heap",
+    "--count --with --libraries --any-version --map --heap --threads",
     "cachesim-to-din": "-h --help",
     "cachesim-din-table": DIN,
     "cachesim-over-time": f"{DIN} --each --cache --format",
     "cachesim-by-page": f"{DIN} --page --cache --format",
-    "cachesim-by-line": f"{DIN} --at --program --base --map --by --heap --evicted-by --callgrind",
+    "cachesim-by-line": f"{DIN} --at --program --base --map --by --heap --evicted-by --callgrind "
+    "--callers --skip-site --source --shared",
+    "cachesim-profile": f"{DIN} --at --by --callers --skip-site --evicted-by --shared --callgrind "
+    "--rows --csv -o --output --from --to --during --skip --count --libraries --any-version",
     "cachesim-second-level": f"{DIN} --format",
     "cachesim-three-c": SWEEP,
     "cachesim-optimal": SWEEP,

@@ -51,6 +51,7 @@ OF_PACKAGES = {
     "by-line": ["long.din", *CACHE],
     "lab/lab-trace": ["./program"],
     "lab/lab-transpose": ["--size", "8x8", "trans.c"],
+    "profile fake": [*CACHE, "--by", "object", "./program", "many:600000"],
     "trace": ["./program"],
     "trace lackey": ["--with", "lackey", "./program"],
 }
@@ -105,7 +106,7 @@ class Place:
         (folder / f"fake/qemu-{platform.machine()}").symlink_to(fake)
 
     def given(self, tool, private):
-        fake = f"{self.folder}/fake:" if tool == "trace fake" else ""
+        fake = f"{self.folder}/fake:" if tool.endswith(" fake") else ""
         own = {"CACHESIM": PROGRAM, "PATH": f"{fake}{os.environ['PATH']}", "TMPDIR": private}
         env = {**os.environ, **{name: str(value) for name, value in own.items()}, **FAKE}
         return {"cwd": self.folder, "env": env, "stdin": subprocess.DEVNULL,
@@ -240,7 +241,7 @@ class EndedTest(ToolTest):
     @classmethod
     def setUpClass(cls):
         """Each of several processes makes runs, and adopts what these leave behind."""
-        for tool in ("by-line", "optimal", "second-level", "to-din", "trace"):
+        for tool in ("by-line", "optimal", "over-time", "second-level", "to-din", "trace"):
             subprocess.run([TOOLS / tool, "--build"], check=True)
         folder = pathlib.Path(tempfile.mkdtemp(prefix="cachesim-ended-"))
         cls.addClassCleanup(shutil.rmtree, folder, ignore_errors=True)

@@ -86,14 +86,14 @@ class FailureTest(ToolTest):
         cls.addClassCleanup(shutil.rmtree, cls.place, ignore_errors=True)
         cls.tools, cls.commands, cls.given = (
             cls.place / name for name in ("tools", "commands", "given"))
-        for tool in ("by-line", "optimal", "second-level", "to-din", "trace"):
+        for tool in ("by-line", "optimal", "over-time", "second-level", "to-din", "trace"):
             subprocess.run([TOOLS / tool, "--build"], check=True)
         copy_tools(cls.tools, *(path.name for path in TOOLS.iterdir() if path.is_file()))
         for folder in ("cluster", "lab"):
             shutil.copytree(TOOLS / folder, cls.tools / folder)
         (cls.tools / "out").mkdir()
         # after the end of trace-run nothing is left that could mark the end of the trace
-        for name in ("by-line", "trace-plugin.so", "trace-run", "to-din"):
+        for name in ("by-line", "log-counts", "trace-plugin.so", "trace-run", "to-din"):
             shutil.copy(TOOLS / "out" / name, cls.tools / "out")
         cls.commands.mkdir()
         real = {name: path for name in COMMANDS if (path := shutil.which(name))}

@@ -19,6 +19,7 @@ RUNS = {
                       "--callgrind", "counts"],
     "lab/lab-trace": ["./program"],
     "lab/lab-transpose": ["--size", "8x8", "trans.c"],
+    "profile": [*test_failures.CACHE, "--by", "object", "./program", "2:1", "many:100"],
     "plot png": ["table.csv", "a.png"],
     "plot page": ["table.csv", "a.html"],
     "trace from": ["--from", "main", "./traced", "2:1", "2:MAIN", "many:100"],

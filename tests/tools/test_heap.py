@@ -6,6 +6,7 @@ import shutil
 
 import base
 import trace_base
+from lib.by_line import heap
 from trace_base import TRACED, program_of, symbols_of, within
 
 OPTIONS = "--map", "heap.map", "--heap", "heap", "-o", "heap.din"
@@ -128,6 +129,47 @@ class Known(HeapTest):
                 self.assertEqual(resized, [3 + 3 + 4 + 3, 4 + 9])
                 others = sum(found.get(name, 0) for name in REGIONS)
                 self.assertEqual(sum(found.values()) - others, self.counted_plainly())
+
+    def test_callers(self):
+        """Alike at all levels of optimization, though it makes calls jumps or inlines them: each
+        function that led to a block, and how often the source refers to this."""
+        source = TRACED / "wrappers.cc"
+
+        def marked(*marks):
+            return " < ".join(site(source, mark) for mark in marks)
+
+        pool = "get", "zeroed", "make"
+        skips = "--skip-site", "pool::*", "--skip-site", "*wrap"
+        for compiler, level in ("g++", "-O0"), ("g++", "-O2"), ("clang++", "-O2"):
+            if not shutil.which(compiler):
+                continue
+            with self.subTest(compiler=compiler, level=level):
+                self.run_traced(program_of(source, "-g", level, compiler=compiler))
+                for options, wanted in (
+                    (["--callers", "9"], {
+                        marked(*pool, "numbers"): 300, marked(*pool, "values"): 200,
+                        marked("wrap", "bytes"): 100}),
+                    ([], {marked("get"): 500, marked("wrap"): 100}),
+                    ([*skips, "--callers", "1"], {
+                        marked("make", "numbers"): 300, marked("make", "values"): 200,
+                        marked("bytes"): 100}),
+                ):
+                    rows = self.table("site", "--heap", "heap", *options)
+                    found = {row["site"]: int(row["references"]) for row in rows
+                             if source.name in row["site"]}
+                    self.assertEqual(found, wanted, options)
+
+    def test_sources_of_others(self):
+        """What package managers fetch is not the program's own, and what only looks so is."""
+        home = "/home/ann"
+        for path in ("/rust/deps/hashbrown-0.15.2/src/raw/mod.rs", "/usr/include/c++/12/bits/map.h",
+                     f"{home}/.cargo/registry/src/index.crates.io-6f17d22bba15001f/a-1/src/lib.rs",
+                     f"{home}/.conan/data/fmt/1/_/_/package/2/include/fmt.h",
+                     f"{home}/.conan2/p/b/fmt8/p/include/fmt.h", f"{home}/vcpkg/buildtrees/a.c",
+                     f"{home}/own/vcpkg_installed/x64-linux/a.h", "/rustc/9fc6/library/a.rs"):
+            self.assertTrue(heap.FOREIGN.match(path), path)
+        for path in (f"{home}/own/src/main.rs", f"{home}/conan/a.c", f"{home}/rust/deps/a.rs"):
+            self.assertFalse(heap.FOREIGN.match(path), path)
 
     def test_by_hand(self):
         """From a line's number on, which is how many references stand before it."""

@@ -186,7 +186,7 @@ class OfTrace(InputTest):
         self.spared("-o input --kind x", "--kind is u, d or i")
         self.spared("--output=input --bogus=1", "--bogus is no option")
         self.spared("-o input --with lackey --map m", "--from, --to, --during, --libraries, "
-                    "--any-version and --map are for QEMU")
+                    "--any-version, --map and --threads are for QEMU")
 
 
 @needs("binutils", "llvm")

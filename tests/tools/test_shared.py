@@ -35,7 +35,7 @@ READERS = {
     "to-din": (["addresses"], []),
 }
 # those that run the program while they read, and how many processes there are then
-JOINING = {"three-c": 4, "warm": 3, "second-level": 3, "optimal": 3, "over-time": 2, "by-page": 2,
+JOINING = {"three-c": 4, "warm": 3, "second-level": 3, "optimal": 3, "over-time": 3, "by-page": 3,
            "any-index": 3, "prefetch": 2, "sweep-parallel": 3, "din-table": 3}
 ALL = {**JOINING, "to-din": 2, "by-line": 4}
 TRACES = ("second-level", "to-din")

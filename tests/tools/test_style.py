@@ -10,7 +10,9 @@ import unittest
 import base
 
 # they pass on the status of the program that they trace
-WRONG_ARGUMENTS = {"trace": 125, "lab/lab-trace": 125}
+WRONG_ARGUMENTS = {"profile": 125, "trace": 125, "lab/lab-trace": 125}
+# they read what they need at once, whatever they are asked for
+READ_ALL = "by-line", "profile"
 # modules that take a millisecond or several to read
 SLOW = set("concurrent.futures csv ctypes dataclasses decimal fractions html importlib inspect "
            "json locale pathlib random shutil statistics subprocess tempfile threading "
@@ -119,7 +121,7 @@ class Pythons(base.ToolTest):
                 line = rf"\A{path.name}: Python 3\.9 or later is needed, and .* is 3\.8\n\Z"
                 self.assertRegex(told, line)
                 is_trace = path.name in ("lab-trace", "second-level", "to-din", "trace")
-                status = 125 if path.name in ("lab-trace", "trace") else 1
+                status = 125 if path.name in ("lab-trace", "profile", "trace") else 1
                 self.ends(ran, status, told, told * is_trace)
 
 
@@ -136,6 +138,8 @@ class Beginnings(base.ToolTest):
     def test_help_and_wrong_arguments(self):
         for path in filter(lambda path: path.startswith(f"{base.TOOLS}/"), tools()):
             name = os.path.relpath(path, base.TOOLS)
+            if name in READ_ALL:
+                continue
             for option, status in ("--help", 0), ("--no-such", WRONG_ARGUMENTS.get(name, 2)):
                 with self.subTest(tool=name, option=option):
                     self.assertEqual(self.slow(status, path, option), set())

@@ -19,6 +19,8 @@ import sys  # noqa: E402
 NAME = os.path.basename(sys.argv[0])
 # what ends a tool without a word that its reader waits for ends its trace in no line of one
 WRITES_A_TRACE = NAME.replace("cachesim-", "") in ("lab-trace", "second-level", "to-din", "trace")
+# the status of a fault: of those that end with the status of a program 125
+OWN_FAULT = 125 if NAME.endswith(("trace", "profile")) else 1
 # the signals that end a process, except for faults of its own, those that Python ignores, and what
 # no process can heed
 STOPS = set(range(1, _signal.NSIG)) - {
@@ -63,7 +65,7 @@ def last_fault(kind, fault, trace):
     else:
         sys.__excepthook__(kind, fault, trace)
         return
-    end_early(text, 125 if NAME.endswith("trace") else 1)
+    end_early(text, OWN_FAULT)
 
 
 def stop_early(number, _):
@@ -77,7 +79,7 @@ def stop_early(number, _):
 
 if sys.version_info < (3, 9):
     end_early("Python 3.9 or later is needed, and /usr/bin/python3 is %d.%d"
-              % sys.version_info[:2], 125 if NAME.endswith("trace") else 1)
+              % sys.version_info[:2], OWN_FAULT)
 sys.excepthook = last_fault
 if "LC_CTYPE" in os.environ:
     # in the locale C Python sets it for itself, but what it starts must have the user's own

@@ -2,7 +2,8 @@
 #include <stdint.h>
 #include <string.h>
 
-enum { LONGEST_LINE = sizeof "0 0123456789abcdef" };
+// with the number of a thread and of bytes, which trace-run.c may put behind it
+enum { LONGEST_LINE = sizeof "0 0123456789abcdef 4294967295 128" };
 static char three_digits[4096][4];  // of each number below 4096, and a byte of no use
 
 // Before the first line.

@@ -131,6 +131,20 @@ def emptied(descriptor):
     return descriptor
 
 
+@contextlib.contextmanager
+def private_folder():
+    """A folder of the tool's own, which is removed with all that is in it. For that it keeps some
+    descriptors, since there may be no others."""
+    from tempfile import TemporaryDirectory
+    kept = [os.open(os.devnull, os.O_RDONLY) for _ in range(3)]
+    with TemporaryDirectory(prefix="cachesim-") as folder:
+        try:
+            yield folder
+        finally:
+            for each in kept:
+                os.close(each)
+
+
 # ---- Traces
 
 class Output:

@@ -1,4 +1,4 @@
-"""What the tools that filter `cachesim log` share: their arguments, and the log in pieces."""
+"""What the tools that read `cachesim log` share: their arguments, and what reads and counts it."""
 
 import os
 import re
@@ -7,8 +7,6 @@ import sys
 from lib import files, processes, streams, tool
 
 ROOM = 1 << 20  # the bytes that the log may be ahead
-NO_OUTCOME = bytes(set(range(256)) - set(b"Whm\n"))
-TO_LETTERS = bytes.maketrans(b"10", b"hm")
 HELPS = {"{caches}": """\
 TRACE is a file, which may end in .gz, .xz or .zst, or - for standard input.
 It is read once. The OPTIONs are those of
@@ -64,37 +62,51 @@ class Logging(processes.Process):
         return "\n".join(line for line in lines if not line.endswith(": write failed"))
 
 
+class Counter(processes.Process):
+    """What reads the log and counts. Its faults are the tool's own."""
+
+    def fault(self, code):
+        if code != 1 or not self.message():
+            return super().fault(code)
+        return processes.Fault(f"{tool.NAME}: {self.message().rpartition(': ')[2]}")
+
+
 def over(trace, options, take):
-    """Has `take` called with each piece of the log, of whole lines. A fault ends the tool."""
+    """Has `take` called with the group of its processes and the log's descriptor. A fault ends the
+    tool."""
     streams.keep_places()
     program = tool.find_cachesim()
     with processes.Group() as group:
         source, unpacker = group.start_source(trace)
         logging = group.start(Logging, program, options, source, ends=(source,))
-        take(logging.pipe)
+        take(group, logging.pipe)
         logging.wait()
         if unpacker:
             unpacker.wait()
 
 
-def pieces(source, least=0):
-    """What is read from a descriptor, in pieces of whole lines, each of so many bytes or more."""
-    held, length = [], 0
+def pieces(source):
+    """What is read from a descriptor, in pieces of whole lines."""
+    held = b""
     while piece := os.read(source, 1 << 18):
-        held.append(piece)
-        length += len(piece)
-        if length < least or b"\n" not in piece:
-            continue
-        whole, feed, rest = b"".join(held).rpartition(b"\n")
-        yield whole + feed
-        held, length = [rest], len(rest)
-    if length:
-        yield b"".join(held)
+        whole, feed, held = (held + piece).rpartition(b"\n")
+        if feed:
+            yield whole + feed
+    if held:
+        yield held
 
 
-def outcomes(text, cache):
-    """Of each reference that came to a cache, whose name begins so, h or m. Its lines get a mark,
-    and of all lines but this and the letters h and m nothing is left: Wh is a hit, Wm a miss."""
-    text = (b"\n" + text).replace(b"flush", b"").replace(b"\n" + cache.encode(), b"\nW")
-    text = text.translate(None, NO_OUTCOME)
-    return text.replace(b"Wh", b"1").replace(b"Wm", b"0").translate(TO_LETTERS, b"hmW\n")
+def counts(binary, trace, options, *asked):
+    """What the log of a trace has, as out/log-counts counts it: rows of words."""
+    counters = []
+
+    def take(group, log):
+        words = ["log-counts", *map(str, asked)]
+        counters.append(group.start(Counter, words, log, path=binary, ends=(log,)))
+        counters[0].wait()
+
+    over(trace, options, take)
+    *rows, end = counters[0].text.decode("ascii").splitlines() or [""]
+    if end != "end":
+        tool.fail("the log can't be counted")
+    return [row.split() for row in rows]

@@ -9,12 +9,14 @@
 // ever. fork has a child that ends. ignore lets SIGTERM do nothing. The program's code starts at
 // FAKE_START.
 #include <dlfcn.h>
+#include <fcntl.h>
 #include <signal.h>
 #include <stdbool.h>
 #include <stdint.h>
 #include <stdio.h>
 #include <stdlib.h>
 #include <string.h>
+#include <sys/mman.h>
 #include <unistd.h>
 
 typedef void translated(uint64_t, void *), executed(unsigned, void *), ended(uint64_t, void *);
@@ -55,6 +57,7 @@ void *qemu_plugin_tb_get_insn(void *block, size_t at) { return at ? NULL : block
 uint64_t qemu_plugin_insn_vaddr(const void *instruction) { return instruction ? address : 0; }
 void *qemu_plugin_insn_haddr(const void *at) { return (void *)(at ? address : 0); }
 bool qemu_plugin_mem_is_store(uint32_t access) { return access >> 16 & 2; }
+unsigned qemu_plugin_mem_size_shift(uint32_t access) { return access & 3; }
 #ifndef WITHOUT_START
 uint64_t qemu_plugin_start_code(void) { return strtoull(getenv("FAKE_START"), NULL, 16); }
 #endif
@@ -108,6 +111,13 @@ static int load(char *words) {
     return *version != 1 || start(1, NULL, count, arguments);
 }
 
+// Has the program's file where a map shows it.
+static void map_program(const char *name) {
+    int file = open(name, O_RDONLY);
+    mmap(NULL, 1, PROT_READ, MAP_PRIVATE, file, 0);
+    close(file);
+}
+
 int main(int count, char **words) {
     const char *version = "qemu-x86_64 version %s (Debian)\nCopyright\n";
     if (!strcmp(words[1], "--version")) return !printf(version, getenv("FAKE_VERSION"));
@@ -115,6 +125,7 @@ int main(int count, char **words) {
     if (strcmp(words[1], "-plugin") || load(words[2])) return 1;
     int at = 3;
     while (at < count && words[at][0] == '-') at += 2;  // the program's name and others
+    map_program(words[at]);
     for (at++; at < count; at++) step(words[at]);
     call();
     on_end(1, NULL);

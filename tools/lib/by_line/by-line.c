@@ -1,6 +1,8 @@
 // Counts the references that arrive at a cache by program counter and object, for by-line.
 //
 //     by-line FORMAT TAKEN PLACE SHIFT OBJECTS HEAP TO LOG [TO FULL] < TRACE
+//     by-line blocks SHIFT < TRACE
+//     by-line shared SHIFT OBJECTS HEAP BLOCKS < TRACE
 //
 // It hands the trace out to each descriptor TO, where `cachesim log` reads it: LOG has what this
 // writes, and FULL the same with a fully associative LRU cache at the PLACE. FORMAT is d or l, and
@@ -16,69 +18,24 @@
 //
 // PC is '-' before the first fetch, OBJECT counts from 0 or is -1. With a HEAP it goes on with the
 // sites. No answer where a log goes away.
+//
+// The last two are for blocks that threads share (by-line-shared.h). The first writes the numbers
+// of these, the second reads them from the file BLOCKS, and writes, with a line for each cell,
+//
+//     shared BLOCK THREAD CELL FIRST LAST READS WRITES TRUE FALSE
 #define _GNU_SOURCE
-#include <err.h>
 #include <errno.h>
 #include <fcntl.h>
 #include <poll.h>
 #include <signal.h>
-#include <stdbool.h>
-#include <stdint.h>
 #include <stdio.h>
-#include <stdlib.h>
-#include <string.h>
 #include <time.h>
 #include <unistd.h>
-#include "../hexadecimal.h"
+#include "../lines.h"
+#include "../log-line.h"
+#include "../numbers.h"
 
 enum { FAILED = 1, ROOM = 1 << 18, PIPE = 1 << 20 };
-
-static void *grown(void *memory, size_t size) {
-    void *larger = realloc(memory, size);
-    if (!larger) errx(FAILED, "too little memory");
-    return larger;
-}
-
-// ---- Numbers from 0 on for different keys, in the order in which the keys come
-
-struct numbers {
-    uint64_t *keys;   // by number
-    uint32_t *slots;  // a number and 1, or 0; a power of two of them, of which half may be used
-    uint32_t count, room;
-};
-
-static uint32_t slot_of(const struct numbers *numbers, uint64_t key) {
-    uint64_t mixed = (key ^ key >> 32) * UINT64_C(0x9e3779b97f4a7c15);
-    uint32_t slot = (uint32_t)(mixed >> 32) & (numbers->room - 1);
-    while (numbers->slots[slot] && numbers->keys[numbers->slots[slot] - 1] != key)
-        slot = (slot + 1) & (numbers->room - 1);
-    return slot;
-}
-
-static void make_room(struct numbers *numbers) {
-    if (numbers->room == UINT32_C(1) << 31) errx(FAILED, "too many different blocks");
-    numbers->room = numbers->room ? 2 * numbers->room : 1024;
-    numbers->keys = grown(numbers->keys, numbers->room / 2 * sizeof *numbers->keys);
-    free(numbers->slots);
-    numbers->slots = calloc(numbers->room, sizeof *numbers->slots);
-    if (!numbers->slots) errx(FAILED, "too little memory");
-    for (uint32_t number = 0; number < numbers->count; number++)
-        numbers->slots[slot_of(numbers, numbers->keys[number])] = number + 1;
-}
-
-// The number of a key; for a new one `*values` gets a zero of this size, and room where needed.
-static uint32_t number_of(struct numbers *numbers, uint64_t key, void **values, size_t size) {
-    uint32_t slot = numbers->room ? slot_of(numbers, key) : 0;
-    if (numbers->room && numbers->slots[slot]) return numbers->slots[slot] - 1;
-    if (numbers->count >= numbers->room / 2) {
-        make_room(numbers);
-        *values = grown(*values, numbers->room / 2 * size);
-        slot = slot_of(numbers, key);
-    }
-    memset((char *)*values + numbers->count * size, 0, size);
-    numbers->keys[numbers->count] = key;
-    return (numbers->slots[slot] = ++numbers->count) - 1;
-}
 
 // ---- Objects
 
@@ -221,54 +178,46 @@ static void meet(bool is_full, struct reference one) {
 
 #include "by-line-trace.h"
 
+static unsigned shift;
+
+#include "by-line-shared.h"
+
 // ---- The lines of a log
 
 static const char *place;
-static unsigned shift;
-static int log_count;
 
 // Takes what arrives at the place for a reference to `wanted`.
-static void take_arrival(bool is_full, const char *outcome, uint64_t address, uint64_t wanted) {
-    uint64_t evicted;
-    bool misses = *outcome == 'm', is_first = false;
+static void take_arrival(bool is_full, const struct log_line *line, uint64_t wanted) {
+    bool is_first = false;
     if (is_full) {
-        meet(true, (struct reference){address, 0, 0, misses});
+        meet(true, (struct reference){line->address, 0, 0, line->misses});
         return;
     }
     uint32_t cell = cell_at(wanted);
     cell_of(cell)->references++;
-    if (misses) is_first = count_miss(cell, address >> shift);
-    if (misses && outcome[4] == ' ') {
-        past_hexadecimal(outcome + sizeof "miss eviction", &evicted);
-        block_at(evicted >> shift)->evicted = cell + 1;
-    }
+    if (line->misses) is_first = count_miss(cell, line->address >> shift);
+    if (line->evicts) block_at(line->evicted >> shift)->evicted = cell + 1;
     // what misses in the fully associative cache counts there, also where this one hits
-    if (log_count > 1) meet(false, (struct reference){address, cell, 0, !is_first});
-    else if (misses && !is_first) cell_of(cell)->capacity++;
+    if (log_count > 1) meet(false, (struct reference){line->address, cell, 0, !is_first});
+    else if (line->misses && !is_first) cell_of(cell)->capacity++;
 }
 
-// Takes a line, and returns the next one. Of each reference one line, in their order, is of the
-// first level or bypasses it. What the second level reads for it has the address of a whole block;
-// what it writes, by a write-through or a copy-back, has its own.
-static const char *take_line(bool is_full, const char *line) {
+// Takes a line. Of each reference one line, in their order, is of the first level or bypasses it.
+// What the second level reads for it has the address of a whole block; what it writes, by a
+// write-through or a copy-back, has its own.
+static void take_line(bool is_full, const struct log_line *line) {
     static uint64_t wanted;  // the address of the reference
-    uint64_t address;
-    bool is_here = !memcmp(line, place, 4);
-    bool is_first_level = !is_full && (*line == 'b' || line[1] == '1');
-    const char *at = line + (*line == 'b' ? sizeof "bypassed" : sizeof "l1-d");
-    if (is_here && *at == 'f') {
-        flushes += !is_full;
-    } else if (is_here || (is_first_level && *at != 'f')) {
-        bool is_write = *at == '1';
-        at = past_hexadecimal(at + 2, &address) + 1;
-        if (is_first_level) {
-            struct reference one = popped(&handed, address);
-            counter = one.number, wanted = address;
-            apply_up_to(one.events);
-        }
-        if (is_here) take_arrival(is_full, at, address, is_write ? address : wanted);
+    bool is_here = is_at(line, place);
+    if (line->is_flush) {
+        flushes += is_here && !is_full;
+        return;
     }
-    return (const char *)rawmemchr(at - 1, '\n') + 1;
+    if (!is_full && (is_at(line, "l1-") || is_at(line, "bypassed"))) {
+        struct reference one = popped(&handed, line->address);
+        counter = one.number, wanted = line->address;
+        apply_up_to(one.events);
+    }
+    if (is_here) take_arrival(is_full, line, line->is_write ? line->address : wanted);
 }
 
 static void read_log(struct log *log) {
@@ -278,8 +227,8 @@ static void read_log(struct log *log) {
     if (got <= 0) return;
     log->used += (size_t)got;
     const char *line = log->text, *last = memrchr(log->text, '\n', log->used);
-    if (!last) return;
-    while (line <= last) line = take_line(log == &logs[1], line);
+    for (struct log_line one; last && line <= last; take_line(log == &logs[1], &one))
+        line = read_log_line(line, &one);
     log->used -= (size_t)(line - log->text);
     memmove(log->text, line, log->used);
 }
@@ -332,7 +281,7 @@ static void work(void) {
 
 // ---- The whole
 
-static void write_answer(void) {
+static void write_cells(void) {
     for (uint32_t i = 0; i < cell_numbers.count; i++) {
         const struct cell *cell = cell_of(i);
         uint32_t own = (uint32_t)(cell_numbers.keys[i] >> 32);
@@ -341,30 +290,59 @@ static void write_answer(void) {
         printf(" %d %lu %lu %lu %lu\n", (int)(uint32_t)cell_numbers.keys[i] - 1, cell->references,
                cell->misses, cell->compulsory, cell->capacity);
     }
+}
+
+static void write_evictions(void) {
     for (uint32_t i = 0; i < pair_numbers.count; i++)
         printf("evicted %lu %lu %lu\n", pair_numbers.keys[i] >> 32,
                pair_numbers.keys[i] & UINT32_MAX, ((uint64_t *)pairs)[i]);
+}
+
+static void end_answer(void) {
     puts("end");
     if (fflush(stdout) || ferror(stdout)) err(FAILED, "the counts can't be written");
 }
 
-int main(int count, char **words) {
-    if (count < 9) errx(FAILED, "this is the inner half of by-line");
-    signal(SIGPIPE, SIG_IGN);
-    is_lackey = *words[1] == 'l';
-    takes_data = *words[2] != 'i', takes_fetches = *words[2] != 'd';
-    place = words[3];
-    shift = (unsigned)atoi(words[4]);
-    read_objects(words[5]);
-    read_heap(words[6]);
-    for (char **word = words + 7; word < words + count; word += 2)
+// words: SHIFT OBJECTS HEAP BLOCKS
+static void count_sharing(char **words) {
+    shift = (unsigned)atoi(words[0]);
+    read_objects(words[1]);
+    read_heap(words[2]);
+    read_shared(words[3]);
+    take_lines(share_line);
+    compare_ends();
+    write_cells();
+    write_shared();
+}
+
+// words: FORMAT TAKEN PLACE SHIFT OBJECTS HEAP TO LOG [TO FULL]
+static void count_misses(char **words, int count) {
+    is_lackey = *words[0] == 'l';
+    takes_data = *words[1] != 'i', takes_fetches = *words[1] != 'd';
+    place = words[2];
+    shift = (unsigned)atoi(words[3]);
+    read_objects(words[4]);
+    read_heap(words[5]);
+    for (char **word = words + 6; word < words + count; word += 2)
         take_log(&logs[log_count++], word[0], word[1]);
-    // number 0, with an address of no instruction
-    number_of_counter(fetched);
     widen(STDIN_FILENO);
     atexit(clear_progress);
     work();
     compare_ends();
-    write_answer();
+    write_cells();
+    write_evictions();
+}
+
+int main(int count, char **words) {
+    bool is_first_pass = count == 3 && !strcmp(words[1], "blocks");
+    bool is_second_pass = count == 6 && !strcmp(words[1], "shared");
+    if (!is_first_pass && !is_second_pass && count < 9)
+        errx(FAILED, "this is the inner half of by-line");
+    signal(SIGPIPE, SIG_IGN);
+    number_of_counter(fetched);  // number 0, with an address of no instruction
+    if (is_first_pass) shift = (unsigned)atoi(words[2]), find_shared();
+    else if (is_second_pass) count_sharing(words + 2);
+    else count_misses(words + 1, count - 1);
+    end_answer();
     return 0;
 }

@@ -204,8 +204,8 @@ class Layout:
         found = [MAPPING.fullmatch(line.rstrip("\n"))
                  for line in io.TextIOWrapper(text, **ANY_TEXT)]
         if not found:  # as `trace` leaves it while the program runs
-            tool.fail(f"{map_file}: an empty map; if the trace comes through a pipe from the run"
-                      " that writes it, trace into a file")
+            tool.fail(f"{map_file}: an empty map; it is whole when the run that writes it has"
+                      " ended")
         for number, mapping in enumerate(found, 1):
             if not mapping:
                 tool.fail(f"{map_file}: line {number} is none of a map")

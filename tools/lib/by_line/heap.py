@@ -2,24 +2,26 @@
 place of the program that allocates, or memory of a kind."""
 
 import array
+import fnmatch
 import re
 
 from lib import regular, tool
-from lib.by_line import elf
+from lib.by_line import elf, tail_calls
 
 # trace-heap-run.h explains them
 LINE = re.compile(
     rb"([0-9a-f]{1,16}) (?:end|([-+<>mstu]) ([0-9a-f]{1,12})((?: [0-9a-f]{1,16})*))\n")
-LONGEST_LINE = 512  # of an address has up to 17 letters, and there are 16 frames
+LONGEST_LINE = 1024  # an address has up to 17 letters, and there are 32 frames
 # by the letter of their lines; a block that is freed is the allocator's, as that of 'm'
 KINDS = {b"u": "(other)", b"m": "(malloc)", b"s": "(thread stacks)", b"t": "(thread-local)"}
 OTHER, MALLOC, TOP = 0, 1, 1 << 48
-# libraries, sources and functions that are no places of the program's own
+# libraries, sources and functions that are no places of the program's own: those of the system, of
+# compilers, and of what package managers fetch (Cargo, Conan, vcpkg)
 SYSTEM = re.compile("(/usr)?/lib")
-FOREIGN = re.compile(r"/(usr/(include|lib|src)|rustc)/|library/|"
-                     r".*/(include/c\+\+|rustlib|\.cargo)/")
+FOREIGN = re.compile(r"/(usr/(include|lib|src)|rustc|rust/deps)/|library/|"
+                     r".*/(include/c\+\+|rustlib|\.cargo|\.conan2?|vcpkg|vcpkg_installed)/")
 WRAPPER = re.compile(r"\w*(malloc|calloc|realloc|zalloc|memalign|strdup|memdup)\w*($|\()|"
-                     r"operator new|__(rust|rdl)_|<?(\w+ )?(std|__gnu_cxx|alloc|core)::")
+                     r"operator new|__(rust|rdl)_|<?(\w+ )?(std|__gnu_cxx|alloc|core|hashbrown)::")
 
 
 class Heap:
@@ -64,14 +66,17 @@ class Heap:
         if start in self.blocks:
             self.events.extend((at, start, self.blocks.pop(start), MALLOC))
 
-    def sites(self, layout):
-        """The code of each site."""
-        # where a caller goes on may be in the next line
-        stacks = [[int(word, 16) - 1 for word in words.split()] for words in self.callers]
-        codes = functions(layout, {address for stack in stacks for address in stack})
+    def sites(self, layout, asked):
+        """The code of each site, and then of those that called it."""
         own = layout.files[0].path if layout.files else None
-        return [*map(named, KINDS.values()),
-                *(site([code for at in stack for code in codes.get(at, ())], own)
+        of_program = [file for file in layout.files if is_of_program(file.path, own)]
+        stacks = [[int(word, 16) for word in words.split()] for words in self.callers]
+        # where a caller goes on may be in the next line
+        stacks = [[back - 1 for back in stack]
+                  for stack in tail_calls.completed(of_program, stacks)]
+        codes = functions(layout, {address for stack in stacks for address in stack})
+        return [*([named(name)] for name in KINDS.values()),
+                *(site([code for at in stack for code in codes.get(at, ())], own, asked)
                   for stack in stacks)]
 
 
@@ -94,13 +99,26 @@ def functions(layout, addresses):
     return found
 
 
-def site(codes, own):
+def is_of_program(path, own):
+    """Whether a file is the program itself, or a library that is none of the system."""
+    return path == own or not SYSTEM.match(path)
+
+
+def is_skipped(name, asked):
+    return any(fnmatch.fnmatchcase(name, pattern) for pattern in asked.skipped)
+
+
+def site(codes, own, asked):
     """Of the functions that led to a block, the innermost one in the program's sources, and if none
-    is there, in the program."""
-    of_program = [code for code in codes
-                  if code.function.program == own or not SYSTEM.match(code.function.program)]
-    callers = [code for code in of_program if not WRAPPER.match(code.function.name)]
+    is there, in the program; and then as many of its callers there as are asked for."""
+    of_program = [code for code in codes if is_of_program(code.function.program, own)]
+    callers = [code for code in of_program if not WRAPPER.match(code.function.name)
+               and not is_skipped(code.function.name.partition("(")[0], asked)]
     with_lines = [code for code in callers
-                  if code.lines[0].file and not FOREIGN.match(code.lines[0].file)]
+                  if code.lines[0].file and not FOREIGN.match(code.lines[0].file)
+                  and not is_skipped(code.lines[0].file, asked)]
     nothing = elf.Code(elf.Function("?"), [elf.Line()])
-    return (with_lines or callers or of_program or codes or [nothing])[0]
+    found = with_lines or callers or of_program or codes or [nothing]
+    # one that calls itself is there once
+    different = [code for at, code in enumerate(found) if at == 0 or code != found[at - 1]]
+    return different[:1 + asked.callers]

@@ -5,18 +5,21 @@ from lib.by_line import binutils, elf
 
 import collections
 import csv
+import functools
 import io
 import os
 
 COUNTS = ("references", "misses", "compulsory", "capacity", "conflict")
 HEADERS = {"line": ["line", "inlined"], "site": ["site", "site-function"]}
+SHARING = "first-byte", "last-byte", "reads", "writes", "true-sharing", "false-sharing"
 MOST_INLINED = 8
 LARGEST_SOURCE = 64 << 20
 NO_FETCH = elf.Code(elf.Function("(no fetch before it)", is_one=False), [elf.Line()])
 
 
-class Cell(collections.namedtuple("Cell", "code object counts site", defaults=(None,))):
-    """What was counted for an instruction and an object, or for a site of the heap."""
+class Cell(collections.namedtuple("Cell", "code object counts site", defaults=((),))):
+    """What was counted for an instruction and an object, or for a site of the heap, which is the
+    code that allocates, and then that of its callers."""
 
 
 class Names:
@@ -24,7 +27,7 @@ class Names:
     from others; of functions of one name each has that of its file behind it, or of its program."""
 
     def __init__(self, cells):
-        codes = [code for cell in cells for code in (cell.code, cell.site) if code]
+        codes = [code for cell in cells for code in (cell.code, *cell.site)]
         functions = {code.function for code in codes}
         paths = {line.file for code in codes for line in code.lines if line.file}
         paths |= {function.file for function in functions if function.file}
@@ -77,9 +80,10 @@ class Names:
         line, inlined, function = self.place(cell.code)
         texts = {"line": [line, inlined], "function": [function], "object": [cell.object]}
         if "site" in by:
-            line, _, function = self.place(cell.site) if cell.site else (cell.object, "", "")
-            is_one = cell.site and cell.site.function.is_one
-            texts["site"] = [line, function if is_one else ""]
+            places = [self.place(code) for code in cell.site] or [(cell.object, "", "")]
+            is_one = cell.site and cell.site[0].function.is_one
+            texts["site"] = [" < ".join(line for line, _, _ in places),
+                             " < ".join(name for _, _, name in places) if is_one else ""]
         return tuple(text for key in by for text in texts[key])
 
 
@@ -87,10 +91,10 @@ def header(by):
     return [text for key in by for text in HEADERS.get(key, [key])]
 
 
-def read_counts(text, objects, layout, heap):
+def read_counts(asked, text, objects, layout, heap):
     """The cells, and for each two their misses of blocks that the second had evicted."""
-    sites = heap.sites(layout) if heap else []
-    sites = [None] * len(objects) + sites + [None]
+    sites = heap.sites(layout, asked) if heap else []
+    sites = [()] * len(objects) + sites + [()]
     objects = [place.name for place in objects] + ["(heap)"] * (len(sites) - len(objects))
     rows = [line.split() for line in text.splitlines()]
     if not rows or rows.pop() != ["end"]:
@@ -122,14 +126,34 @@ def sums(pairs):
     return found
 
 
+@functools.cache
+def source_lines(path):
+    try:
+        text = regular.read(path, LARGEST_SOURCE)
+    except OSError:
+        return []
+    return text.decode(errors="replace").split("\n")
+
+
+def source_of(cell, by):
+    """The text of a row's line, or else of its site's."""
+    codes = [cell.code] if "line" in by else cell.site
+    line = codes[0].lines[0] if codes else elf.Line()
+    lines = source_lines(line.file) if line.file else []
+    is_there = 0 < line.number <= len(lines)
+    return tool.visible(lines[line.number - 1].strip()) if is_there else ""
+
+
 def table(asked, cells):
     """The rows of the table, the most misses first."""
     names, share = Names(cells), shares(cells)
+    sources = {names.columns(cell, asked.by): source_of(cell, asked.by)
+               for cell in cells} if asked.source else {}
     rows = sums((names.columns(cell, asked.by), cell.counts) for cell in cells)
-    yield [*header(asked.by), *COUNTS, "share"]
+    yield [*header(asked.by), *COUNTS, "share", *["source"] * asked.source]
     for key, counts in sorted(rows.items(), key=lambda row: (-row[1][1], row[0])):
         shown = counts[:3] + ["", ""] if asked.only_compulsory else counts
-        yield [*key, *shown, share(counts[1])]
+        yield [*key, *shown, share(counts[1]), *[sources.get(key)] * asked.source]
 
 
 def table_of_evictions(asked, cells, pairs):
@@ -139,6 +163,29 @@ def table_of_evictions(asked, cells, pairs):
     yield [*columns, *(f"evicted-by-{column}" for column in columns), "misses", "share"]
     for key, (misses,) in sorted(rows.items(), key=lambda row: (-row[1][0], row[0])):
         yield [*key, misses, share(misses)]
+
+
+def table_of_sharing(asked, cells, text):
+    """A row for what each thread does with each shared block, the blocks with the most misses by
+    sharing first."""
+    names, rows, totals = Names(cells), {}, collections.Counter()
+    for line in text.splitlines():
+        word, *numbers = line.split()
+        if word != "shared":
+            continue
+        block, (thread, number, *counted) = int(numbers[0], 16), map(int, numbers[1:])
+        cell = cells[number]
+        source = [source_of(cell, asked.by)] if asked.source else []
+        key = block, thread, names.columns(cell, asked.by), *source
+        first, last, *counts = counted
+        old = rows.get(key, (first, last, 0, 0, 0, 0))
+        rows[key] = (min(first, old[0]), max(last, old[1]), *map(sum, zip(counts, old[2:])))
+        totals[block] += counts[2] + counts[3]
+    yield ["block", "thread", *header(asked.by), *SHARING, *["source"] * asked.source]
+    for key, counts in sorted(rows.items(), key=lambda row: (
+            -totals[row[0][0]], row[0][0], -row[1][4] - row[1][5], row[0])):
+        block, thread, columns, *source = key
+        yield [f"{block:x}", thread, *columns, *counts, *source]
 
 
 def in_callgrind_format(asked, cells):
@@ -215,7 +262,7 @@ def lines_of(rows):
 
 
 def report(asked, text, objects, layout, heap):
-    cells, pairs = read_counts(text, objects, layout, heap)
+    cells, pairs = read_counts(asked, text, objects, layout, heap)
     asked.spare({line.file for cell in cells for line in cell.code.lines if line.file})
     if asked.callgrind:
         # a pipe that nobody reads is a fault, so that the tool doesn't wait
@@ -228,7 +275,9 @@ def report(asked, text, objects, layout, heap):
         warn_of_unknown(cells)
     if asked.callgrind or "line" in asked.by:
         warn_of_lines(cells)
-    if asked.evicted_by:
+    if asked.shared:
+        lines = lines_of(table_of_sharing(asked, cells, text))
+    elif asked.evicted_by:
         lines = lines_of(table_of_evictions(asked, cells, pairs))
     else:
         lines = lines_of(table(asked, cells))

@@ -2,7 +2,7 @@
 // has, of which QEMU lets the plugin know. It has a kind and up to three numbers.
 #include <stdint.h>
 
-enum { HEAP_CALL = 0x63616368, FRAMES = 16 };
+enum { HEAP_CALL = 0x63616368, FRAMES = 32 };
 enum heap_kind {
     CODE,   // where the library's code begins and ends
     LOCAL,  // the first thread's own data: address, size; whether the program calls the library

@@ -10,20 +10,23 @@
 #include <stdint.h>
 
 // LAYOUT changes with this file, so that halves compiled from different ones don't meet.
-enum { LAYOUT = 5, BLOCKS = 64, REFERENCES = 4096 };
+enum { LAYOUT = 6, BLOCKS = 64, REFERENCES = 4096 };
 
 // references of one thread, in their order
 struct block {
     _Atomic uint32_t used;
+    uint32_t thread;  // its number, from 1 on, in the order in which they begin
     // as in a din line: 0 a read, 1 a write, 2 a fetch; others of what befell the heap, where the
     // address is how many words of this follow
     char label[REFERENCES];
     uint64_t address[REFERENCES];
+    uint8_t bytes[REFERENCES];  // that a data reference has, where threads are told apart
 };
 
 struct memory {
     uint32_t layout;
     char kind;                    // which references: u all, d data, i fetches
+    bool threads;                 // are told apart, and how many bytes a reference has
     _Atomic bool loaded;          // the plugin is there
     _Atomic bool ran;             // the program's code was seen
     _Atomic bool began;           // so did the trace

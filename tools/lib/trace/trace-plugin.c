@@ -48,6 +48,7 @@ void *qemu_plugin_insn_haddr(const struct qemu_plugin_insn *);
 __attribute__((weak)) size_t qemu_plugin_insn_size(const struct qemu_plugin_insn *);
 __attribute__((weak)) char *qemu_plugin_insn_disas(const struct qemu_plugin_insn *);
 bool qemu_plugin_mem_is_store(uint32_t access);
+unsigned qemu_plugin_mem_size_shift(uint32_t access);
 // from QEMU 7.1 on; it knows an answer while code is translated
 __attribute__((weak)) uint64_t qemu_plugin_start_code(void);
 
@@ -59,6 +60,7 @@ __attribute__((constructor)) static void choose_version(void) {
 }
 
 static struct memory *memory;
+static bool tells_bytes;
 
 // ---- The part of the run that is traced, from one function to another
 
@@ -141,6 +143,8 @@ static void hand_over(void) {
 }
 
 static struct block *next_block(void) {
+    static _Atomic uint32_t threads;
+    static __thread uint32_t thread;
     hand_over();
     if (left_out) return NULL;
     while (sem_wait(&memory->empty)) continue;  // a signal came
@@ -148,13 +152,15 @@ static struct block *next_block(void) {
     int number = __builtin_ctzll(atomic_load(&memory->empty_ones));
     atomic_fetch_and(&memory->empty_ones, ~(UINT64_C(1) << number));
     pthread_mutex_unlock(&lock);
+    if (!thread) thread = ++threads;
+    memory->blocks[number].thread = thread;
     return mine = &memory->blocks[number];
 }
 
 // whether what runs is trace-heap.c's business, and no reference
 static __thread bool is_quiet __attribute__((tls_model("initial-exec")));
 
-static inline void put(char label, uint64_t address) {
+static inline void put(char label, uint64_t address, uint8_t bytes) {
     if (!atomic_load_explicit(&in_part, memory_order_relaxed) && !depth) return;
     if (is_quiet) return;
     struct block *block = mine;
@@ -164,6 +170,7 @@ static inline void put(char label, uint64_t address) {
     uint32_t at = atomic_load_explicit(&block->used, memory_order_relaxed);
     block->label[at] = label;
     block->address[at] = address;
+    block->bytes[at] = bytes;
     atomic_store_explicit(&block->used, at + 1, memory_order_release);
 }
 
@@ -237,7 +244,7 @@ enum { TOGETHER = 128 };
 static void on_fetch(unsigned cpu, void *address) {
     if (mine && atomic_load_explicit(&mine->used, memory_order_relaxed) > REFERENCES - TOGETHER)
         hand_over();
-    put('2', (uintptr_t)address);
+    put('2', (uintptr_t)address, 0);
 }
 
 // The way of an access stands above its lowest 16 bits. An atomic instruction is one access in both
@@ -246,8 +253,9 @@ static void on_fetch(unsigned cpu, void *address) {
 static enum way way_of(uint32_t access) { return access >> 16 & BOTH; }
 
 static void on_data(unsigned cpu, uint32_t access, uint64_t address, void *own) {
-    if (way_of(access) & READ) put('0', address);
-    if (way_of(access) & WRITE) put('1', address);
+    uint8_t bytes = tells_bytes ? (uint8_t)(1 << qemu_plugin_mem_size_shift(access)) : 0;
+    if (way_of(access) & READ) put('0', address, bytes);
+    if (way_of(access) & WRITE) put('1', address, bytes);
 }
 
 static void on_translation(plugin_id id, struct qemu_plugin_tb *block) {
@@ -316,6 +324,7 @@ EXPORTED int qemu_plugin_install(plugin_id id, const struct qemu_info *info, int
     memory = mmap(NULL, sizeof *memory, PROT_READ | PROT_WRITE, MAP_SHARED, descriptor, 0);
     if (memory == MAP_FAILED) return refuse("no shared memory");
     close(descriptor);
+    tells_bytes = memory->threads;
     if (memory->layout != LAYOUT)
         return refuse("not compiled together with trace-run: remove both from the folder out");
     uint32_t store = WRITE << 16;

@@ -5,7 +5,8 @@
 //
 // The first takes them from trace-plugin.c, by a memory that both share, the second as din lines
 // from the descriptor IN. The trace goes to the descriptor FD; NAME is for messages. SKIP
-// references of the KIND are omitted, and the program is ended after COUNT more; a COUNT of 0 means
+// references of the KIND, with a t behind it where each line gets its thread's number and a data
+// reference its bytes, are omitted, and the program is ended after COUNT more; a COUNT of 0 means
 // no limit. FROM is the function with which the trace begins, for messages. HEAP is a descriptor
 // for what befalls the heap, or ''. OUT is one that only the tracer is to keep, for the child
 // CONVERTER of this process, which writes the lines. It ends with the program's status, 128 and its
@@ -34,6 +35,7 @@ static sem_t ends;                          // of these processes, for who waits
 
 static const char *trace_name;
 static char kind;
+static bool threads;          // are told apart
 static uint64_t skip, count;  // how many references are still to be left out, and to be written
 static bool skips;            // some were to be left out
 static bool wrote;            // a reference was not
@@ -141,12 +143,31 @@ static void end_at_count(void) {
 
 // ---- Blocks of references, from QEMU
 
+static char *put_number(char *at, unsigned number) {
+    char digits[10];
+    size_t count = 0;
+    do digits[count++] = (char)('0' + number % 10);
+    while (number /= 10);
+    for (*at++ = ' '; count; count--) *at++ = digits[count - 1];
+    return at;
+}
+
+// Goes on behind a line that has just been put.
+static char *put_thread(char *end, unsigned thread, unsigned bytes) {
+    char *at = put_number(end - 1, thread);
+    if (bytes) at = put_number(at, bytes);
+    *at = '\n';
+    return at + 1;
+}
+
 static void write_references(const struct block *block, size_t first, size_t end) {
     size_t from, to;
     choose(end - first, &from, &to);
     char *at = output.text + output.used;
-    for (size_t i = first + from; i < first + to; i++)
+    for (size_t i = first + from; i < first + to; i++) {
         at = put_line(at, block->label[i], block->address[i]);
+        if (threads) at = put_thread(at, block->thread, block->bytes[i]);
+    }
     output.used = (size_t)(at - output.text);
     end_at_count();
 }
@@ -190,6 +211,7 @@ static int share_memory(void) {
     if (memory == MAP_FAILED) fail(OWN_FAULT, "no memory to share");
     memory->layout = LAYOUT;
     memory->kind = kind;
+    memory->threads = threads;
     memory->empty_ones = UINT64_MAX;
     sem_init(&memory->full, 1, 0);
     sem_init(&memory->empty, 1, BLOCKS);
@@ -411,7 +433,8 @@ int main(int words_count, char **words) {
     signal(SIGXFSZ, SIG_IGN);  // and so it is here
     begin_output(atoi(words[1]));
     trace_name = words[2];
-    kind = *words[3];
+    kind = words[3][0];
+    threads = words[3][1] == 't';
     skip = strtoull(words[4], NULL, 10);
     skips = skip > 0;
     count = strtoull(words[5], NULL, 10);

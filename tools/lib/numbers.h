@@ -1,0 +1,51 @@
+// Numbers from 0 on for different keys, in the order in which the keys come. It ends the program
+// where memory is refused.
+#include <err.h>
+#include <stdint.h>
+#include <stdlib.h>
+#include <string.h>
+
+struct numbers {
+    uint64_t *keys;   // by number
+    uint32_t *slots;  // a number and 1, or 0; a power of two of them, of which half may be used
+    uint32_t count, room;
+};
+
+static void *grown(void *memory, size_t size) {
+    void *larger = realloc(memory, size);
+    if (!larger) errx(EXIT_FAILURE, "too little memory");
+    return larger;
+}
+
+static uint32_t slot_of(const struct numbers *numbers, uint64_t key) {
+    uint64_t mixed = (key ^ key >> 32) * UINT64_C(0x9e3779b97f4a7c15);
+    uint32_t slot = (uint32_t)(mixed >> 32) & (numbers->room - 1);
+    while (numbers->slots[slot] && numbers->keys[numbers->slots[slot] - 1] != key)
+        slot = (slot + 1) & (numbers->room - 1);
+    return slot;
+}
+
+static void make_room(struct numbers *numbers) {
+    if (numbers->room == UINT32_C(1) << 31) errx(EXIT_FAILURE, "too many different addresses");
+    numbers->room = numbers->room ? 2 * numbers->room : 1024;
+    numbers->keys = grown(numbers->keys, numbers->room / 2 * sizeof *numbers->keys);
+    free(numbers->slots);
+    numbers->slots = calloc(numbers->room, sizeof *numbers->slots);
+    if (!numbers->slots) errx(EXIT_FAILURE, "too little memory");
+    for (uint32_t number = 0; number < numbers->count; number++)
+        numbers->slots[slot_of(numbers, numbers->keys[number])] = number + 1;
+}
+
+// The number of a key; for a new one `*values` gets a zero of this size, and room where needed.
+static uint32_t number_of(struct numbers *numbers, uint64_t key, void **values, size_t size) {
+    uint32_t slot = numbers->room ? slot_of(numbers, key) : 0;
+    if (numbers->room && numbers->slots[slot]) return numbers->slots[slot] - 1;
+    if (numbers->count >= numbers->room / 2) {
+        make_room(numbers);
+        *values = grown(*values, numbers->room / 2 * size);
+        slot = slot_of(numbers, key);
+    }
+    memset((char *)*values + numbers->count * size, 0, size);
+    numbers->keys[numbers->count] = key;
+    return (numbers->slots[slot] = ++numbers->count) - 1;
+}
