@@ -1,0 +1,42 @@
+-- References that change nothing but the number of those found in front. Such a reference changes
+-- nothing in each profile that refines this one, either (set refinement: Hill and Smith 1989).
+use Rattle.std.specs.Prelude.{ℕ, ◌≡◌, ◌==◌, ◌&&◌, ◌||◌, not, true, Bool, if◌then◌else◌, List, []}
+use Rattle.std.specs.Prelude.{◌∷◌, slice_index, fold}
+use Rattle.trace_core.specs.declared.events.Ref.{Ref}
+use Rattle.trace_core.specs.Events.{is_write}
+use Rattle.cache_core.specs.Geometry.{GeometryValue, IsGeometry, block_of, set_of}
+use Rattle.trace_core.specs.declared.events.Event.{Event}
+use Rattle.profile_core.specs.internal.profile.Fronts.{is_front_of, after_fronts, is_refined}
+use Rattle.full_profile.specs.State.{FullState, after_full_reference, cleans_of, full_after}
+
+-- whether a reference finds its block in front, and does not write it, or finds it dirty in all
+-- caches
+abbrev pub is_settled : FullState → Ref → Bool
+is_settled v r = is_front_of v.plain (block_of v.plain.geometry r.addr)
+    && (not (is_write r.access)
+    || slice_index (cleans_of v (set_of v.plain.geometry r.addr)) 0 == 0)
+
+-- after a reference, or the same profile if the reference is settled
+abbrev pub after_unless_settled : FullState → Ref → FullState
+after_unless_settled v r = if is_settled v r then v else after_full_reference v r
+
+-- after some references, except those that are settled
+abbrev pub after_full_batch : FullState → List Ref → FullState
+after_full_batch v refs = fold after_unless_settled v refs
+
+-- those of some references that are not settled
+abbrev pub unsettled : FullState → List Ref → List Ref
+unsettled v [] = []
+unsettled v (r ∷ refs) =
+    let later = unsettled (after_unless_settled v r) refs in
+    if is_settled v r then later else r ∷ later
+
+-- after n references that were settled
+abbrev pub after_settled : ℕ → FullState → FullState
+after_settled n v = record v { plain = after_fronts n v.plain }
+
+-- what is settled in one profile is settled in each that refines it, if both were fed the same
+abbrev pub SettledLaw : Type 0
+SettledLaw = (g h : GeometryValue) (es : List Event) (r : Ref) → IsGeometry g → IsGeometry h →
+    is_refined g h ≡ true → is_settled (full_after g es) r ≡ true →
+    is_settled (full_after h es) r ≡ true

@@ -1,0 +1,3 @@
+pub mod LookBack
+pub mod State
+pub mod Batches
