@@ -1,13 +1,17 @@
 -- References that change nothing but the number of those found in front. Such a reference changes
 -- nothing in each profile that refines this one, either (set refinement: Hill and Smith 1989).
-use Rattle.std.specs.Prelude.{ℕ, ◌≡◌, ◌==◌, ◌&&◌, ◌||◌, not, true, Bool, if◌then◌else◌, List, []}
-use Rattle.std.specs.Prelude.{◌∷◌, slice_index, fold}
+use Rattle.std.specs.Prelude.{ℕ, ◌≡◌, ◌+◌, ◌^◌, ◌==◌, ◌&&◌, ◌||◌, not, true, Bool}
+use Rattle.std.specs.Prelude.{if◌then◌else◌, List, [], ◌∷◌, length, slice_index, fold}
+use Rattle.trace_core.specs.declared.events.Access.{Access}
 use Rattle.trace_core.specs.declared.events.Ref.{Ref}
 use Rattle.trace_core.specs.Events.{is_write}
 use Rattle.cache_core.specs.Geometry.{GeometryValue, IsGeometry, block_of, set_of}
 use Rattle.trace_core.specs.declared.events.Event.{Event}
+use Rattle.profile_core.specs.internal.profile.State.{list_of}
 use Rattle.profile_core.specs.internal.profile.Fronts.{is_front_of, after_fronts, is_refined}
-use Rattle.full_profile.specs.State.{FullState, after_full_reference, cleans_of, full_after}
+use Rattle.profile_core.specs.internal.profile.Fronts.{IsFit}
+use Rattle.full_profile.specs.State.{FullState, after_full_reference, cleans_of, kind_of}
+use Rattle.full_profile.specs.State.{full_after}
 
 -- whether a reference finds its block in front, and does not write it, or finds it dirty in all
 -- caches
@@ -40,3 +44,14 @@ abbrev pub SettledLaw : Type 0
 SettledLaw = (g h : GeometryValue) (es : List Event) (r : Ref) → IsGeometry g → IsGeometry h →
     is_refined g h ≡ true → is_settled (full_after g es) r ≡ true →
     is_settled (full_after h es) r ≡ true
+
+-- the lengths of a full profile's lists and histograms: each list of clean depths is as long as its
+-- list of blocks
+pub record IsFitFull (v : FullState) : Type 0 where
+  pub plain : IsFit v.plain
+  pub set_count : length v.cleans ≡ 2 ^ v.plain.geometry.s
+  pub alike : (k : ℕ) → length (cleans_of v k) ≡ length (list_of v.plain k)
+  pub kind_count : length v.kinds ≡ 3
+  pub behind_count : (access : Access) → length (kind_of v access).behind ≡ v.plain.geometry.e
+  pub above_count : length v.copied_above ≡ v.plain.geometry.e + 1
+  pub up_to_count : length v.copied_up_to ≡ v.plain.geometry.e + 1

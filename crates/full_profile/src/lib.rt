@@ -3,5 +3,6 @@
 #![tactic(auto)]
 
 pub mod counts;
+pub mod laws;
 
 pub use counts::FullCounts;
