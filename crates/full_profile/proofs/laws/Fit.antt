@@ -3,12 +3,14 @@ use Rattle.std.proofs.Common.{◌≡◌, ℕ, zero, suc, ◌+◌, ◌-◌, ◌<�
 use Rattle.std.proofs.Common.{eqb, List, [], fold}
 use Rattle.std.proofs.Common.{◌∷◌, ◌++◌, length, take, drop, get_or, set, refl, sym, ◌∙◌, ap, subst}
 use Rattle.std.proofs.Common.{arith, ⊎_elim, get_or-set_same, get_or-set_other, length-set}
-use Rattle.std.proofs.Common.{length-take, length-append, length-drop, replicate}
+use Rattle.std.proofs.Common.{length-take, length-append, length-drop, replicate, append-nil}
+use Rattle.std.proofs.Common.{append_assoc}
 use Rattle.std.specs.List.{remove, sum_by}
 use Rattle.std.proofs.lemmas.Bool.{ltb-true}
 use Rattle.std.proofs.lemmas.Bool.Decides.{nat_tests}
 use Rattle.std.proofs.lemmas.Grind.{get_or-set_at}
 use Rattle.std.proofs.lemmas.List.{length-replicate}
+use Rattle.std.proofs.lemmas.List.Sums.{fold_push}
 use Rattle.trace_core.specs.declared.events.Access.{Access}
 use Rattle.trace_core.specs.declared.events.Access.TheVariants.{Fetch, Read, Write}
 use Rattle.trace_core.specs.declared.events.Ref.{Ref}
@@ -21,7 +23,7 @@ use Rattle.profile_core.specs.internal.profile.State.{ProfileState, empty, list_
 use Rattle.profile_core.specs.internal.profile.State.{one_more_at}
 use Rattle.profile_core.specs.internal.profile.ProfileStandsFor.{ProfileStandsFor}
 use Rattle.profile_core.proofs.profile.Fronts.{fit_of}
-use Rattle.profile_core.proofs.profile.Runs.{event_stands}
+use Rattle.profile_core.proofs.profile.Runs.{event_stands, geometry_after}
 use Rattle.profile_core.proofs.profile.Stands.{new_stands}
 use Rattle.full_profile.specs.State.{FullState, KindState, empty_kind, empty_full, after_copies}
 use Rattle.full_profile.specs.State.{after_full_event, after_full_reference, full_after, cleans_of}
@@ -242,3 +244,24 @@ fed_event es v e h = record {
       (event_stands es v.plain e h.plain);
   fit = fit_event es v e h.plain h.fit;
 }
+
+-- what holds of no events, and of one more where it holds of some
+pub each_event : (P : List Event → Type 0) → P [] →
+    ((es : List Event) (e : Event) → P es → P (es ++ e ∷ [])) → (es : List Event) → P es
+each_event P none more es = with_more [] es none
+  where
+    with_more : (before es : List Event) → P before → P (before ++ es)
+    with_more before [] h = subst P (sym (append-nil before)) h
+    with_more before (e ∷ es) h =
+        subst P (append_assoc before (e ∷ []) es) (with_more (before ++ e ∷ []) es (more before e h))
+
+pub after_more : (g : GeometryValue) (es : List Event) (e : Event) →
+    full_after g (es ++ e ∷ []) ≡ after_full_event (full_after g es) e
+after_more g es e = fold_push after_full_event (empty_full g) es e
+
+pub fed_after : (g : GeometryValue) (es : List Event) → IsGeometry g → IsFed es (full_after g es)
+fed_after g es is = each_event (λ xs. IsFed xs (full_after g xs)) (fed_new g is)
+    (λ xs e h. subst (IsFed (xs ++ e ∷ [])) (sym (after_more g xs e)) (fed_event xs _ e h)) es
+
+pub geometry_stays : (g : GeometryValue) (es : List Event) → (full_after g es).plain.geometry ≡ g
+geometry_stays g es = ap (λ p. p.geometry) (plain_part g es) ∙ geometry_after es (empty g)
