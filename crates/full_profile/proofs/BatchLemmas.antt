@@ -1,16 +1,21 @@
 -- References that are settled can be counted later.
 use Rattle.std.proofs.Common.{◌≡◌, ℕ, ◌+◌, ◌-◌, ◌≤◌, ◌<◌, Bool, true, false, cond, List, [], ◌∷◌, ◌++◌}
 use Rattle.std.proofs.Common.{refl, sym, ap, ap₂, ◌∙◌, arith, length, get_or, ltb, eqb, map, subst}
-use Rattle.std.proofs.Common.{append-nil, append_assoc, fold, replicate, ◌^◌}
+use Rattle.std.proofs.Common.{append-nil, append_assoc, fold, replicate, ◌^◌, zero, suc, not, ◌||◌}
+use Rattle.std.proofs.Common.{take, ⊎_elim, get_or-set_same}
+use Rattle.std.proofs.lemmas.Bool.{and_parts, and_from, or_cases, or_left, or_right, eqb-true, eq-eqb, cond-true}
+use Rattle.std.proofs.lemmas.Bool.{both_ways}
+use Rattle.std.proofs.lemmas.Nat.{mod_below, pow_pos}
+use Rattle.trace_core.specs.Events.{is_write}
 use Rattle.trace_core.specs.declared.events.Ref.{Ref}
 use Rattle.trace_core.specs.declared.events.Event.{Event}
 use Rattle.trace_core.specs.declared.events.Event.TheVariants as event
 use Rattle.cache_core.specs.Geometry.{GeometryValue, IsGeometry, block_of, set_of_block}
 use Rattle.cache_core.proofs.Lists.{cases}
-use Rattle.profile_core.specs.internal.set_lists.Moves.{index_of, is_in}
+use Rattle.profile_core.specs.internal.set_lists.Moves.{index_of, is_in, is_front}
 use Rattle.profile_core.specs.internal.profile.State.{ProfileState, fed_of, list_of, one_more_at}
 use Rattle.profile_core.specs.internal.profile.State.{after_reference, after_flush}
-use Rattle.profile_core.specs.internal.profile.Fronts.{is_refined, after_fronts}
+use Rattle.profile_core.specs.internal.profile.Fronts.{is_refined, after_fronts, is_front_of}
 use Rattle.profile_core.proofs.profile.Fronts.{fronts_fronts, fronts_none, reference_fronts}
 use Rattle.profile_core.proofs.profile.Fronts.{reference_fed, fit_behind}
 use Rattle.full_profile.specs.State.{FullState, after_full_reference, after_copies, after_evictions}
@@ -143,17 +148,17 @@ abbrev pub as_events : List Ref → List Event
 as_events refs = map event.Reference refs
 
 -- many references more
-pub fed_batch : {n : ℕ} {es : List Event} {v : FullState} → WasFed n es v → (refs : List Ref) →
+pub fed_batch : (refs : List Ref) {n : ℕ} {es : List Event} {v : FullState} → WasFed n es v →
     WasFed (n + length refs) (es ++ as_events refs) (after_full_batch v refs)
-fed_batch {n} {es} {v} h [] =
+fed_batch [] {n} {es} {v} h =
     subst (λ l. WasFed (n + 0) l v) (sym (append-nil es))
     (subst (λ m. WasFed m es v) {x = n} {y = n + 0} (omega arith) h)
-fed_batch {n} {es} {v} h (r ∷ refs) =
+fed_batch (r ∷ refs) {n} {es} {v} h =
     subst (λ l. WasFed (n + length (r ∷ refs)) l (after_full_batch v (r ∷ refs)))
     (append_assoc es (event.Reference r ∷ []) (as_events refs))
     (subst (λ m. WasFed m ((es ++ event.Reference r ∷ []) ++ as_events refs)
     (after_full_batch v (r ∷ refs))) {x = n + 1 + length refs} {y = n + length (r ∷ refs)}
-    (omega arith) (fed_batch (fed_reference h r) refs))
+    (omega arith) (fed_batch refs (fed_reference h r)))
 
 -- a flush
 list_settled : (n : ℕ) (up_to : ℕ → ℕ) (index : ℕ) (cleans : List ℕ) (v : FullState) →
@@ -177,7 +182,7 @@ lists_settled n up_to (cleans ∷ lists) v =
 emptying_settled : (n : ℕ) (up_to : ℕ → ℕ) (v : FullState) →
     after_emptying up_to (after_settled n v) ≡ after_settled n (after_emptying up_to v)
 emptying_settled n up_to v =
-    ap (λ w. record w {
+    ap {A = FullState} {B = FullState} (λ w. record w {
       plain = after_fronts n (after_flush v.plain);
       cleans = replicate (2 ^ v.plain.geometry.s) [];
     }) (lists_settled n up_to v.cleans v)
@@ -232,3 +237,70 @@ enough (r ∷ refs) {n} {es} {v} {w} hv hw refined =
     (λ f is. (rest.0,
     ap (λ l. cond (is_settled w r) l (r ∷ l)) rest.1))
     refl
+
+-- A reference to the block of the one before changes nothing, unless it alone writes.
+front_taken : (depth x : ℕ) (ys : List ℕ) → 1 ≤ depth → is_front x (take depth (x ∷ ys)) ≡ true
+front_taken zero x ys some = absurd (omega (arith, some))
+front_taken (suc depth) x ys some = eq-eqb x x refl
+
+first_taken : (depth c : ℕ) (cs : List ℕ) → 1 ≤ depth → get_or (take depth (c ∷ cs)) 0 0 ≡ c
+first_taken zero c cs some = absurd (omega (arith, some))
+first_taken (suc depth) c cs some = refl
+
+module _ (v : FullState) (a r : Ref) (fit : IsFitFull v)
+    (same : block_of v.plain.geometry a.addr ≡ block_of v.plain.geometry r.addr)
+    (harmless : (not (is_write r.access) || is_write a.access) ≡ true) where
+  abbrev block : ℕ
+  block = block_of v.plain.geometry a.addr
+
+  abbrev set_there : ℕ
+  set_there = set_of_block v.plain.geometry block
+
+  inside : set_there < 2 ^ v.plain.geometry.s
+  inside = mod_below block (2 ^ v.plain.geometry.s) (pow_pos v.plain.geometry.s)
+
+  front_after : is_front_of (after_full_reference v a).plain block ≡ true
+  front_after =
+      ap (is_front block) (get_or-set_same v.plain.lists set_there _ []
+      (subst (λ n. set_there < n) (sym fit.plain.set_count) inside))
+      ∙ front_taken v.plain.geometry.e block _ fit.plain.some
+
+  clean_after : is_write a.access ≡ true →
+      get_or (cleans_of (after_full_reference v a) set_there) 0 0 ≡ 0
+  clean_after writes =
+      ap (λ cs. get_or cs 0 0) (get_or-set_same v.cleans set_there _ []
+      (subst (λ n. set_there < n) (sym fit.set_count) inside))
+      ∙ first_taken v.plain.geometry.e _ _ fit.plain.some
+      ∙ cond-true (is_write a.access) _ _ writes
+
+  -- in a state where the block is in front, and dirty if the first reference wrote it
+  settled_if : (w : FullState) → w.plain.geometry ≡ v.plain.geometry →
+      is_front_of w.plain block ≡ true →
+      (is_write a.access ≡ true → get_or (cleans_of w set_there) 0 0 ≡ 0) →
+      is_settled w r ≡ true
+  settled_if w geometry front dirty =
+      let there : block_of w.plain.geometry r.addr ≡ block =
+      ap (λ g. block_of g r.addr) geometry ∙ sym same in
+      and_from _ _ (ap (is_front_of w.plain) there ∙ front)
+      (⊎_elim
+      (λ (reads : not (is_write r.access) ≡ true). or_left _ _ reads)
+      (λ (writes : is_write a.access ≡ true). or_right _ _
+      (ap (λ c. eqb c 0)
+      (ap₂ (λ g x. get_or (cleans_of w (set_of_block g x)) 0 0) geometry there
+      ∙ dirty writes)))
+      (or_cases _ _ harmless))
+
+  pub settled_again : is_settled (after_unless_settled v a) r ≡ true
+  settled_again = cases
+      (λ b. is_settled v a ≡ b → is_settled (cond b v (after_full_reference v a)) r ≡ true)
+      (is_settled v a)
+      (λ t is.
+      let parts = and_parts (is_front_of v.plain block) _ is in
+      settled_if v refl parts.0 (λ writes.
+      eqb-true _ _ (⊎_elim
+      (λ (reads : not (is_write a.access) ≡ true).
+      absurd (both_ways _ (ap not reads) (ap not (ap not writes))))
+      (λ (zero : eqb (get_or (cleans_of v set_there) 0 0) 0 ≡ true). zero)
+      (or_cases _ _ parts.1))))
+      (λ f is. settled_if (after_full_reference v a) refl front_after clean_after)
+      refl
