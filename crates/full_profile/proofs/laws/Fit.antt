@@ -230,15 +230,15 @@ fit_new g is = record {
 }
 
 -- a profile that was fed a list of events
-pub record IsFed (es : List Event) (v : FullState) : Type 0 where
+pub record FullStandsFor (es : List Event) (v : FullState) : Type 0 where
   pub plain : ProfileStandsFor es v.plain
   pub fit : IsFitFull v
 
-pub fed_new : (g : GeometryValue) → IsGeometry g → IsFed [] (empty_full g)
+pub fed_new : (g : GeometryValue) → IsGeometry g → FullStandsFor [] (empty_full g)
 fed_new g is = record { plain = new_stands g is; fit = fit_new g is }
 
-pub fed_event : (es : List Event) (v : FullState) (e : Event) → IsFed es v →
-    IsFed (es ++ e ∷ []) (after_full_event v e)
+pub fed_event : (es : List Event) (v : FullState) (e : Event) → FullStandsFor es v →
+    FullStandsFor (es ++ e ∷ []) (after_full_event v e)
 fed_event es v e h = record {
   plain = subst (λ (p : ProfileState). ProfileStandsFor (es ++ e ∷ []) p) (sym (plain_event v e))
       (event_stands es v.plain e h.plain);
@@ -259,9 +259,9 @@ pub after_more : (g : GeometryValue) (es : List Event) (e : Event) →
     full_after g (es ++ e ∷ []) ≡ after_full_event (full_after g es) e
 after_more g es e = fold_push after_full_event (empty_full g) es e
 
-pub fed_after : (g : GeometryValue) (es : List Event) → IsGeometry g → IsFed es (full_after g es)
-fed_after g es is = each_event (λ xs. IsFed xs (full_after g xs)) (fed_new g is)
-    (λ xs e h. subst (IsFed (xs ++ e ∷ [])) (sym (after_more g xs e)) (fed_event xs _ e h)) es
+pub fed_after : (g : GeometryValue) (es : List Event) → IsGeometry g → FullStandsFor es (full_after g es)
+fed_after g es is = each_event (λ xs. FullStandsFor xs (full_after g xs)) (fed_new g is)
+    (λ xs e h. subst (FullStandsFor (xs ++ e ∷ [])) (sym (after_more g xs e)) (fed_event xs _ e h)) es
 
 pub geometry_stays : (g : GeometryValue) (es : List Event) → (full_after g es).plain.geometry ≡ g
 geometry_stays g es = ap (λ p. p.geometry) (plain_part g es) ∙ geometry_after es (empty g)

@@ -29,7 +29,7 @@ use Rattle.full_profile.specs.State.{FullState, KindState, cleans_of, kind_of, k
 use Rattle.full_profile.specs.State.{with_miss, clean_in_front, after_copies, after_evictions}
 use Rattle.full_profile.specs.State.{after_full_reference, after_reference_in_lists, full_after}
 use Rattle.full_profile.specs.State.{empty_full, after_full_event, after_full_flush}
-use Rattle.full_profile.proofs.laws.Fit.{plain_part, IsFed, fed_after, each_event, after_more}
+use Rattle.full_profile.proofs.laws.Fit.{plain_part, FullStandsFor, fed_after, each_event, after_more}
 use Rattle.full_profile.proofs.laws.Fit.{geometry_stays}
 use Rattle.full_profile.specs.Batches.{IsFitFull, is_settled, after_settled, SettledLaw}
 
