@@ -4,3 +4,4 @@ pub mod Settled
 pub mod Waiting
 pub mod LookingBack
 pub mod MissesByKind
+pub mod Dirty
