@@ -5,3 +5,5 @@ pub mod Waiting
 pub mod LookingBack
 pub mod MissesByKind
 pub mod Dirty
+pub mod Copybacks
+pub mod Counted
