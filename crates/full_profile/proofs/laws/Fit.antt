@@ -265,3 +265,6 @@ fed_after g es is = each_event (λ xs. FullStandsFor xs (full_after g xs)) (fed_
 
 pub geometry_stays : (g : GeometryValue) (es : List Event) → (full_after g es).plain.geometry ≡ g
 geometry_stays g es = ap (λ p. p.geometry) (plain_part g es) ∙ geometry_after es (empty g)
+
+pub fit_after : (g : GeometryValue) (es : List Event) → IsGeometry g → IsFitFull (full_after g es)
+fit_after g es is = (fed_after g es is).fit

@@ -89,7 +89,7 @@ settled_in v access x fit front settled =
     (fit.plain.short k) front settled) ∙ set-get_or v.cleans k [] in
     let kinds : cond (is_front x blocks) v.kinds (set v.kinds (kind_number access)
     (with_miss x blocks (kind_of v access))) ≡ v.kinds = cond-true (is_front x blocks) _ _ front in
-    cc (none, first, kept, kinds)
+    cc (none, first, kept)
 
 pub settled_changes_fronts_only : (v : FullState) (r : Ref) → IsFitFull v →
     is_settled v r ≡ true → after_full_reference v r ≡ after_settled 1 v
