@@ -1,7 +1,7 @@
 -- The state of a full profile, and how a reference and a flush change it. A block's clean depth is
 -- a number of ways: the block is dirty in the caches of more ways, and clean in those of as many or
 -- fewer, or not in them. (Thompson and Smith 1989.)
-use Rattle.std.specs.Prelude.{ℕ, ◌+◌, ◌-◌, ◌^◌, ◌==◌, nat_lt, max, if◌then◌else◌, Bool, List, []}
+use Rattle.std.specs.Prelude.{ℕ, ◌+◌, ◌-◌, ◌^◌, ◌==◌, nat_lt, max, if◌then◌else◌, List, []}
 use Rattle.std.specs.Prelude.{◌∷◌, length, take, drop, sum, replicate, slice_set, slice_index}
 use Rattle.std.specs.Prelude.{slice_index_or, fold}
 use Rattle.std.specs.List.{remove}
@@ -126,9 +126,9 @@ after_copies_of up_to index (clean ∷ cleans) v =
 abbrev pub after_emptying : (ℕ → ℕ) → FullState → FullState
 after_emptying up_to v = record
     (fold (λ w cleans. after_copies_of up_to 0 cleans w) v v.cleans) {
-  plain = after_flush v.plain;
-  cleans = replicate (2 ^ v.plain.geometry.s) [];
-}
+      plain = after_flush v.plain;
+      cleans = replicate (2 ^ v.plain.geometry.s) [];
+    }
 
 -- after a flush: each cache copies back what it holds dirty, and has copied back what it evicted
 abbrev pub after_full_flush : FullState → FullState

@@ -1,9 +1,9 @@
 -- Copybacks that are counted change nothing but their numbers.
-use Rattle.std.proofs.Common.{◌≡◌, ℕ, ◌+◌, ◌<◌, ◌≤◌, ◌&&◌, Bool, true, false, cond, ltb, leb, List}
-use Rattle.std.proofs.Common.{[], ◌∷◌, length, take, drop, sum, get_or, set, refl, sym, ◌∙◌, ap, arith}
+use Rattle.std.proofs.Common.{◌≡◌, ℕ, ◌+◌, ◌<◌, ◌≤◌, ◌&&◌, cond, ltb, leb, List}
+use Rattle.std.proofs.Common.{[], ◌∷◌, length, take, sum, get_or, refl, ◌∙◌, arith}
 use Rattle.std.proofs.Common.{length-set, fold, suc}
-use Rattle.std.specs.List.{count_by, sum_by}
-use Rattle.std.proofs.lemmas.Bool.{ltb-true, ltb-false, lt-ltb, le-ltb, cases_lt}
+use Rattle.std.specs.List.{sum_by}
+use Rattle.std.proofs.lemmas.Bool.{ltb-true, ltb-false}
 use Rattle.std.proofs.lemmas.Bool.Decides.{nat_tests}
 use Rattle.std.proofs.lemmas.List.Sums.{sum_by-cons}
 use Rattle.deep_list.proofs.SlotLemmas.{sum_take-set, sum_take-set_above}

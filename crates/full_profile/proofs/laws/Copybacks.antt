@@ -1,28 +1,25 @@
 -- The copybacks of the cache of so many ways at an event, by the lists of a full profile.
-use Rattle.std.proofs.Common.{◌≡◌, ℕ, zero, suc, ◌+◌, ◌-◌, ◌*◌, ◌<◌, ◌≤◌, ◌^◌, ◌&&◌, Bool, true}
+use Rattle.std.proofs.Common.{◌≡◌, ℕ, zero, suc, ◌+◌, ◌-◌, ◌<◌, ◌≤◌, ◌^◌, ◌&&◌, Bool, true}
 use Rattle.std.proofs.Common.{false, not, cond, ltb, leb, List, [], ◌∷◌, length, take, drop, map, sum}
 use Rattle.std.proofs.Common.{get_or, reverse, refl, sym, ◌∙◌, ap, arith}
 use Rattle.std.specs.List.{count_by, sum_by, range_with_len}
 use Rattle.std.proofs.lemmas.Bool.{leb-true}
-use Rattle.std.proofs.lemmas.Bool.Decides.{nat_tests}
 use Rattle.std.proofs.lemmas.List.Folds.{fold-map}
 use Rattle.std.proofs.lemmas.List.FromFn.{fill_by_all, length-map-range_with_len}
 use Rattle.std.proofs.lemmas.List.FromFn.{get_or-map-range_with_len}
-use Rattle.std.proofs.lemmas.List.Sums.{sum_by-cons, sum_by-take-drop, sum-map}
+use Rattle.std.proofs.lemmas.List.Sums.{sum_by-cons, sum-map}
 use Rattle.std.proofs.lemmas.Nat.{mod_below, pow_pos}
 use Rattle.trace_core.specs.declared.events.Ref.{Ref}
 use Rattle.trace_core.specs.declared.events.Event.{Event}
 use Rattle.trace_core.specs.declared.events.Event.TheVariants as event
 use Rattle.cache_core.specs.Geometry.{GeometryValue, block_of, set_of}
-use Rattle.cache_core.specs.Windows.{is_evict}
-use Rattle.cache_core.specs.LruLaws.{occurrence_after}
 use Rattle.cache_core.proofs.Lists.{cases}
 use Rattle.profile_core.specs.internal.set_lists.Moves.{index_of, is_in}
 use Rattle.profile_core.specs.internal.profile.State.{list_of}
 use Rattle.full_profile.specs.LookBack.{is_dirty, held_blocks, copybacks_at, dirty_among}
 use Rattle.full_profile.specs.State.{FullState, cleans_of}
 use Rattle.full_profile.proofs.laws.Fit.{FullStandsFor}
-use Rattle.full_profile.proofs.laws.Waiting.{one_dirty, dirty_in, waiting, copyback_of}
+use Rattle.full_profile.proofs.laws.Waiting.{one_dirty, dirty_in, copyback_of}
 use Rattle.full_profile.proofs.laws.LookingBack.{with_ways, held_is, evict_is}
 use Rattle.full_profile.proofs.laws.Dirty.{KnowsDirty}
 

@@ -1,7 +1,7 @@
 -- The counts of a full profile are those of caches.
-use Rattle.std.proofs.Common.{◌≡◌, ℕ, zero, suc, ◌+◌, ◌-◌, ◌*◌, ◌<◌, ◌≤◌, ◌^◌, ◌&&◌, Bool, true}
-use Rattle.std.proofs.Common.{false, not, cond, ltb, leb, List, [], ◌∷◌, ◌++◌, length, take, drop, sum}
-use Rattle.std.proofs.Common.{get_or, set, replicate, refl, sym, ◌∙◌, ap, subst, arith}
+use Rattle.std.proofs.Common.{◌≡◌, ℕ, zero, suc, ◌+◌, ◌<◌, ◌≤◌, ◌^◌, ◌&&◌, Bool}
+use Rattle.std.proofs.Common.{not, cond, ltb, List, [], ◌∷◌, ◌++◌, take, drop, sum}
+use Rattle.std.proofs.Common.{get_or, replicate, refl, sym, ◌∙◌, ap, subst, arith}
 use Rattle.std.specs.List.{sum_by, remove}
 use Rattle.std.proofs.lemmas.Bool.Decides.{nat_tests}
 use Rattle.std.proofs.lemmas.List.Folds.{sum_by-replicate}
@@ -14,7 +14,7 @@ use Rattle.trace_core.specs.Events.{is_fetch, is_read, is_write}
 use Rattle.trace_core.specs.declared.events.Event.{Event}
 use Rattle.trace_core.specs.declared.events.Event.TheVariants as event
 use Rattle.cache_core.specs.Geometry.{GeometryValue, IsGeometry, block_of, set_of}
-use Rattle.profile_core.specs.internal.set_lists.Moves.{index_of, is_in}
+use Rattle.profile_core.specs.internal.set_lists.Moves.{index_of}
 use Rattle.profile_core.specs.internal.profile.State.{list_of}
 use Rattle.profile_core.proofs.profile.Counting.{counts_are}
 use Rattle.full_profile.specs.LookBack.{copybacks, misses_of, misses_at, copybacks_at, full_counts}
@@ -23,10 +23,10 @@ use Rattle.full_profile.specs.State.{FullState, empty_full, cleans_of, kind_of, 
 use Rattle.full_profile.specs.State.{after_full_reference, after_full_flush, after_full_event}
 use Rattle.full_profile.specs.State.{after_end, full_after, full_counts_at, copied_at, kind_number}
 use Rattle.full_profile.specs.State.{empty_kind, clean_in_front}
-use Rattle.full_profile.proofs.laws.Copies.{IsCopied, one_within, counted_from}
+use Rattle.full_profile.proofs.laws.Copies.{one_within, counted_from}
 use Rattle.full_profile.proofs.laws.Fit.{FullStandsFor, fed_event, fed_new, emptied, evictions}
-use Rattle.full_profile.proofs.laws.Fit.{evicted_within, each_event, after_more, geometry_stays}
-use Rattle.full_profile.proofs.laws.Waiting.{dirty_in, waiting, waiting_after, copyback_of}
+use Rattle.full_profile.proofs.laws.Fit.{each_event, after_more, geometry_stays}
+use Rattle.full_profile.proofs.laws.Waiting.{dirty_in, waiting, waiting_after}
 use Rattle.full_profile.proofs.laws.MissesByKind.{IsKind, kind_more, fetch_kind, read_kind}
 use Rattle.full_profile.proofs.laws.MissesByKind.{write_kind, is_miss}
 use Rattle.full_profile.proofs.laws.LookingBack.{with_ways, sum_after_push, hit_is}

@@ -1,11 +1,11 @@
 -- Which blocks of a full profile's lists are dirty in the cache of so many ways: those of a clean
 -- depth below that.
-use Rattle.std.proofs.Common.{◌≡◌, ℕ, zero, suc, ◌+◌, ◌-◌, ◌<◌, ◌≤◌, ◌^◌, ◌&&◌, ◌||◌, Bool, true}
-use Rattle.std.proofs.Common.{false, not, cond, eqb, ltb, leb, max, List, [], ◌∷◌, ◌++◌, length, take}
-use Rattle.std.proofs.Common.{drop, get_or, set, reverse, refl, sym, ◌∙◌, ap, subst, arith, ⊎_elim}
+use Rattle.std.proofs.Common.{◌≡◌, ℕ, zero, suc, ◌+◌, ◌<◌, ◌≤◌, ◌^◌, ◌&&◌, ◌||◌, Bool, true}
+use Rattle.std.proofs.Common.{false, not, cond, eqb, ltb, max, List, [], ◌∷◌, ◌++◌, length, take}
+use Rattle.std.proofs.Common.{get_or, reverse, refl, sym, ◌∙◌, ap, subst, arith, ⊎_elim}
 use Rattle.std.proofs.Common.{get_or-set_same, get_or-set_other, length-take, replicate}
 use Rattle.std.specs.List.{remove, list_all}
-use Rattle.std.proofs.lemmas.Bool.{eqb-true, eqb-false, eq-eqb, ne_eqb, ltb-true, ltb-false, cases_eq}
+use Rattle.std.proofs.lemmas.Bool.{eqb-true, eq-eqb, ne_eqb, ltb-true, cases_eq}
 use Rattle.std.proofs.lemmas.Bool.{cases_lt, cond-true, cond-false, not-true, lt-ltb, le-ltb}
 use Rattle.std.proofs.lemmas.Bool.Decides.{nat_tests}
 use Rattle.std.proofs.lemmas.List.{get_or-replicate, get_or-take, reverse-append, reverse-reverse}
@@ -14,7 +14,6 @@ use Rattle.std.proofs.lemmas.List.Elements.{All-get_or}
 use Rattle.std.proofs.lemmas.List.Sums.{AllPass-from_list_all, passes_at_first}
 use Rattle.std.proofs.lemmas.Nat.{mod_below, pow_pos}
 use Rattle.deep_list.proofs.LiveBlockLemmas.{remove-end}
-use Rattle.trace_core.specs.declared.events.Access.{Access}
 use Rattle.trace_core.specs.declared.events.Ref.{Ref}
 use Rattle.trace_core.specs.declared.events.Event.{Event}
 use Rattle.trace_core.specs.declared.events.Event.TheVariants as event
@@ -22,7 +21,7 @@ use Rattle.trace_core.specs.Events.{is_write}
 use Rattle.cache_core.specs.Geometry.{GeometryValue, block_of, set_of_block, set_of}
 use Rattle.cache_core.specs.Windows.{window, distinct_of_set, distinct, is_hit}
 use Rattle.cache_core.specs.LruLaws.{occurrence_after}
-use Rattle.cache_core.proofs.Lists.{cases, other, IsOnce, IsOnce-take, eqb_flip, filter_passes}
+use Rattle.cache_core.proofs.Lists.{other, IsOnce, IsOnce-take, eqb_flip, filter_passes}
 use Rattle.cache_core.proofs.Lists.{list_all-take, list_any_is}
 use Rattle.cache_core.proofs.Distances.{IsOnce-distinct_of_set}
 use Rattle.profile_core.specs.internal.set_lists.Moves.{index_of, is_in}
@@ -31,7 +30,6 @@ use Rattle.profile_core.specs.internal.profile.ProfileStandsFor.{ProfileStandsFo
 use Rattle.full_profile.specs.LookBack.{is_dirty}
 use Rattle.full_profile.specs.State.{FullState, cleans_of, clean_in_front, after_full_reference}
 use Rattle.full_profile.specs.State.{after_full_flush, empty_full}
-use Rattle.full_profile.specs.Batches.{IsFitFull}
 use Rattle.full_profile.proofs.laws.Fit.{FullStandsFor}
 use Rattle.full_profile.proofs.laws.LookingBack.{with_ways, hit_is}
 
@@ -83,30 +81,38 @@ came_from blocks cleans d j alike lt =
     (λ (found : d < length blocks).
     let short = length-remove blocks d found in
     ⊎_elim
-    (λ (below : j < d). (j, record {
-      block = get_or-remove_below blocks d 0 j below found;
-      clean = get_or-remove_below cleans d 0 j below (omega (arith, found, alike));
-      near = omega arith;
-      apart = λ e. omega (arith, e, below);
-      inside = omega (arith, below, found);
-    }))
-    (λ (above : d ≤ j). (j + 1, record {
-      block = get_or-remove_above blocks d 0 j above found;
-      clean = get_or-remove_above cleans d 0 j above (omega (arith, found, alike));
-      near = omega arith;
-      apart = λ e. omega (arith, e, above);
-      inside = omega (arith, lt, short);
-    }))
+    (λ (below : j < d). (
+      j,
+      record {
+        block = get_or-remove_below blocks d 0 j below found;
+        clean = get_or-remove_below cleans d 0 j below (omega (arith, found, alike));
+        near = omega arith;
+        apart = λ e. omega (arith, e, below);
+        inside = omega (arith, below, found);
+      },
+    ))
+    (λ (above : d ≤ j). (
+      j + 1,
+      record {
+        block = get_or-remove_above blocks d 0 j above found;
+        clean = get_or-remove_above cleans d 0 j above (omega (arith, found, alike));
+        near = omega arith;
+        apart = λ e. omega (arith, e, above);
+        inside = omega (arith, lt, short);
+      },
+    ))
     (cases_lt j d))
     (λ (out : length blocks ≤ d).
-    let within : j < length blocks = omega (arith, lt, ap length (remove-end blocks d out)) in
-    (j, record {
-      block = ap (λ xs. get_or xs j 0) (remove-end blocks d out);
-      clean = ap (λ xs. get_or xs j 0) (remove-end cleans d (omega (arith, out, alike)));
-      near = omega arith;
-      apart = λ e. omega (arith, e, within, out);
-      inside = within;
-    }))
+    let within : j < length blocks = omega (arith, lt, ap length (remove-end blocks d out)) in (
+      j,
+      record {
+        block = ap (λ xs. get_or xs j 0) (remove-end blocks d out);
+        clean = ap (λ xs. get_or xs j 0) (remove-end cleans d (omega (arith, out, alike)));
+        near = omega arith;
+        apart = λ e. omega (arith, e, within, out);
+        inside = within;
+      },
+    ))
     (cases_lt d (length blocks))
 
 -- one more reference, the most recent

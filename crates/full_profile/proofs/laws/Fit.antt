@@ -2,7 +2,7 @@
 use Rattle.std.proofs.Common.{◌≡◌, ℕ, zero, suc, ◌+◌, ◌-◌, ◌<◌, ◌≤◌, ◌^◌, Bool, true, false, cond}
 use Rattle.std.proofs.Common.{eqb, List, [], fold}
 use Rattle.std.proofs.Common.{◌∷◌, ◌++◌, length, take, drop, get_or, set, refl, sym, ◌∙◌, ap, subst}
-use Rattle.std.proofs.Common.{arith, ⊎_elim, get_or-set_same, get_or-set_other, length-set}
+use Rattle.std.proofs.Common.{arith, get_or-set_other, length-set}
 use Rattle.std.proofs.Common.{length-take, length-append, length-drop, replicate, append-nil}
 use Rattle.std.proofs.Common.{append_assoc}
 use Rattle.std.specs.List.{remove, sum_by}
@@ -66,7 +66,9 @@ behind_same : (x : ℕ) (blocks : List ℕ) (kind : KindState) →
 behind_same x blocks kind = elim (is_in x blocks) as (λ b. length (cond b (record kind {
   behind = one_more_at kind.behind (index_of x blocks);
 }) (record kind { missed = kind.missed + 1 })).behind ≡ length kind.behind) [
-    true ↦ length-set kind.behind (index_of x blocks) _ | false ↦ refl ]
+  | true ↦ length-set kind.behind (index_of x blocks) _
+  | false ↦ refl
+]
 
 either_behind : (front same : Bool) (x : ℕ) (blocks : List ℕ) (was other : KindState) {n : ℕ} →
     length was.behind ≡ n → length other.behind ≡ n →

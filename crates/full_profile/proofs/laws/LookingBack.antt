@@ -1,18 +1,16 @@
 -- What the cache of so many ways does at an event, by the lists of a full profile that was fed the
 -- events before.
-use Rattle.std.proofs.Common.{◌≡◌, ℕ, zero, suc, ◌+◌, ◌-◌, ◌<◌, ◌≤◌, ◌^◌, ◌&&◌, ◌||◌, Bool, true}
-use Rattle.std.proofs.Common.{false, not, cond, eqb, ltb, leb, min, List, [], ◌∷◌, ◌++◌, length, take}
-use Rattle.std.proofs.Common.{drop, get_or, reverse, refl, sym, ◌∙◌, ap, subst, arith, append-nil}
+use Rattle.std.proofs.Common.{◌≡◌, ℕ, ◌+◌, ◌<◌, ◌≤◌, ◌^◌, ◌&&◌}
+use Rattle.std.proofs.Common.{not, ltb, leb, min, List, [], ◌∷◌, ◌++◌, length, take}
+use Rattle.std.proofs.Common.{refl, sym, ◌∙◌, ap, arith, append-nil}
 use Rattle.std.proofs.Common.{append_assoc}
-use Rattle.std.specs.List.{count_by, sum_by}
 use Rattle.std.proofs.lemmas.Bool.Decides.{nat_tests}
 use Rattle.std.proofs.lemmas.List.{take-take}
 use Rattle.std.proofs.lemmas.Nat.{mod_below, pow_pos}
 use Rattle.trace_core.specs.declared.events.Ref.{Ref}
 use Rattle.trace_core.specs.declared.events.Event.{Event}
-use Rattle.trace_core.specs.declared.events.Event.TheVariants as event
-use Rattle.cache_core.specs.Geometry.{GeometryValue, block_of, set_of_block, set_of}
-use Rattle.cache_core.specs.Windows.{Occurrence, window, distinct_of_set, has_last, distance}
+use Rattle.cache_core.specs.Geometry.{GeometryValue, block_of, set_of}
+use Rattle.cache_core.specs.Windows.{Occurrence, window, distinct_of_set, distance}
 use Rattle.cache_core.specs.Windows.{blocks_seen, is_hit, is_evict}
 use Rattle.cache_core.specs.LruLaws.{occurrence_after}
 use Rattle.profile_core.specs.internal.set_lists.Moves.{index_of, is_in}

@@ -1,6 +1,6 @@
 -- The misses of each kind of access.
-use Rattle.std.proofs.Common.{◌≡◌, ℕ, zero, suc, ◌+◌, ◌<◌, ◌≤◌, ◌&&◌, Bool, true, false, not, cond}
-use Rattle.std.proofs.Common.{eqb, ltb, leb, List, [], ◌∷◌, length, take, drop, get_or, set, sum, refl}
+use Rattle.std.proofs.Common.{◌≡◌, ℕ, ◌+◌, ◌<◌, ◌≤◌, ◌&&◌, Bool, true, false, not, cond}
+use Rattle.std.proofs.Common.{eqb, ltb, leb, List, length, drop, get_or, sum, refl}
 use Rattle.std.proofs.Common.{sym, ◌∙◌, ap, arith}
 use Rattle.std.proofs.lemmas.Bool.{eqb-true, ltb-true, lt-ltb, and_from}
 use Rattle.std.proofs.lemmas.Bool.Decides.{nat_tests}

@@ -1,15 +1,14 @@
 -- References that are settled: they change nothing but the number of fronts, and are settled in each
 -- profile that refines this one.
-use Rattle.std.proofs.Common.{◌≡◌, ℕ, zero, suc, ◌+◌, ◌-◌, ◌<◌, ◌≤◌, ◌^◌, ◌&&◌, ◌||◌, Bool, true}
-use Rattle.std.proofs.Common.{false, not, cond, eqb, ltb, max, List, [], ◌∷◌, ◌++◌, length, take, drop}
+use Rattle.std.proofs.Common.{◌≡◌, ℕ, zero, suc, ◌+◌, ◌<◌, ◌≤◌, ◌^◌, ◌||◌, Bool, true}
+use Rattle.std.proofs.Common.{false, not, cond, eqb, ltb, max, List, [], ◌∷◌, ◌++◌, length, take}
 use Rattle.std.proofs.Common.{get_or, set, refl, sym, ◌∙◌, ap, subst, arith, ⊎_elim, fold}
 use Rattle.std.proofs.Common.{get_or-set_same, get_or-set_other, replicate}
 use Rattle.std.specs.List.{remove}
-use Rattle.std.proofs.lemmas.Bool.{and_parts, and_from, or_cases, or_from, eqb-true, eq-eqb, not-true}
+use Rattle.std.proofs.lemmas.Bool.{and_parts, and_from, or_cases, eqb-true, eq-eqb}
 use Rattle.std.proofs.lemmas.Bool.{cases_eq, not_from_false, le-ltb, cond-true, cond-false}
 use Rattle.std.proofs.lemmas.Bool.{both_ways}
-use Rattle.std.proofs.lemmas.Bool.Decides.{nat_tests}
-use Rattle.std.proofs.lemmas.List.{set-get_or, take_all, length-replicate}
+use Rattle.std.proofs.lemmas.List.{set-get_or, take_all}
 use Rattle.std.proofs.lemmas.Nat.{mod_below, pow_pos}
 use Rattle.trace_core.specs.declared.events.Access.{Access}
 use Rattle.trace_core.specs.declared.events.Ref.{Ref}
@@ -19,17 +18,16 @@ use Rattle.trace_core.specs.Events.{is_write}
 use Rattle.cache_core.specs.Geometry.{GeometryValue, IsGeometry, block_of, set_of_block, set_of}
 use Rattle.cache_core.proofs.Lists.{cases}
 use Rattle.profile_core.specs.internal.set_lists.Moves.{index_of, is_in, is_front}
-use Rattle.profile_core.specs.internal.profile.State.{ProfileState, empty, list_of, after_event}
+use Rattle.profile_core.specs.internal.profile.State.{empty, list_of, after_event}
 use Rattle.profile_core.specs.internal.profile.State.{after_reference}
 use Rattle.profile_core.specs.internal.profile.Fronts.{is_front_of, after_fronts, is_refined, Leads}
 use Rattle.profile_core.proofs.profile.Feeding.{found_front}
 use Rattle.profile_core.proofs.profile.Fronts.{front_reference, IsFiner, finer_of, leads_after}
-use Rattle.profile_core.proofs.profile.Runs.{geometry_after}
-use Rattle.full_profile.specs.State.{FullState, KindState, cleans_of, kind_of, kind_number}
+use Rattle.full_profile.specs.State.{FullState, cleans_of, kind_of, kind_number}
 use Rattle.full_profile.specs.State.{with_miss, clean_in_front, after_copies, after_evictions}
 use Rattle.full_profile.specs.State.{after_full_reference, after_reference_in_lists, full_after}
 use Rattle.full_profile.specs.State.{empty_full, after_full_event, after_full_flush}
-use Rattle.full_profile.proofs.laws.Fit.{plain_part, FullStandsFor, fed_after, each_event, after_more}
+use Rattle.full_profile.proofs.laws.Fit.{plain_part, fed_after, each_event, after_more}
 use Rattle.full_profile.proofs.laws.Fit.{geometry_stays}
 use Rattle.full_profile.specs.Batches.{IsFitFull, is_settled, after_settled, SettledLaw}
 
