@@ -1,9 +1,10 @@
+pub mod Runs
 pub mod Copies
 pub mod Fit
 pub mod Settled
 pub mod Waiting
-pub mod LookingBack
 pub mod MissesByKind
+pub mod LookingBack
 pub mod Dirty
 pub mod Copybacks
 pub mod Counted

@@ -8,21 +8,23 @@ ghost use Rattle.trace_core.specs.declared.events.Event.{Event};
 ghost use Rattle.cache_core.specs.Geometry.{GeometryValue, IsGeometry};
 ghost use Rattle.profile_core.specs.internal.profile.State.{empty, after_event};
 ghost use Rattle.full_profile.specs.LookBack.{full_counts};
-ghost use Rattle.full_profile.specs.State.{FullState, after_full_reference, after_end, full_after};
-ghost use Rattle.full_profile.specs.State.{full_counts_at};
+ghost use Rattle.full_profile.specs.State.{FullState, empty_full, after_full_reference, after_end};
+ghost use Rattle.full_profile.specs.State.{after_full_event, full_after, full_counts_at};
 ghost use Rattle.full_profile.specs.Batches.{IsFitFull, is_settled, after_settled, SettledLaw};
 
 /// The plain profile within a full one is a profile that was fed the same events.
-/// Lemma: `Fit.plain_part`.
+/// Lemma: `Runs.plain_part`.
 pub fn plain_part_is_a_profile()
     ensures { (g : GeometryValue) (es : List Event)
         → (full_after g es).plain ≡ fold after_event (empty g) es }
 {}
 
-/// Events keep the lengths of a full profile's lists and histograms.
-/// Lemma: `Fit.fit_after`.
+/// The lengths of a new full profile's lists and histograms fit, and each event keeps them.
+/// Lemmas: `Fit.fit_new`, `Fit.fit_event`, `Fit.fit_after`.
 pub fn events_keep_the_lengths()
-    ensures { (g : GeometryValue) (es : List Event) → IsGeometry g
+    ensures new { (g : GeometryValue) → IsGeometry g → IsFitFull (empty_full g) }
+    ensures event { (v : FullState) (e : Event) → IsFitFull v → IsFitFull (after_full_event v e) }
+    ensures events { (g : GeometryValue) (es : List Event) → IsGeometry g
         → IsFitFull (full_after g es) }
 {}
 

@@ -24,8 +24,9 @@ use Rattle.full_profile.specs.State.{after_full_reference, after_full_flush, aft
 use Rattle.full_profile.specs.State.{after_end, full_after, full_counts_at, copied_at, kind_number}
 use Rattle.full_profile.specs.State.{empty_kind, clean_in_front}
 use Rattle.full_profile.proofs.laws.Copies.{one_within, counted_from}
-use Rattle.full_profile.proofs.laws.Fit.{FullStandsFor, fed_event, fed_new, emptied, evictions}
-use Rattle.full_profile.proofs.laws.Fit.{each_event, after_more, geometry_stays}
+use Rattle.full_profile.proofs.laws.Copies.{evictions}
+use Rattle.full_profile.proofs.laws.Fit.{FullStandsFor, fed_event, fed_new, emptied}
+use Rattle.full_profile.proofs.laws.Runs.{each_event, after_more, geometry_stays}
 use Rattle.full_profile.proofs.laws.Waiting.{dirty_in, waiting, waiting_after}
 use Rattle.full_profile.proofs.laws.MissesByKind.{IsKind, kind_more, fetch_kind, read_kind}
 use Rattle.full_profile.proofs.laws.MissesByKind.{write_kind, is_miss}

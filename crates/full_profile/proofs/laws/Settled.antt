@@ -27,8 +27,9 @@ use Rattle.full_profile.specs.State.{FullState, cleans_of, kind_of, kind_number}
 use Rattle.full_profile.specs.State.{with_miss, clean_in_front, after_copies, after_evictions}
 use Rattle.full_profile.specs.State.{after_full_reference, after_reference_in_lists, full_after}
 use Rattle.full_profile.specs.State.{empty_full, after_full_event, after_full_flush}
-use Rattle.full_profile.proofs.laws.Fit.{plain_part, fed_after, each_event, after_more}
-use Rattle.full_profile.proofs.laws.Fit.{geometry_stays}
+use Rattle.full_profile.proofs.laws.Fit.{fed_after}
+use Rattle.full_profile.proofs.laws.Runs.{plain_part, each_event, after_more}
+use Rattle.full_profile.proofs.laws.Runs.{geometry_stays}
 use Rattle.full_profile.specs.Batches.{IsFitFull, is_settled, after_settled, SettledLaw}
 
 zero_or : (write : Bool) (c : ℕ) → (not write || eqb c 0) ≡ true → cond write 0 (max c 0) ≡ c

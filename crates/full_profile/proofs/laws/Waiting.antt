@@ -15,7 +15,7 @@ use Rattle.deep_list.proofs.LiveBlockLemmas.{remove-end}
 use Rattle.cache_core.proofs.Lists.{cases, list_any_is}
 use Rattle.profile_core.specs.internal.set_lists.Moves.{index_of, is_in}
 use Rattle.full_profile.proofs.laws.Copies.{one_within}
-use Rattle.full_profile.proofs.laws.Fit.{evicted_within}
+use Rattle.full_profile.proofs.laws.Copies.{evicted_within}
 
 -- 1 if a block of this clean depth is dirty in the cache of so many ways
 abbrev pub one_dirty : ℕ → ℕ → ℕ
