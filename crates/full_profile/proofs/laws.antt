@@ -8,3 +8,4 @@ pub mod LookingBack
 pub mod Dirty
 pub mod Copybacks
 pub mod Counted
+pub mod Later

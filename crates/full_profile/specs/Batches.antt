@@ -1,13 +1,13 @@
 -- References that change nothing but the number of those found in front. Such a reference changes
 -- nothing in each profile that refines this one, either (set refinement: Hill and Smith 1989).
-use Rattle.std.specs.Prelude.{ℕ, ◌≡◌, ◌+◌, ◌^◌, ◌==◌, ◌&&◌, ◌||◌, not, true, Bool}
+use Rattle.std.specs.Prelude.{ℕ, ◌≡◌, ◌≤◌, ◌+◌, ◌-◌, ◌^◌, ◌==◌, ◌&&◌, ◌||◌, not, true, Bool}
 use Rattle.std.specs.Prelude.{if◌then◌else◌, List, [], ◌∷◌, length, slice_index, fold}
 use Rattle.trace_core.specs.declared.events.Access.{Access}
 use Rattle.trace_core.specs.declared.events.Ref.{Ref}
 use Rattle.trace_core.specs.Events.{is_write}
 use Rattle.cache_core.specs.Geometry.{GeometryValue, IsGeometry, block_of, set_of}
 use Rattle.trace_core.specs.declared.events.Event.{Event}
-use Rattle.profile_core.specs.internal.profile.State.{list_of}
+use Rattle.profile_core.specs.internal.profile.State.{list_of, fed_of}
 use Rattle.profile_core.specs.internal.profile.Fronts.{is_front_of, after_fronts, is_refined}
 use Rattle.profile_core.specs.internal.profile.Fronts.{IsFit}
 use Rattle.full_profile.specs.State.{FullState, after_full_reference, cleans_of, kind_of}
@@ -38,6 +38,16 @@ unsettled v (r ∷ refs) =
 -- after n references that were settled
 abbrev pub after_settled : ℕ → FullState → FullState
 after_settled n v = record v { plain = after_fronts n v.plain }
+
+-- A profile was fed n references, except some that were settled: the profile after these are
+-- counted, too.
+abbrev pub with_settled : ℕ → FullState → FullState
+with_settled n v = after_settled (n - fed_of v.plain) v
+
+-- a profile that was fed some events, with n references in all, except some that were settled
+pub record LagsBehind (n : ℕ) (g : GeometryValue) (es : List Event) (v : FullState) : Type 0 where
+  pub few : fed_of v.plain ≤ n
+  pub caught : with_settled n v ≡ full_after g es
 
 -- what is settled in one profile is settled in each that refines it, if both were fed the same
 abbrev pub SettledLaw : Type 0

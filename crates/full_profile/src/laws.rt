@@ -2,15 +2,20 @@
 //! proves it. A caller uses a law by calling its function, which costs nothing: below the call the
 //! law is known. A proof may cite the lemma that a law names instead.
 
-ghost use Rattle.std.specs.Prelude.{ℕ, ◌≡◌, ◌≤◌, true, List, fold};
+ghost use Rattle.std.specs.Prelude.{ℕ, ◌≡◌, ◌≤◌, ◌+◌, true, List, [], ◌∷◌, ◌++◌, length};
+ghost use Rattle.std.specs.Prelude.{map, fold};
 ghost use Rattle.trace_core.specs.declared.events.Ref.{Ref};
 ghost use Rattle.trace_core.specs.declared.events.Event.{Event};
+ghost use Rattle.trace_core.specs.declared.events.Event.TheVariants as event;
 ghost use Rattle.cache_core.specs.Geometry.{GeometryValue, IsGeometry};
 ghost use Rattle.profile_core.specs.internal.profile.State.{empty, after_event};
+ghost use Rattle.profile_core.specs.internal.profile.Fronts.{is_refined};
 ghost use Rattle.full_profile.specs.LookBack.{full_counts};
 ghost use Rattle.full_profile.specs.State.{FullState, empty_full, after_full_reference, after_end};
-ghost use Rattle.full_profile.specs.State.{after_full_event, full_after, full_counts_at};
+ghost use Rattle.full_profile.specs.State.{after_full_event, after_full_flush, full_after};
+ghost use Rattle.full_profile.specs.State.{full_counts_at};
 ghost use Rattle.full_profile.specs.Batches.{IsFitFull, is_settled, after_settled, SettledLaw};
+ghost use Rattle.full_profile.specs.Batches.{after_full_batch, unsettled, LagsBehind};
 
 /// The plain profile within a full one is a profile that was fed the same events.
 /// Lemma: `Runs.plain_part`.
@@ -50,4 +55,27 @@ pub fn counts_are_those_of_caches()
     ensures { (g : GeometryValue) (es : List Event) (ways : ℕ) → IsGeometry g → 1 ≤ ways
         → ways ≤ g.e → full_counts_at (after_end (full_after g es)) ways
         ≡ full_counts (record g { e = ways }) es }
+{}
+
+/// A profile that is fed batches of references, except those that are settled, lags behind one that
+/// is fed all: it is the same once as many references are counted.
+/// Lemmas: `Later.lags_new`, `Later.lags_batch`, `Later.lags_flush`.
+pub fn batches_lag_behind()
+    ensures new { (g : GeometryValue) → LagsBehind 0 g [] (empty_full g) }
+    ensures batch { (g : GeometryValue) (n : ℕ) (es : List Event) (v : FullState) (refs : List Ref)
+        → IsGeometry g → LagsBehind n g es v → LagsBehind (n + length refs) g
+        (es ++ map event.Reference refs) (after_full_batch v refs) }
+    ensures flush { (g : GeometryValue) (n : ℕ) (es : List Event) (v : FullState)
+        → LagsBehind n g es v
+        → LagsBehind n g (es ++ event.Flush ∷ []) (after_full_flush v) }
+{}
+
+/// A profile that refines another one, and was given the same events, need only be fed those of a
+/// batch of references that are not settled in the other.
+/// Lemma: `Later.unsettled_suffice`.
+pub fn unsettled_references_suffice()
+    ensures { (g h : GeometryValue) (n : ℕ) (es : List Event) (x y : FullState) (refs : List Ref)
+        → IsGeometry g → IsGeometry h → is_refined g h ≡ true → LagsBehind n g es x
+        → LagsBehind n h es y
+        → after_full_batch y (unsettled x refs) ≡ after_full_batch y refs }
 {}
