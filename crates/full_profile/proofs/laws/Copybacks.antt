@@ -16,7 +16,7 @@ use Rattle.cache_core.specs.Geometry.{GeometryValue, block_of, set_of}
 use Rattle.cache_core.proofs.Lists.{cases}
 use Rattle.profile_core.specs.internal.set_lists.Moves.{index_of, is_in}
 use Rattle.profile_core.specs.internal.profile.State.{list_of}
-use Rattle.full_profile.specs.LookBack.{is_dirty, held_blocks, copybacks_at, dirty_among}
+use Rattle.full_profile.specs.LookBack.{is_block_dirty, held_blocks, copybacks_at, dirty_among}
 use Rattle.full_profile.specs.State.{FullState, cleans_of}
 use Rattle.full_profile.proofs.laws.Fit.{FullStandsFor}
 use Rattle.full_profile.proofs.laws.Waiting.{one_dirty, dirty_in, copyback_of}
@@ -105,7 +105,7 @@ module _ (n : ℕ) (es : List Event) (v : FullState) (stands : FullStandsFor es 
       let cleans : List ℕ = cleans_of v k in
       let x : ℕ = block_of g r.addr in
       let hit : Bool = is_in x blocks && ltb (index_of x blocks) (suc n) in
-      let dirty : ℕ → Bool = λ b. is_dirty small b (reverse es) in
+      let dirty : ℕ → Bool = λ b. is_block_dirty small b (reverse es) in
       let out : List ℕ = drop (suc n - 1) (held_blocks small es k) in
       ap (λ b. count_by dirty (cond b out [])) (evict_is es v.plain stands.plain (suc n) within r)
       ∙ ap (λ m. count_by dirty (cond (not hit && leb (suc n) m) out []))
@@ -145,7 +145,7 @@ module _ (n : ℕ) (es : List Event) (v : FullState) (stands : FullStandsFor es 
       below_same (λ k. dirty_among small es (held_blocks small es k)) (λ k. f (cleans_of v k))
       (2 ^ g.s)
       (λ k lt. ap (dirty_among small es) (held_is es v.plain stands.plain (suc n) within k lt)
-      ∙ counts_alike (λ b. is_dirty small b (reverse es)) (λ clean. ltb clean (suc n)) (suc n)
+      ∙ counts_alike (λ b. is_block_dirty small b (reverse es)) (λ clean. ltb clean (suc n)) (suc n)
       (list_of v.plain k) (cleans_of v k) (stands.fit.alike k)
       (λ i near inside. know.tells k i lt near inside))
       ∙ sym (fold-map (λ a cs. a + f cs) (cleans_of v) 0 sets)

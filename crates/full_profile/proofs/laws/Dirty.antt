@@ -27,7 +27,7 @@ use Rattle.cache_core.proofs.Distances.{IsOnce-distinct_of_set}
 use Rattle.profile_core.specs.internal.set_lists.Moves.{index_of, is_in}
 use Rattle.profile_core.specs.internal.profile.State.{ProfileState, list_of}
 use Rattle.profile_core.specs.internal.profile.ProfileStandsFor.{ProfileStandsFor}
-use Rattle.full_profile.specs.LookBack.{is_dirty}
+use Rattle.full_profile.specs.LookBack.{is_block_dirty}
 use Rattle.full_profile.specs.State.{FullState, cleans_of, clean_in_front, after_full_reference}
 use Rattle.full_profile.specs.State.{after_full_flush, empty_full}
 use Rattle.full_profile.proofs.laws.Fit.{FullStandsFor}
@@ -117,15 +117,15 @@ came_from blocks cleans d j alike lt =
 
 -- one more reference, the most recent
 dirty_push : (g : GeometryValue) (es : List Event) (r : Ref) (b : ℕ) →
-    is_dirty g b (reverse (es ++ event.Reference r ∷ [])) ≡ cond (eqb (block_of g r.addr) b)
-    (is_write r.access || (is_hit g (occurrence_after g es r) && is_dirty g b (reverse es)))
-    (is_dirty g b (reverse es))
-unfolding is_dirty
+    is_block_dirty g b (reverse (es ++ event.Reference r ∷ [])) ≡ cond (eqb (block_of g r.addr) b)
+    (is_write r.access || (is_hit g (occurrence_after g es r) && is_block_dirty g b (reverse es)))
+    (is_block_dirty g b (reverse es))
+unfolding is_block_dirty
 dirty_push g es r b =
-    ap (is_dirty g b) (reverse-append es (event.Reference r ∷ []))
+    ap (is_block_dirty g b) (reverse-append es (event.Reference r ∷ []))
     ∙ ap (λ past. cond (eqb (block_of g r.addr) b)
-    (is_write r.access || (is_hit g (occurrence_after g past r) && is_dirty g b (reverse es)))
-    (is_dirty g b (reverse es))) (reverse-reverse es)
+    (is_write r.access || (is_hit g (occurrence_after g past r) && is_block_dirty g b (reverse es)))
+    (is_block_dirty g b (reverse es))) (reverse-reverse es)
 
 max_below : (c d ways : ℕ) → d < ways → ltb c ways ≡ ltb (max c d) ways
 max_below c d ways lt = grind (arith, nat_tests)
@@ -151,7 +151,7 @@ front_dirty ways depth d c false true was some within h =
 pub record KnowsDirty (ways : ℕ) (es : List Event) (v : FullState) : Type 0 where
   pub tells : (k i : ℕ) → k < 2 ^ v.plain.geometry.s → i < ways →
       i < length (list_of v.plain k) →
-      is_dirty (with_ways v.plain.geometry ways) (get_or (list_of v.plain k) i 0) (reverse es)
+      is_block_dirty (with_ways v.plain.geometry ways) (get_or (list_of v.plain k) i 0) (reverse es)
       ≡ ltb (get_or (cleans_of v k) i 0) ways
 
 module _ (ways : ℕ) (es : List Event) (v : FullState) (stands : FullStandsFor es v)
@@ -192,21 +192,21 @@ module _ (ways : ℕ) (es : List Event) (v : FullState) (stands : FullStandsFor 
       (sym (list_any_is (λ y. eqb y x) blocks) ∙ inside) in
       (lt, eqb-true _ _ (passes_at_first (λ y. eqb y x) blocks 0 lt))
 
-  in_front : is_dirty small x past ≡ ltb given ways
+  in_front : is_block_dirty small x past ≡ ltb given ways
   in_front =
       dirty_push small es r x
       ∙ cond-true (eqb x x) _ _ (eq-eqb x x refl)
-      ∙ ap (λ b. is_write r.access || (b && is_dirty small x (reverse es)))
+      ∙ ap (λ b. is_write r.access || (b && is_block_dirty small x (reverse es)))
       (hit_is es v.plain stands.plain ways within r)
       ∙ front_dirty ways g.e d (get_or cleans d 0) (is_write r.access) (is_in x blocks)
-      (is_dirty small x (reverse es)) some within
+      (is_block_dirty small x (reverse es)) some within
       (λ inside near.
       let found = found_block inside in
-      ap (λ b. is_dirty small b (reverse es)) (sym found.1)
+      ap (λ b. is_block_dirty small b (reverse es)) (sym found.1)
       ∙ know.tells own_set d is_set near found.0)
 
   behind : (j : ℕ) → j < length (remove blocks d) → suc j < ways →
-      is_dirty small (get_or (remove blocks d) j 0) past ≡ ltb (get_or (remove cleans d) j 0) ways
+      is_block_dirty small (get_or (remove blocks d) j 0) past ≡ ltb (get_or (remove cleans d) j 0) ways
   behind j lt near =
       let from = came_from blocks cleans d j (stands.fit.alike own_set) lt in
       let at = from.1 in
@@ -214,29 +214,29 @@ module _ (ways : ℕ) (es : List Event) (v : FullState) (stands : FullStandsFor 
       let differs : eqb x b ≡ false = ne_eqb x b (λ e. at.apart
       (sym (index_once blocks from.0 (list_once es v.plain stands.plain own_set is_set) at.inside)
       ∙ ap (λ y. index_of y blocks) (sym e))) in
-      ap (λ y. is_dirty small y past) at.block
+      ap (λ y. is_block_dirty small y past) at.block
       ∙ dirty_push small es r b ∙ cond-false (eqb x b) _ _ differs
       ∙ know.tells own_set from.0 is_set (omega (arith, at.near, near)) at.inside
       ∙ ap (λ c. ltb c ways) (sym at.clean)
 
   in_own : (i : ℕ) → i < ways → i < length (x ∷ remove blocks d) →
-      is_dirty small (get_or (x ∷ remove blocks d) i 0) past
+      is_block_dirty small (get_or (x ∷ remove blocks d) i 0) past
       ≡ ltb (get_or (given ∷ remove cleans d) i 0) ways
   in_own zero near lt = in_front
   in_own (suc j) near lt = behind j (omega (arith, lt)) near
 
   in_own_list : (i : ℕ) → i < ways → i < length (take g.e (x ∷ remove blocks d)) →
-      is_dirty small (get_or (take g.e (x ∷ remove blocks d)) i 0) past
+      is_block_dirty small (get_or (take g.e (x ∷ remove blocks d)) i 0) past
       ≡ ltb (get_or (take g.e (given ∷ remove cleans d)) i 0) ways
   in_own_list i near lt =
       let e : i < g.e = omega (arith, near, within) in
-      ap (λ b. is_dirty small b past) (get_or-take g.e (x ∷ remove blocks d) i 0 e)
+      ap (λ b. is_block_dirty small b past) (get_or-take g.e (x ∷ remove blocks d) i 0 e)
       ∙ in_own i near (omega (arith, lt, length-take g.e (x ∷ remove blocks d)))
       ∙ ap (λ c. ltb c ways) (sym (get_or-take g.e (given ∷ remove cleans d) i 0 e))
 
   in_other : (k i : ℕ) → k < 2 ^ g.s → i < ways → i < length (list_of v.plain k) →
       (own_set ≡ k → ⊥) →
-      is_dirty small (get_or (list_of v.plain k) i 0) past ≡ ltb (get_or (cleans_of v k) i 0) ways
+      is_block_dirty small (get_or (list_of v.plain k) i 0) past ≡ ltb (get_or (cleans_of v k) i 0) ways
   in_other k i lt near inside apart =
       let b : ℕ = get_or (list_of v.plain k) i 0 in
       let differs : eqb x b ≡ false = ne_eqb x b (λ e. apart (ap (set_of_block g) e
@@ -265,7 +265,7 @@ module _ (ways : ℕ) (es : List Event) (v : FullState) (stands : FullStandsFor 
 
   -- what is known of a block of two lists
   abbrev Known : ℕ → List ℕ → List ℕ → Type 0
-  Known i bs cs = i < length bs → is_dirty small (get_or bs i 0) past ≡ ltb (get_or cs i 0) ways
+  Known i bs cs = i < length bs → is_block_dirty small (get_or bs i 0) past ≡ ltb (get_or cs i 0) ways
 
   moved : (i : ℕ) (bs bs' cs cs' : List ℕ) → bs' ≡ bs → cs' ≡ cs → Known i bs cs → Known i bs' cs'
   moved i bs bs' cs cs' same alike h = subst (λ (b : List ℕ). Known i b cs') (sym same)
