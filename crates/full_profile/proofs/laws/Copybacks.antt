@@ -1,7 +1,7 @@
 -- The copybacks of the cache of so many ways at an event, by the lists of a full profile.
 use Rattle.std.proofs.Common.{◌≡◌, ℕ, zero, suc, ◌+◌, ◌-◌, ◌<◌, ◌≤◌, ◌^◌, ◌&&◌, Bool, true}
-use Rattle.std.proofs.Common.{false, not, cond, ltb, leb, List, [], ◌∷◌, length, take, drop, map, sum}
-use Rattle.std.proofs.Common.{get_or, reverse, refl, sym, ◌∙◌, ap, arith}
+use Rattle.std.proofs.Common.{false, not, cond, ltb, leb, List, [], ◌∷◌, length, take, drop, map}
+use Rattle.std.proofs.Common.{sum, get_or, reverse, refl, sym, ◌∙◌, ap, arith}
 use Rattle.std.specs.List.{count_by, sum_by, range_with_len}
 use Rattle.std.proofs.lemmas.Bool.{leb-true}
 use Rattle.std.proofs.lemmas.List.Folds.{fold-map}

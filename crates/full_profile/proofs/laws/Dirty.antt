@@ -155,7 +155,8 @@ pub record KnowsDirty (ways : ℕ) (es : List Event) (v : FullState) : Type 0 wh
       ≡ ltb (get_or (cleans_of v k) i 0) ways
 
 module _ (ways : ℕ) (es : List Event) (v : FullState) (stands : FullStandsFor es v)
-    (some : 1 ≤ ways) (within : ways ≤ v.plain.geometry.e) (know : KnowsDirty ways es v) (r : Ref) where
+    (some : 1 ≤ ways) (within : ways ≤ v.plain.geometry.e) (know : KnowsDirty ways es v)
+    (r : Ref) where
   abbrev g : GeometryValue
   g = v.plain.geometry
 
@@ -206,7 +207,8 @@ module _ (ways : ℕ) (es : List Event) (v : FullState) (stands : FullStandsFor 
       ∙ know.tells own_set d is_set near found.0)
 
   behind : (j : ℕ) → j < length (remove blocks d) → suc j < ways →
-      is_block_dirty small (get_or (remove blocks d) j 0) past ≡ ltb (get_or (remove cleans d) j 0) ways
+      is_block_dirty small (get_or (remove blocks d) j 0) past
+      ≡ ltb (get_or (remove cleans d) j 0) ways
   behind j lt near =
       let from = came_from blocks cleans d j (stands.fit.alike own_set) lt in
       let at = from.1 in
@@ -236,7 +238,8 @@ module _ (ways : ℕ) (es : List Event) (v : FullState) (stands : FullStandsFor 
 
   in_other : (k i : ℕ) → k < 2 ^ g.s → i < ways → i < length (list_of v.plain k) →
       (own_set ≡ k → ⊥) →
-      is_block_dirty small (get_or (list_of v.plain k) i 0) past ≡ ltb (get_or (cleans_of v k) i 0) ways
+      is_block_dirty small (get_or (list_of v.plain k) i 0) past
+      ≡ ltb (get_or (cleans_of v k) i 0) ways
   in_other k i lt near inside apart =
       let b : ℕ = get_or (list_of v.plain k) i 0 in
       let differs : eqb x b ≡ false = ne_eqb x b (λ e. apart (ap (set_of_block g) e
@@ -265,7 +268,8 @@ module _ (ways : ℕ) (es : List Event) (v : FullState) (stands : FullStandsFor 
 
   -- what is known of a block of two lists
   abbrev Known : ℕ → List ℕ → List ℕ → Type 0
-  Known i bs cs = i < length bs → is_block_dirty small (get_or bs i 0) past ≡ ltb (get_or cs i 0) ways
+  Known i bs cs = i < length bs →
+      is_block_dirty small (get_or bs i 0) past ≡ ltb (get_or cs i 0) ways
 
   moved : (i : ℕ) (bs bs' cs cs' : List ℕ) → bs' ≡ bs → cs' ≡ cs → Known i bs cs → Known i bs' cs'
   moved i bs bs' cs cs' same alike h = subst (λ (b : List ℕ). Known i b cs') (sym same)

@@ -91,13 +91,9 @@ set_alike (l ∷ xs) (m ∷ ys) (suc k) x y same e h zero = h 0
 set_alike (l ∷ xs) (m ∷ ys) (suc k) x y same e h (suc j) =
     set_alike xs ys k x y (omega (arith, same)) e (λ i. h (suc i)) j
 
-none_alike : (m n j : ℕ) → m ≡ n →
-    length (get_or {A = List ℕ} (replicate m []) j []) ≡ length (get_or {A = List ℕ} (replicate n [])
-    j [])
-none_alike m n j e = ap (λ k. length (get_or {A = List ℕ} (replicate k []) j [])) e
-
 set_short : (lists : List (List ℕ)) (k n : ℕ) (list : List ℕ) → length list ≤ n →
-    ((j : ℕ) → length (get_or lists j []) ≤ n) → (j : ℕ) → length (get_or (set lists k list) j []) ≤ n
+    ((j : ℕ) → length (get_or lists j []) ≤ n) → (j : ℕ) →
+    length (get_or (set lists k list) j []) ≤ n
 set_short [] k n list short h j = omega arith
 set_short (l ∷ lists) zero n list short h zero = short
 set_short (l ∷ lists) zero n list short h (suc j) = h (suc j)
@@ -156,8 +152,9 @@ module _ (v : FullState) (fit : IsFitFull v) where
         kind_count = grind (arith, length-set {A = KindState}, fit.kind_count);
         behind_count = λ a. ap (λ kind. length kind.behind)
             (kind_after v r.access a x blocks cleans fit.kind_count)
-            ∙ either_behind (is_front x blocks) (eqb (kind_number a) (kind_number r.access)) x blocks
-            (kind_of v a) (kind_of v r.access) (fit.behind_count a) (fit.behind_count r.access);
+            ∙ either_behind (is_front x blocks) (eqb (kind_number a) (kind_number r.access)) x
+            blocks (kind_of v a) (kind_of v r.access) (fit.behind_count a)
+            (fit.behind_count r.access);
         above_count = out.above_count ∙ fit.above_count;
         up_to_count = out.up_to_count ∙ fit.up_to_count;
       }
@@ -233,9 +230,11 @@ fed_event es v e h = record {
   fit = fit_event v e h.fit;
 }
 
-pub fed_after : (g : GeometryValue) (es : List Event) → IsGeometry g → FullStandsFor es (full_after g es)
+pub fed_after : (g : GeometryValue) (es : List Event) → IsGeometry g →
+    FullStandsFor es (full_after g es)
 fed_after g es is = each_event (λ xs. FullStandsFor xs (full_after g xs)) (fed_new g is)
-    (λ xs e h. subst (FullStandsFor (xs ++ e ∷ [])) (sym (after_more g xs e)) (fed_event xs _ e h)) es
+    (λ xs e h. subst (FullStandsFor (xs ++ e ∷ [])) (sym (after_more g xs e))
+    (fed_event xs _ e h)) es
 
 pub fit_after : (g : GeometryValue) (es : List Event) → IsGeometry g → IsFitFull (full_after g es)
 fit_after g es is = (fed_after g es is).fit

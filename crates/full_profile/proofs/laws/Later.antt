@@ -16,7 +16,8 @@ use Rattle.profile_core.specs.internal.profile.Fronts.{after_fronts, is_refined}
 use Rattle.profile_core.proofs.profile.Fronts.{fronts_none, fronts_fronts, reference_fronts}
 use Rattle.profile_core.proofs.profile.Fronts.{reference_fed, fit_behind}
 use Rattle.full_profile.specs.State.{FullState, cleans_of, after_copies, after_evictions}
-use Rattle.full_profile.specs.State.{after_copies_of, after_full_reference, after_full_flush, empty_full}
+use Rattle.full_profile.specs.State.{after_copies_of, after_full_reference, after_full_flush}
+use Rattle.full_profile.specs.State.{empty_full}
 use Rattle.full_profile.specs.Batches.{IsFitFull, is_settled, after_settled, after_unless_settled}
 use Rattle.full_profile.specs.Batches.{after_full_batch, unsettled, with_settled, LagsBehind}
 use Rattle.full_profile.proofs.laws.Fit.{fit_after}
@@ -153,8 +154,8 @@ lags_new g =
     ) in
     record {
       few = omega (arith, none);
-      caught = ap (λ m. after_settled m (empty_full g)) {x = 0 - fed_of (empty_full g).plain} {y = 0}
-          (omega arith) ∙ settled_none (empty_full g);
+      caught = ap (λ m. after_settled m (empty_full g)) {x = 0 - fed_of (empty_full g).plain}
+          {y = 0} (omega arith) ∙ settled_none (empty_full g);
     }
 
 pub lags_flush : (g : GeometryValue) (n : ℕ) (es : List Event) (v : FullState) →
@@ -217,7 +218,8 @@ module _ (g h : GeometryValue) (one : IsGeometry g) (other : IsGeometry h)
       ≡ after_full_batch (after_unless_settled y r) refs)
       (is_settled x r)
       (λ t is. ap (λ v. after_full_batch v later)
-      (sym (ap (λ b. cond b y (after_full_reference y r)) (settled_in_both n es x y r lags lags' is)))
+      (sym (ap (λ b. cond b y (after_full_reference y r))
+      (settled_in_both n es x y r lags lags' is)))
       ∙ rest)
       (λ f is. rest)
       refl

@@ -61,7 +61,8 @@ abbrev pub is_miss : ℕ → ℕ → List ℕ → Bool
 is_miss ways x blocks = not (is_in x blocks && ltb (index_of x blocks) ways)
 
 -- one more miss
-missed_more : (ways x : ℕ) (blocks : List ℕ) (kind : KindState) → length blocks ≤ length kind.behind →
+missed_more : (ways x : ℕ) (blocks : List ℕ) (kind : KindState) →
+    length blocks ≤ length kind.behind →
     kind_misses_at ways (with_miss x blocks kind)
     ≡ kind_misses_at ways kind + cond (is_miss ways x blocks) 1 0
 missed_more ways x blocks kind short =
@@ -111,7 +112,8 @@ kind_more a is_kind kind v access ways x blocks cleans three some short =
     (cond b (with_miss x blocks (kind_of v access)) (kind_of v a)) ≡ was + cond (b && miss) 1 0)
     same
     (λ t is. missed_more ways x blocks (kind_of v access) short
-    ∙ ap (λ k. kind_misses_at ways k + cond miss 1 0) (sym (same_kind v a access (eqb-true _ _ is))))
+    ∙ ap (λ k. kind_misses_at ways k + cond miss 1 0)
+    (sym (same_kind v a access (eqb-true _ _ is))))
     (λ f is. omega arith)
     refl)
     refl

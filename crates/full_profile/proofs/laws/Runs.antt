@@ -35,7 +35,8 @@ each_event P none more es = with_more [] es none
     with_more : (before es : List Event) → P before → P (before ++ es)
     with_more before [] h = subst P (sym (append-nil before)) h
     with_more before (e ∷ es) h =
-        subst P (append_assoc before (e ∷ []) es) (with_more (before ++ e ∷ []) es (more before e h))
+        subst P (append_assoc before (e ∷ []) es)
+        (with_more (before ++ e ∷ []) es (more before e h))
 
 pub after_more : (g : GeometryValue) (es : List Event) (e : Event) →
     full_after g (es ++ e ∷ []) ≡ after_full_event (full_after g es) e

@@ -1,5 +1,5 @@
--- References that are settled: they change nothing but the number of fronts, and are settled in each
--- profile that refines this one.
+-- References that are settled: they change nothing but the number of fronts, and are settled in
+-- each profile that refines this one.
 use Rattle.std.proofs.Common.{◌≡◌, ℕ, zero, suc, ◌+◌, ◌<◌, ◌≤◌, ◌^◌, ◌||◌, Bool, true}
 use Rattle.std.proofs.Common.{false, not, cond, eqb, ltb, max, List, [], ◌∷◌, ◌++◌, length, take}
 use Rattle.std.proofs.Common.{get_or, set, refl, sym, ◌∙◌, ap, subst, arith, ⊎_elim, fold}
@@ -271,7 +271,8 @@ module _ (g h : GeometryValue) (one : IsGeometry g) (other : IsGeometry h)
   dirty_after = each_event (λ es. LeadsDirty (full_after g es) (full_after h es))
       (dirty_empty (empty_full g) (empty_full h) refl)
       (λ es e leads.
-      subst (λ (v : FullState). LeadsDirty v (full_after h (es ++ e ∷ []))) (sym (after_more g es e))
+      subst (λ (v : FullState). LeadsDirty v (full_after h (es ++ e ∷ [])))
+      (sym (after_more g es e))
       (subst (LeadsDirty (after_full_event (full_after g es) e)) (sym (after_more h es e))
       (dirty_event (full_after g es) (full_after h es) (fed_after g es one).fit
       (fed_after h es other).fit (finer_there es) (fronts_there es) leads e)))

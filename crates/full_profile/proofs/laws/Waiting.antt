@@ -131,7 +131,8 @@ missed_full : (n m d c : ℕ) (cs : List ℕ) → length cs ≤ d → length cs 
     ≡ waiting (suc n) cs + copyback_of n false d cs
 missed_full n m d c cs out full le =
     let same : waiting (suc n) (take (suc m) (c ∷ remove cs d)) ≡ dirty_in (suc n)
-    (drop n (take m cs)) = ap (λ xs. waiting (suc n) (take (suc m) (c ∷ xs))) (remove-end cs d out) in
+    (drop n (take m cs)) =
+    ap (λ xs. waiting (suc n) (take (suc m) (c ∷ xs))) (remove-end cs d out) in
     let left = less_last (one_dirty (suc n)) n m cs le full in
     let first = one_less (one_dirty (suc n)) n cs (omega (arith, full, le)) in
     let counted : one_within (get_or cs m 0) (suc m) (suc n) ≡ one_dirty (suc n) (get_or cs m 0) =
