@@ -39,6 +39,16 @@ unsettled v (r ∷ refs) =
 abbrev pub after_settled : ℕ → FullState → FullState
 after_settled n v = record v { plain = after_fronts n v.plain }
 
+-- A profile was fed n references, except some that were settled: the profile after these are
+-- counted, too.
+abbrev pub with_settled : ℕ → FullState → FullState
+with_settled n v = after_settled (n - fed_of v.plain) v
+
+-- a profile that was fed some events, with n references in all, except some that were settled
+pub record LagsBehind (n : ℕ) (g : GeometryValue) (es : List Event) (v : FullState) : Type 0 where
+  pub few : fed_of v.plain ≤ n
+  pub caught : with_settled n v ≡ full_after g es
+
 -- what is settled in one profile is settled in each that refines it, if both were fed the same
 abbrev pub SettledLaw : Type 0
 SettledLaw = (g h : GeometryValue) (es : List Event) (r : Ref) → IsGeometry g → IsGeometry h →

@@ -17,14 +17,14 @@ use Rattle.full_profile.specs.declared.counts.FullCounts.{FullCounts}
 
 -- Whether a block that the cache holds is dirty. The events before are given with the most recent
 -- first. It is dirty if its last reference wrote it, or hit it when it was dirty.
-unfoldable pub is_dirty : GeometryValue → ℕ → List Event → Bool
-is_dirty g block [] = false
-is_dirty g block (event.Flush ∷ past) = false
-is_dirty g block (event.Reference r ∷ past) =
+unfoldable pub is_block_dirty : GeometryValue → ℕ → List Event → Bool
+is_block_dirty g block [] = false
+is_block_dirty g block (event.Flush ∷ past) = false
+is_block_dirty g block (event.Reference r ∷ past) =
     if block_of g r.addr == block
     then is_write r.access
-        || (is_hit g (occurrence_after g (reverse past) r) && is_dirty g block past)
-    else is_dirty g block past
+    || (is_hit g (occurrence_after g (reverse past) r) && is_block_dirty g block past)
+    else is_block_dirty g block past
 
 -- the blocks of a set that the cache holds after some events, the most recent first
 abbrev pub held_blocks : GeometryValue → List Event → ℕ → List ℕ
@@ -32,7 +32,7 @@ held_blocks g es set = take g.e (distinct_of_set g set (window g es))
 
 -- how many of some blocks that it holds are dirty
 abbrev pub dirty_among : GeometryValue → List Event → List ℕ → ℕ
-dirty_among g es blocks = count_by (λ block. is_dirty g block (reverse es)) blocks
+dirty_among g es blocks = count_by (λ block. is_block_dirty g block (reverse es)) blocks
 
 -- the block that a reference evicts, if it evicts one: the least recent of its set
 abbrev pub evicted_by : GeometryValue → List Event → Ref → List ℕ

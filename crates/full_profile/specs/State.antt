@@ -1,7 +1,7 @@
 -- The state of a full profile, and how a reference and a flush change it. A block's clean depth is
 -- a number of ways: the block is dirty in the caches of more ways, and clean in those of as many or
 -- fewer, or not in them. (Thompson and Smith 1989.)
-use Rattle.std.specs.Prelude.{ℕ, ◌+◌, ◌-◌, ◌^◌, ◌==◌, nat_lt, max, if◌then◌else◌, Bool, List, []}
+use Rattle.std.specs.Prelude.{ℕ, ◌+◌, ◌-◌, ◌^◌, ◌==◌, nat_lt, max, if◌then◌else◌, List, []}
 use Rattle.std.specs.Prelude.{◌∷◌, length, take, drop, sum, replicate, slice_set, slice_index}
 use Rattle.std.specs.Prelude.{slice_index_or, fold}
 use Rattle.std.specs.List.{remove}
@@ -18,7 +18,8 @@ use Rattle.profile_core.specs.internal.profile.State.{after_reference, after_flu
 use Rattle.full_profile.specs.declared.counts.FullCounts.{FullCounts}
 
 -- The misses of one kind of access that caches of some associativities have: `behind` counts the
--- blocks that were found at each stack distance from 1 on, and `missed` those not found in the list.
+-- blocks that were found at each stack distance from 1 on, and `missed` those not found in the
+-- list.
 pub record KindState : Type 0 where
   pub behind : List ℕ
   pub missed : ℕ
@@ -86,8 +87,8 @@ with_miss block blocks kind =
     then record kind { behind = one_more_at kind.behind (index_of block blocks) }
     else record kind { missed = kind.missed + 1 }
 
--- The copybacks that a reference shows. The caches that miss a block of the list have evicted it; and
--- where it is not in a full list, all caches have evicted the last one of it.
+-- The copybacks that a reference shows. The caches that miss a block of the list have evicted it;
+-- and where it is not in a full list, all caches have evicted the last one of it.
 abbrev pub after_evictions : ℕ → ℕ → List ℕ → List ℕ → FullState → FullState
 after_evictions depth block blocks cleans v =
     if is_in block blocks
@@ -126,9 +127,9 @@ after_copies_of up_to index (clean ∷ cleans) v =
 abbrev pub after_emptying : (ℕ → ℕ) → FullState → FullState
 after_emptying up_to v = record
     (fold (λ w cleans. after_copies_of up_to 0 cleans w) v v.cleans) {
-  plain = after_flush v.plain;
-  cleans = replicate (2 ^ v.plain.geometry.s) [];
-}
+      plain = after_flush v.plain;
+      cleans = replicate (2 ^ v.plain.geometry.s) [];
+    }
 
 -- after a flush: each cache copies back what it holds dirty, and has copied back what it evicted
 abbrev pub after_full_flush : FullState → FullState

@@ -1,15 +1,16 @@
 -- Copybacks that are counted change nothing but their numbers.
-use Rattle.std.proofs.Common.{◌≡◌, ℕ, ◌+◌, ◌<◌, ◌≤◌, ◌&&◌, Bool, true, false, cond, ltb, leb, List}
-use Rattle.std.proofs.Common.{[], ◌∷◌, length, take, drop, sum, get_or, set, refl, sym, ◌∙◌, ap, arith}
-use Rattle.std.proofs.Common.{length-set, fold, suc}
-use Rattle.std.specs.List.{count_by, sum_by}
-use Rattle.std.proofs.lemmas.Bool.{ltb-true, ltb-false, lt-ltb, le-ltb, cases_lt}
+use Rattle.std.proofs.Common.{◌≡◌, ℕ, suc, ◌+◌, ◌-◌, ◌<◌, ◌≤◌, ◌&&◌, cond, eqb, ltb, leb, List}
+use Rattle.std.proofs.Common.{[], ◌∷◌, length, take, sum, get_or, refl, sym, ◌∙◌, arith, length-set}
+use Rattle.std.proofs.Common.{fold}
+use Rattle.std.specs.List.{sum_by}
+use Rattle.std.proofs.lemmas.Bool.{ltb-true, ltb-false}
 use Rattle.std.proofs.lemmas.Bool.Decides.{nat_tests}
 use Rattle.std.proofs.lemmas.List.Sums.{sum_by-cons}
 use Rattle.deep_list.proofs.SlotLemmas.{sum_take-set, sum_take-set_above}
-use Rattle.cache_core.proofs.Lists.{cases}
+use Rattle.cache_core.proofs.Lists.{cases, list_any_is}
+use Rattle.profile_core.specs.internal.set_lists.Moves.{index_of, is_in}
 use Rattle.profile_core.specs.internal.profile.State.{one_more_at}
-use Rattle.full_profile.specs.State.{FullState, after_copies, after_copies_of}
+use Rattle.full_profile.specs.State.{FullState, after_copies, after_copies_of, after_evictions}
 
 -- `u` is `v` after `count` copybacks in the cache of so many ways
 pub record IsCopied (ways count : ℕ) (v u : FullState) : Type 0 where
@@ -147,3 +148,38 @@ copies_of_all up_to ways len (cleans ∷ lists) v short one other =
         sum_by-cons (counted_from up_to ways 0) cleans lists,
       );
     }
+
+-- the copybacks of a reference, in the caches of so many ways
+abbrev pub evicted_within : ℕ → ℕ → List ℕ → List ℕ → ℕ → ℕ
+evicted_within depth x blocks cleans ways =
+    cond (is_in x blocks)
+    (one_within (get_or cleans (index_of x blocks) 0) (index_of x blocks) ways)
+    (cond (eqb (length blocks) depth) (one_within (get_or cleans (depth - 1) 0) depth ways) 0)
+
+pub evictions : (v : FullState) (x : ℕ) (blocks cleans : List ℕ) (ways : ℕ) →
+    length blocks ≤ v.plain.geometry.e → length v.copied_above ≡ v.plain.geometry.e + 1 →
+    length v.copied_up_to ≡ v.plain.geometry.e + 1 →
+    IsCopied ways (evicted_within v.plain.geometry.e x blocks cleans ways) v
+    (after_evictions v.plain.geometry.e x blocks cleans v)
+evictions v x blocks cleans ways short one other =
+    let depth : ℕ = v.plain.geometry.e in
+    let d : ℕ = index_of x blocks in
+    cases (λ b. is_in x blocks ≡ b → IsCopied ways
+    (cond b (one_within (get_or cleans d 0) d ways)
+    (cond (eqb (length blocks) depth) (one_within (get_or cleans (depth - 1) 0) depth ways) 0)) v
+    (cond b (after_copies (get_or cleans d 0) d v) (cond (eqb (length blocks) depth)
+    (after_copies (get_or cleans (depth - 1) 0) depth v) v)))
+    (is_in x blocks)
+    (λ t is.
+    let found : d < length blocks = ltb-true d (length blocks) (sym (list_any_is (λ y. eqb y x)
+    blocks) ∙ is) in
+    copies ways (get_or cleans d 0) d v (omega (arith, found, short, one))
+    (omega (arith, found, short, other)))
+    (λ f is. cases (λ b. IsCopied ways
+    (cond b (one_within (get_or cleans (depth - 1) 0) depth ways) 0) v
+    (cond b (after_copies (get_or cleans (depth - 1) 0) depth v) v))
+    (eqb (length blocks) depth)
+    (λ full. copies ways (get_or cleans (depth - 1) 0) depth v (omega (arith, one))
+    (omega (arith, other)))
+    (λ free. none_copied ways v))
+    refl

@@ -1,52 +1,33 @@
--- The plain profile within a full one, and the lengths of its parts.
-use Rattle.std.proofs.Common.{◌≡◌, ℕ, zero, suc, ◌+◌, ◌-◌, ◌<◌, ◌≤◌, ◌^◌, Bool, true, false, cond}
-use Rattle.std.proofs.Common.{eqb, List, [], fold}
-use Rattle.std.proofs.Common.{◌∷◌, ◌++◌, length, take, drop, get_or, set, refl, sym, ◌∙◌, ap, subst}
-use Rattle.std.proofs.Common.{arith, ⊎_elim, get_or-set_same, get_or-set_other, length-set}
-use Rattle.std.proofs.Common.{length-take, length-append, length-drop, replicate, append-nil}
-use Rattle.std.proofs.Common.{append_assoc}
+-- The lengths of a full profile's lists and histograms.
+use Rattle.std.proofs.Common.{◌≡◌, ℕ, zero, suc, ◌+◌, ◌<◌, ◌≤◌, ◌^◌, Bool, true, false, cond}
+use Rattle.std.proofs.Common.{eqb, List, [], ◌∷◌, ◌++◌, length, take, drop, get_or, set, replicate}
+use Rattle.std.proofs.Common.{refl, sym, ◌∙◌, ap, subst, arith, get_or-set_other, length-set}
+use Rattle.std.proofs.Common.{length-take, length-append, length-drop}
 use Rattle.std.specs.List.{remove, sum_by}
-use Rattle.std.proofs.lemmas.Bool.{ltb-true}
 use Rattle.std.proofs.lemmas.Bool.Decides.{nat_tests}
 use Rattle.std.proofs.lemmas.Grind.{get_or-set_at}
 use Rattle.std.proofs.lemmas.List.{length-replicate}
-use Rattle.std.proofs.lemmas.List.Sums.{fold_push}
 use Rattle.trace_core.specs.declared.events.Access.{Access}
 use Rattle.trace_core.specs.declared.events.Access.TheVariants.{Fetch, Read, Write}
 use Rattle.trace_core.specs.declared.events.Ref.{Ref}
 use Rattle.trace_core.specs.declared.events.Event.{Event}
 use Rattle.trace_core.specs.declared.events.Event.TheVariants as event
 use Rattle.cache_core.specs.Geometry.{GeometryValue, IsGeometry, block_of, set_of_block}
-use Rattle.cache_core.proofs.Lists.{cases, list_any_is}
-use Rattle.profile_core.specs.internal.set_lists.Moves.{index_of, is_in, is_front}
-use Rattle.profile_core.specs.internal.profile.State.{ProfileState, empty, list_of, after_event}
-use Rattle.profile_core.specs.internal.profile.State.{one_more_at}
+use Rattle.profile_core.specs.internal.set_lists.Moves.{index_of, is_in, is_front, move_to_front}
+use Rattle.profile_core.specs.internal.profile.State.{ProfileState, list_of, after_reference}
+use Rattle.profile_core.specs.internal.profile.State.{after_flush, one_more_at}
+use Rattle.profile_core.specs.internal.profile.Fronts.{IsFit}
 use Rattle.profile_core.specs.internal.profile.ProfileStandsFor.{ProfileStandsFor}
 use Rattle.profile_core.proofs.profile.Fronts.{fit_of}
-use Rattle.profile_core.proofs.profile.Runs.{event_stands, geometry_after}
+use Rattle.profile_core.proofs.profile.Runs.{event_stands}
 use Rattle.profile_core.proofs.profile.Stands.{new_stands}
-use Rattle.full_profile.specs.State.{FullState, KindState, empty_kind, empty_full, after_copies}
+use Rattle.full_profile.specs.State.{FullState, KindState, empty_kind, empty_full}
 use Rattle.full_profile.specs.State.{after_full_event, after_full_reference, full_after, cleans_of}
 use Rattle.full_profile.specs.State.{kind_of, kind_number, with_miss, after_reference_in_lists}
 use Rattle.full_profile.specs.State.{after_evictions, after_emptying}
 use Rattle.full_profile.specs.Batches.{IsFitFull}
-use Rattle.full_profile.proofs.laws.Copies.{IsCopied, copies, copies_of_all, counted_from}
-use Rattle.full_profile.proofs.laws.Copies.{one_within, none_copied}
-
-pub plain_event : (v : FullState) (e : Event) →
-    (after_full_event v e).plain ≡ after_event v.plain e
-plain_event v (event.Reference r) = refl
-plain_event v event.Flush = refl
-
-plain_from : (es : List Event) (v : FullState) →
-    (fold after_full_event v es).plain ≡ fold after_event v.plain es
-plain_from [] v = refl
-plain_from (e ∷ es) v = plain_from es (after_full_event v e) ∙
-    ap (λ w. fold after_event w es) (plain_event v e)
-
-pub plain_part : (g : GeometryValue) (es : List Event) →
-    (full_after g es).plain ≡ fold after_event (empty g) es
-plain_part g es = plain_from es (empty_full g)
+use Rattle.full_profile.proofs.laws.Copies.{IsCopied, copies_of_all, counted_from, evictions}
+use Rattle.full_profile.proofs.laws.Runs.{plain_event, each_event, after_more}
 
 -- what was counted of a kind after a reference
 pub kind_after : (v : FullState) (access a : Access) (x : ℕ) (blocks cleans : List ℕ) →
@@ -66,7 +47,9 @@ behind_same : (x : ℕ) (blocks : List ℕ) (kind : KindState) →
 behind_same x blocks kind = elim (is_in x blocks) as (λ b. length (cond b (record kind {
   behind = one_more_at kind.behind (index_of x blocks);
 }) (record kind { missed = kind.missed + 1 })).behind ≡ length kind.behind) [
-    true ↦ length-set kind.behind (index_of x blocks) _ | false ↦ refl ]
+  | true ↦ length-set kind.behind (index_of x blocks) _
+  | false ↦ refl
+]
 
 either_behind : (front same : Bool) (x : ℕ) (blocks : List ℕ) (was other : KindState) {n : ℕ} →
     length was.behind ≡ n → length other.behind ≡ n →
@@ -108,48 +91,50 @@ set_alike (l ∷ xs) (m ∷ ys) (suc k) x y same e h zero = h 0
 set_alike (l ∷ xs) (m ∷ ys) (suc k) x y same e h (suc j) =
     set_alike xs ys k x y (omega (arith, same)) e (λ i. h (suc i)) j
 
-none_alike : (m n j : ℕ) → m ≡ n →
-    length (get_or {A = List ℕ} (replicate m []) j []) ≡ length (get_or {A = List ℕ} (replicate n [])
-    j [])
-none_alike m n j e = ap (λ k. length (get_or {A = List ℕ} (replicate k []) j [])) e
+set_short : (lists : List (List ℕ)) (k n : ℕ) (list : List ℕ) → length list ≤ n →
+    ((j : ℕ) → length (get_or lists j []) ≤ n) → (j : ℕ) →
+    length (get_or (set lists k list) j []) ≤ n
+set_short [] k n list short h j = omega arith
+set_short (l ∷ lists) zero n list short h zero = short
+set_short (l ∷ lists) zero n list short h (suc j) = h (suc j)
+set_short (l ∷ lists) (suc k) n list short h zero = h 0
+set_short (l ∷ lists) (suc k) n list short h (suc j) =
+    set_short lists k n list short (λ i. h (suc i)) j
 
--- the copybacks of a reference, in the caches of so many ways
-abbrev pub evicted_within : ℕ → ℕ → List ℕ → List ℕ → ℕ → ℕ
-evicted_within depth x blocks cleans ways =
-    cond (is_in x blocks)
-    (one_within (get_or cleans (index_of x blocks) 0) (index_of x blocks) ways)
-    (cond (eqb (length blocks) depth) (one_within (get_or cleans (depth - 1) 0) depth ways) 0)
+none_short : (m k n : ℕ) → length (get_or {A = List ℕ} (replicate m []) k []) ≤ n
+none_short zero k n = omega arith
+none_short (suc m) zero n = omega arith
+none_short (suc m) (suc k) n = none_short m k n
 
-pub evictions : (v : FullState) (x : ℕ) (blocks cleans : List ℕ) (ways : ℕ) →
-    length blocks ≤ v.plain.geometry.e → length v.copied_above ≡ v.plain.geometry.e + 1 →
-    length v.copied_up_to ≡ v.plain.geometry.e + 1 →
-    IsCopied ways (evicted_within v.plain.geometry.e x blocks cleans ways) v
-    (after_evictions v.plain.geometry.e x blocks cleans v)
-evictions v x blocks cleans ways short one other =
-    let depth : ℕ = v.plain.geometry.e in
-    let d : ℕ = index_of x blocks in
-    cases (λ b. is_in x blocks ≡ b → IsCopied ways
-    (cond b (one_within (get_or cleans d 0) d ways)
-    (cond (eqb (length blocks) depth) (one_within (get_or cleans (depth - 1) 0) depth ways) 0)) v
-    (cond b (after_copies (get_or cleans d 0) d v) (cond (eqb (length blocks) depth)
-    (after_copies (get_or cleans (depth - 1) 0) depth v) v)))
-    (is_in x blocks)
-    (λ t is.
-    let found : d < length blocks = ltb-true d (length blocks) (sym (list_any_is (λ y. eqb y x)
-    blocks) ∙ is) in
-    copies ways (get_or cleans d 0) d v (omega (arith, found, short, one))
-    (omega (arith, found, short, other)))
-    (λ f is. cases (λ b. IsCopied ways
-    (cond b (one_within (get_or cleans (depth - 1) 0) depth ways) 0) v
-    (cond b (after_copies (get_or cleans (depth - 1) 0) depth v) v))
-    (eqb (length blocks) depth)
-    (λ full. copies ways (get_or cleans (depth - 1) 0) depth v (omega (arith, one))
-    (omega (arith, other)))
-    (λ free. none_copied ways v))
-    refl
+length_either : (b : Bool) (xs ys : List ℕ) {n : ℕ} → length xs ≡ n → length ys ≡ n →
+    length (cond b xs ys) ≡ n
+length_either true xs ys p q = p
+length_either false xs ys p q = q
 
-module _ (es : List Event) (v : FullState) (stands : ProfileStandsFor es v.plain)
-    (fit : IsFitFull v) where
+fit_plain_reference : (v : ProfileState) (x : ℕ) → IsFit v → IsFit (after_reference v x)
+fit_plain_reference v x h =
+    let xs : List ℕ = list_of v (set_of_block v.geometry x) in
+    record {
+      some = h.some;
+      set_count = length-set v.lists (set_of_block v.geometry x) _ ∙ h.set_count;
+      short = set_short v.lists (set_of_block v.geometry x) v.geometry.e _
+          (omega (arith, length-take v.geometry.e (move_to_front x xs))) h.short;
+      distance_count = length_either (is_in x xs) _ _
+          (length-set v.distances (index_of x xs) _ ∙ h.distance_count) h.distance_count;
+      occupancy_count = length_either (is_in x xs) _ _ h.occupancy_count
+          (length-set v.misses_by_occupancy (length xs) _ ∙ h.occupancy_count);
+    }
+
+fit_plain_flush : (v : ProfileState) → IsFit v → IsFit (after_flush v)
+fit_plain_flush v h = record {
+  some = h.some;
+  set_count = length-replicate (2 ^ v.geometry.s) [];
+  short = λ k. none_short (2 ^ v.geometry.s) k v.geometry.e;
+  distance_count = h.distance_count;
+  occupancy_count = h.occupancy_count;
+}
+
+module _ (v : FullState) (fit : IsFitFull v) where
   pub fit_reference : (r : Ref) → IsFitFull (after_full_reference v r)
   fit_reference r =
       let g : GeometryValue = v.plain.geometry in
@@ -160,15 +145,16 @@ module _ (es : List Event) (v : FullState) (stands : ProfileStandsFor es v.plain
       let out : IsCopied 0 _ v (after_evictions g.e x blocks cleans v) = evictions v x blocks cleans
       0 (fit.plain.short k) fit.above_count fit.up_to_count in
       record {
-        plain = fit_of (event_stands es v.plain (event.Reference r) stands);
+        plain = fit_plain_reference v.plain x fit.plain;
         set_count = length-set v.cleans k _ ∙ fit.set_count;
         alike = set_alike v.cleans v.plain.lists k _ _ (fit.set_count ∙ sym fit.plain.set_count)
             (moved_alike g.e (index_of x blocks) x _ blocks cleans (fit.alike k)) fit.alike;
         kind_count = grind (arith, length-set {A = KindState}, fit.kind_count);
         behind_count = λ a. ap (λ kind. length kind.behind)
             (kind_after v r.access a x blocks cleans fit.kind_count)
-            ∙ either_behind (is_front x blocks) (eqb (kind_number a) (kind_number r.access)) x blocks
-            (kind_of v a) (kind_of v r.access) (fit.behind_count a) (fit.behind_count r.access);
+            ∙ either_behind (is_front x blocks) (eqb (kind_number a) (kind_number r.access)) x
+            blocks (kind_of v a) (kind_of v r.access) (fit.behind_count a)
+            (fit.behind_count r.access);
         above_count = out.above_count ∙ fit.above_count;
         up_to_count = out.up_to_count ∙ fit.up_to_count;
       }
@@ -189,14 +175,14 @@ emptied up_to ways v fit within =
       sums = u.sums;
     }
 
-pub fit_emptied : (up_to : ℕ → ℕ) (es : List Event) (v : FullState) → ProfileStandsFor es v.plain →
-    IsFitFull v → ((i : ℕ) → i < v.plain.geometry.e → up_to i ≤ v.plain.geometry.e) →
+pub fit_emptied : (up_to : ℕ → ℕ) (v : FullState) → IsFitFull v →
+    ((i : ℕ) → i < v.plain.geometry.e → up_to i ≤ v.plain.geometry.e) →
     IsFitFull (after_emptying up_to v)
-fit_emptied up_to es v stands fit within =
+fit_emptied up_to v fit within =
     let out : IsCopied 0 _ v (after_emptying up_to v) = emptied up_to 0 v fit within in
     let g : GeometryValue = v.plain.geometry in
     record {
-      plain = fit_of (event_stands es v.plain event.Flush stands);
+      plain = fit_plain_flush v.plain fit.plain;
       set_count = length-replicate (2 ^ g.s) [];
       alike = λ k. refl;
       kind_count = ap length out.kinds ∙ fit.kind_count;
@@ -206,11 +192,10 @@ fit_emptied up_to es v stands fit within =
       up_to_count = out.up_to_count ∙ fit.up_to_count;
     }
 
-pub fit_event : (es : List Event) (v : FullState) (e : Event) → ProfileStandsFor es v.plain →
-    IsFitFull v → IsFitFull (after_full_event v e)
-fit_event es v (event.Reference r) stands fit = fit_reference es v stands fit r
-fit_event es v event.Flush stands fit =
-    fit_emptied (λ index. v.plain.geometry.e) es v stands fit (λ i lt. omega arith)
+pub fit_event : (v : FullState) (e : Event) → IsFitFull v → IsFitFull (after_full_event v e)
+fit_event v (event.Reference r) fit = fit_reference v fit r
+fit_event v event.Flush fit =
+    fit_emptied (λ index. v.plain.geometry.e) v fit (λ i lt. omega arith)
 
 new_behind : (g : GeometryValue) (access : Access) →
     length (kind_of (empty_full g) access).behind ≡ g.e
@@ -230,38 +215,26 @@ fit_new g is = record {
 }
 
 -- a profile that was fed a list of events
-pub record IsFed (es : List Event) (v : FullState) : Type 0 where
+pub record FullStandsFor (es : List Event) (v : FullState) : Type 0 where
   pub plain : ProfileStandsFor es v.plain
   pub fit : IsFitFull v
 
-pub fed_new : (g : GeometryValue) → IsGeometry g → IsFed [] (empty_full g)
+pub fed_new : (g : GeometryValue) → IsGeometry g → FullStandsFor [] (empty_full g)
 fed_new g is = record { plain = new_stands g is; fit = fit_new g is }
 
-pub fed_event : (es : List Event) (v : FullState) (e : Event) → IsFed es v →
-    IsFed (es ++ e ∷ []) (after_full_event v e)
+pub fed_event : (es : List Event) (v : FullState) (e : Event) → FullStandsFor es v →
+    FullStandsFor (es ++ e ∷ []) (after_full_event v e)
 fed_event es v e h = record {
   plain = subst (λ (p : ProfileState). ProfileStandsFor (es ++ e ∷ []) p) (sym (plain_event v e))
       (event_stands es v.plain e h.plain);
-  fit = fit_event es v e h.plain h.fit;
+  fit = fit_event v e h.fit;
 }
 
--- what holds of no events, and of one more where it holds of some
-pub each_event : (P : List Event → Type 0) → P [] →
-    ((es : List Event) (e : Event) → P es → P (es ++ e ∷ [])) → (es : List Event) → P es
-each_event P none more es = with_more [] es none
-  where
-    with_more : (before es : List Event) → P before → P (before ++ es)
-    with_more before [] h = subst P (sym (append-nil before)) h
-    with_more before (e ∷ es) h =
-        subst P (append_assoc before (e ∷ []) es) (with_more (before ++ e ∷ []) es (more before e h))
+pub fed_after : (g : GeometryValue) (es : List Event) → IsGeometry g →
+    FullStandsFor es (full_after g es)
+fed_after g es is = each_event (λ xs. FullStandsFor xs (full_after g xs)) (fed_new g is)
+    (λ xs e h. subst (FullStandsFor (xs ++ e ∷ [])) (sym (after_more g xs e))
+    (fed_event xs _ e h)) es
 
-pub after_more : (g : GeometryValue) (es : List Event) (e : Event) →
-    full_after g (es ++ e ∷ []) ≡ after_full_event (full_after g es) e
-after_more g es e = fold_push after_full_event (empty_full g) es e
-
-pub fed_after : (g : GeometryValue) (es : List Event) → IsGeometry g → IsFed es (full_after g es)
-fed_after g es is = each_event (λ xs. IsFed xs (full_after g xs)) (fed_new g is)
-    (λ xs e h. subst (IsFed (xs ++ e ∷ [])) (sym (after_more g xs e)) (fed_event xs _ e h)) es
-
-pub geometry_stays : (g : GeometryValue) (es : List Event) → (full_after g es).plain.geometry ≡ g
-geometry_stays g es = ap (λ p. p.geometry) (plain_part g es) ∙ geometry_after es (empty g)
+pub fit_after : (g : GeometryValue) (es : List Event) → IsGeometry g → IsFitFull (full_after g es)
+fit_after g es is = (fed_after g es is).fit

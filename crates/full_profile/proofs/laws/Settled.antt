@@ -1,15 +1,14 @@
--- References that are settled: they change nothing but the number of fronts, and are settled in each
--- profile that refines this one.
-use Rattle.std.proofs.Common.{◌≡◌, ℕ, zero, suc, ◌+◌, ◌-◌, ◌<◌, ◌≤◌, ◌^◌, ◌&&◌, ◌||◌, Bool, true}
-use Rattle.std.proofs.Common.{false, not, cond, eqb, ltb, max, List, [], ◌∷◌, ◌++◌, length, take, drop}
+-- References that are settled: they change nothing but the number of fronts, and are settled in
+-- each profile that refines this one.
+use Rattle.std.proofs.Common.{◌≡◌, ℕ, zero, suc, ◌+◌, ◌<◌, ◌≤◌, ◌^◌, ◌||◌, Bool, true}
+use Rattle.std.proofs.Common.{false, not, cond, eqb, ltb, max, List, [], ◌∷◌, ◌++◌, length, take}
 use Rattle.std.proofs.Common.{get_or, set, refl, sym, ◌∙◌, ap, subst, arith, ⊎_elim, fold}
 use Rattle.std.proofs.Common.{get_or-set_same, get_or-set_other, replicate}
 use Rattle.std.specs.List.{remove}
-use Rattle.std.proofs.lemmas.Bool.{and_parts, and_from, or_cases, or_from, eqb-true, eq-eqb, not-true}
+use Rattle.std.proofs.lemmas.Bool.{and_parts, and_from, or_cases, eqb-true, eq-eqb}
 use Rattle.std.proofs.lemmas.Bool.{cases_eq, not_from_false, le-ltb, cond-true, cond-false}
 use Rattle.std.proofs.lemmas.Bool.{both_ways}
-use Rattle.std.proofs.lemmas.Bool.Decides.{nat_tests}
-use Rattle.std.proofs.lemmas.List.{set-get_or, take_all, length-replicate}
+use Rattle.std.proofs.lemmas.List.{set-get_or, take_all}
 use Rattle.std.proofs.lemmas.Nat.{mod_below, pow_pos}
 use Rattle.trace_core.specs.declared.events.Access.{Access}
 use Rattle.trace_core.specs.declared.events.Ref.{Ref}
@@ -19,18 +18,18 @@ use Rattle.trace_core.specs.Events.{is_write}
 use Rattle.cache_core.specs.Geometry.{GeometryValue, IsGeometry, block_of, set_of_block, set_of}
 use Rattle.cache_core.proofs.Lists.{cases}
 use Rattle.profile_core.specs.internal.set_lists.Moves.{index_of, is_in, is_front}
-use Rattle.profile_core.specs.internal.profile.State.{ProfileState, empty, list_of, after_event}
+use Rattle.profile_core.specs.internal.profile.State.{empty, list_of, after_event}
 use Rattle.profile_core.specs.internal.profile.State.{after_reference}
 use Rattle.profile_core.specs.internal.profile.Fronts.{is_front_of, after_fronts, is_refined, Leads}
 use Rattle.profile_core.proofs.profile.Feeding.{found_front}
 use Rattle.profile_core.proofs.profile.Fronts.{front_reference, IsFiner, finer_of, leads_after}
-use Rattle.profile_core.proofs.profile.Runs.{geometry_after}
-use Rattle.full_profile.specs.State.{FullState, KindState, cleans_of, kind_of, kind_number}
+use Rattle.full_profile.specs.State.{FullState, cleans_of, kind_of, kind_number}
 use Rattle.full_profile.specs.State.{with_miss, clean_in_front, after_copies, after_evictions}
 use Rattle.full_profile.specs.State.{after_full_reference, after_reference_in_lists, full_after}
 use Rattle.full_profile.specs.State.{empty_full, after_full_event, after_full_flush}
-use Rattle.full_profile.proofs.laws.Fit.{plain_part, IsFed, fed_after, each_event, after_more}
-use Rattle.full_profile.proofs.laws.Fit.{geometry_stays}
+use Rattle.full_profile.proofs.laws.Fit.{fed_after}
+use Rattle.full_profile.proofs.laws.Runs.{plain_part, each_event, after_more}
+use Rattle.full_profile.proofs.laws.Runs.{geometry_stays}
 use Rattle.full_profile.specs.Batches.{IsFitFull, is_settled, after_settled, SettledLaw}
 
 zero_or : (write : Bool) (c : ℕ) → (not write || eqb c 0) ≡ true → cond write 0 (max c 0) ≡ c
@@ -89,7 +88,7 @@ settled_in v access x fit front settled =
     (fit.plain.short k) front settled) ∙ set-get_or v.cleans k [] in
     let kinds : cond (is_front x blocks) v.kinds (set v.kinds (kind_number access)
     (with_miss x blocks (kind_of v access))) ≡ v.kinds = cond-true (is_front x blocks) _ _ front in
-    cc (none, first, kept, kinds)
+    cc (none, first, kept)
 
 pub settled_changes_fronts_only : (v : FullState) (r : Ref) → IsFitFull v →
     is_settled v r ≡ true → after_full_reference v r ≡ after_settled 1 v
@@ -272,7 +271,8 @@ module _ (g h : GeometryValue) (one : IsGeometry g) (other : IsGeometry h)
   dirty_after = each_event (λ es. LeadsDirty (full_after g es) (full_after h es))
       (dirty_empty (empty_full g) (empty_full h) refl)
       (λ es e leads.
-      subst (λ (v : FullState). LeadsDirty v (full_after h (es ++ e ∷ []))) (sym (after_more g es e))
+      subst (λ (v : FullState). LeadsDirty v (full_after h (es ++ e ∷ [])))
+      (sym (after_more g es e))
       (subst (LeadsDirty (after_full_event (full_after g es) e)) (sym (after_more h es e))
       (dirty_event (full_after g es) (full_after h es) (fed_after g es one).fit
       (fed_after h es other).fit (finer_there es) (fronts_there es) leads e)))

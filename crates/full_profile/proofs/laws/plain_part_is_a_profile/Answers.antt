@@ -1,4 +1,4 @@
-use Rattle.full_profile.proofs.laws.Fit.{plain_part}
+use Rattle.full_profile.proofs.laws.Runs.{plain_part}
 use Rattle.full_profile.proofs.laws.plain_part_is_a_profile.Goals as goal
 
 pub returns : goal.returns
