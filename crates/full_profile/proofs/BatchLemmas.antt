@@ -1,111 +1,26 @@
--- References that are settled can be counted later.
-use Rattle.std.proofs.Common.{◌≡◌, ℕ, ◌+◌, ◌-◌, ◌≤◌, ◌<◌, Bool, true, false, cond, List, [], ◌∷◌, ◌++◌}
-use Rattle.std.proofs.Common.{refl, sym, ap, ap₂, ◌∙◌, arith, length, get_or, ltb, eqb, map, subst}
-use Rattle.std.proofs.Common.{append-nil, append_assoc, fold, replicate, ◌^◌, zero, suc, not, ◌||◌}
-use Rattle.std.proofs.Common.{take, ⊎_elim, get_or-set_same}
-use Rattle.std.proofs.lemmas.Bool.{and_parts, and_from, or_cases, or_left, or_right, eqb-true, eq-eqb, cond-true}
-use Rattle.std.proofs.lemmas.Bool.{both_ways}
+-- What a profile was fed, and what it need not be fed.
+use Rattle.std.proofs.Common.{◌≡◌, ℕ, zero, suc, ◌+◌, ◌-◌, ◌≤◌, ◌<◌, ◌^◌, ◌||◌, Bool, true, false}
+use Rattle.std.proofs.Common.{cond, not, List, [], ◌∷◌, ◌++◌, refl, sym, ap, ap₂, ◌∙◌, arith, length}
+use Rattle.std.proofs.Common.{get_or, eqb, map, subst, take, ⊎_elim, get_or-set_same}
+use Rattle.std.proofs.lemmas.Bool.{and_parts, and_from, or_cases, or_left, or_right, eqb-true}
+use Rattle.std.proofs.lemmas.Bool.{eq-eqb, cond-true, both_ways}
 use Rattle.std.proofs.lemmas.Nat.{mod_below, pow_pos}
-use Rattle.trace_core.specs.Events.{is_write}
 use Rattle.trace_core.specs.declared.events.Ref.{Ref}
 use Rattle.trace_core.specs.declared.events.Event.{Event}
 use Rattle.trace_core.specs.declared.events.Event.TheVariants as event
+use Rattle.trace_core.specs.Events.{is_write}
 use Rattle.cache_core.specs.Geometry.{GeometryValue, IsGeometry, block_of, set_of_block}
 use Rattle.cache_core.proofs.Lists.{cases}
-use Rattle.profile_core.specs.internal.set_lists.Moves.{index_of, is_in, is_front}
-use Rattle.profile_core.specs.internal.profile.State.{ProfileState, fed_of, list_of, one_more_at}
-use Rattle.profile_core.specs.internal.profile.State.{after_reference, after_flush}
-use Rattle.profile_core.specs.internal.profile.Fronts.{is_refined, after_fronts, is_front_of}
-use Rattle.profile_core.proofs.profile.Fronts.{fronts_fronts, fronts_none, reference_fronts}
-use Rattle.profile_core.proofs.profile.Fronts.{reference_fed, fit_behind}
-use Rattle.full_profile.specs.State.{FullState, after_full_reference, after_copies, after_evictions}
-use Rattle.full_profile.specs.State.{after_full_flush, cleans_of, full_after, after_copies_of}
-use Rattle.full_profile.specs.State.{after_emptying, after_end}
-use Rattle.full_profile.specs.Batches.{after_settled, is_settled, after_unless_settled, with_settled}
-use Rattle.full_profile.specs.Batches.{after_full_batch, unsettled, IsFitFull, WasFed}
-use Rattle.full_profile.proofs.laws.Fit.{fed_after, after_more}
-use Rattle.full_profile.proofs.laws.Settled.{settled_changes_fronts_only, settled_is_refined}
-
-pub settled_none : (v : FullState) → after_settled 0 v ≡ v
-settled_none v = ap (λ p. record v { plain = p }) (fronts_none v.plain)
-
-pub settled_settled : (m n : ℕ) (v : FullState) →
-    after_settled m (after_settled n v) ≡ after_settled (n + m) v
-settled_settled m n v = ap (λ p. record v { plain = p }) (fronts_fronts m n v.plain)
-
--- the copybacks that a reference shows are the same before and after settled ones
-copies_settled : (n a u : ℕ) (v : FullState) →
-    after_copies a u (after_settled n v) ≡ after_settled n (after_copies a u v)
-copies_settled n a u v = cases
-    (λ b. cond b (record (after_settled n v) {
-      copied_above = one_more_at v.copied_above a;
-      copied_up_to = one_more_at v.copied_up_to u;
-    }) (after_settled n v) ≡ after_settled n (cond b (record v {
-      copied_above = one_more_at v.copied_above a;
-      copied_up_to = one_more_at v.copied_up_to u;
-    }) v)) (ltb a u) (λ t. refl) (λ f. refl)
-
-evictions_settled : (n depth block : ℕ) (blocks cleans : List ℕ) (v : FullState) →
-    after_evictions depth block blocks cleans (after_settled n v)
-    ≡ after_settled n (after_evictions depth block blocks cleans v)
-evictions_settled n depth block blocks cleans v =
-    let i : ℕ = index_of block blocks in
-    let c : ℕ = get_or cleans i 0 in
-    let l : ℕ = get_or cleans (depth - 1) 0 in
-    let w : FullState = after_settled n v in
-    cases (λ b. cond b (after_copies c i w)
-    (cond (eqb (length blocks) depth) (after_copies l depth w) w)
-    ≡ after_settled n (cond b (after_copies c i v)
-    (cond (eqb (length blocks) depth) (after_copies l depth v) v)))
-    (is_in block blocks)
-    (λ t. copies_settled n c i v)
-    (λ f. cases (λ b. cond b (after_copies l depth w) w
-    ≡ after_settled n (cond b (after_copies l depth v) v))
-    (eqb (length blocks) depth) (λ t. copies_settled n l depth v) (λ f. refl))
-
--- a reference after settled ones is one before them
-pub reference_settled : (n : ℕ) (v : FullState) (r : Ref) →
-    after_full_reference (after_settled n v) r ≡ after_settled n (after_full_reference v r)
-reference_settled n v r =
-    let block : ℕ = block_of v.plain.geometry r.addr in
-    let set : ℕ = set_of_block v.plain.geometry block in
-    let depth : ℕ = v.plain.geometry.e in
-    let blocks : List ℕ = list_of v.plain set in
-    let after : FullState = after_full_reference v r in
-    ap₂ (λ (w : FullState) (p : ProfileState). record w {
-      plain = p;
-      cleans = after.cleans;
-      kinds = after.kinds;
-    }) (evictions_settled n depth block blocks (cleans_of v set) v)
-    (reference_fronts n v.plain block)
-
--- A profile that lags behind by settled references catches up.
-pub caught_more : (n : ℕ) (v : FullState) (r : Ref) → IsFitFull v → fed_of v.plain ≤ n →
-    with_settled (n + 1) (after_unless_settled v r) ≡ after_full_reference (with_settled n v) r
-caught_more n v r fit few =
-    let k : ℕ = n - fed_of v.plain in
-    let x : ℕ = block_of v.plain.geometry r.addr in
-    cases (λ b. is_settled v r ≡ b → with_settled (n + 1) (cond b v (after_full_reference v r))
-    ≡ after_full_reference (with_settled n v) r)
-    (is_settled v r)
-    (λ t is.
-    ap (λ m. after_settled m v) {x = n + 1 - fed_of v.plain} {y = 1 + k} (omega (arith, few))
-    ∙ sym (settled_settled k 1 v)
-    ∙ ap (after_settled k) (sym (settled_changes_fronts_only v r fit is))
-    ∙ sym (reference_settled k v r))
-    (λ f is.
-    ap (λ m. after_settled m (after_full_reference v r))
-    {x = n + 1 - fed_of (after_reference v.plain x)} {y = k}
-    (omega (arith, reference_fed v.plain x fit.plain, few))
-    ∙ sym (reference_settled k v r))
-    refl
-
-pub fed_more : (n : ℕ) (v : FullState) (r : Ref) → IsFitFull v → fed_of v.plain ≤ n →
-    fed_of (after_unless_settled v r).plain ≤ n + 1
-fed_more n v r fit few =
-    cases (λ b. fed_of (cond b v (after_full_reference v r)).plain ≤ n + 1) (is_settled v r)
-    (λ t. omega (arith, few))
-    (λ f. omega (arith, few, reference_fed v.plain (block_of v.plain.geometry r.addr) fit.plain))
+use Rattle.profile_core.specs.internal.set_lists.Moves.{is_front}
+use Rattle.profile_core.specs.internal.profile.Fronts.{is_front_of, is_refined}
+use Rattle.full_profile.specs.State.{FullState, after_full_reference, after_full_flush, cleans_of}
+use Rattle.full_profile.specs.State.{full_after}
+use Rattle.full_profile.specs.Batches.{is_settled, after_unless_settled, after_full_batch, unsettled}
+use Rattle.full_profile.specs.Batches.{IsFitFull, LagsBehind, WasFed}
+use Rattle.full_profile.proofs.laws.Fit.{fit_after}
+use Rattle.full_profile.proofs.laws.Settled.{settled_is_refined}
+use Rattle.full_profile.proofs.laws.Later.{fit_lagging, lags_more, lags_batch, lags_flush}
+use Rattle.full_profile.proofs.laws.Later.{unsettled_suffice}
 
 pub geometry_unless : (v : FullState) (r : Ref) →
     (after_unless_settled v r).plain.geometry ≡ v.plain.geometry
@@ -113,129 +28,83 @@ geometry_unless v r =
     cases (λ b. (cond b v (after_full_reference v r)).plain.geometry ≡ v.plain.geometry)
     (is_settled v r) (λ t. refl) (λ f. refl)
 
-fit_before : (n : ℕ) (v : FullState) → IsFitFull (after_settled n v) → IsFitFull v
-fit_before n v h = record {
-  plain = fit_behind n v.plain h.plain;
-  set_count = h.set_count;
-  alike = h.alike;
-  kind_count = h.kind_count;
-  behind_count = h.behind_count;
-  above_count = h.above_count;
-  up_to_count = h.up_to_count;
-}
+pub geometry_batch : (v : FullState) (refs : List Ref) →
+    (after_full_batch v refs).plain.geometry ≡ v.plain.geometry
+geometry_batch v [] = refl
+geometry_batch v (r ∷ refs) =
+    geometry_batch (after_unless_settled v r) refs ∙ geometry_unless v r
 
 pub fit_fed : {n : ℕ} {es : List Event} {v : FullState} → WasFed n es v → IsFitFull v
-fit_fed {n} {es} {v} h = fit_before (n - fed_of v.plain) v
-    (subst IsFitFull (sym h.caught) (fed_after v.plain.geometry es h.geometry).fit)
-
--- one reference more
-pub fed_reference : {n : ℕ} {es : List Event} {v : FullState} → WasFed n es v → (r : Ref) →
-    WasFed (n + 1) (es ++ event.Reference r ∷ []) (after_unless_settled v r)
-fed_reference {n} {es} {v} h r =
-    let g : GeometryValue = v.plain.geometry in
-    let same : (after_unless_settled v r).plain.geometry ≡ g = geometry_unless v r in
-    record {
-      geometry = subst IsGeometry (sym same) h.geometry;
-      caught = caught_more n v r (fit_fed h) h.few
-          ∙ ap (λ w. after_full_reference w r) h.caught
-          ∙ sym (after_more g es (event.Reference r))
-          ∙ ap (λ k. full_after k (es ++ event.Reference r ∷ [])) (sym same);
-      few = fed_more n v r (fit_fed h) h.few;
-    }
+fit_fed {n} {es} {v} h = fit_lagging (n - _) v
+    (subst IsFitFull (sym h.lags.caught) (fit_after v.plain.geometry es h.geometry))
 
 -- the events of some references
 abbrev pub as_events : List Ref → List Event
 as_events refs = map event.Reference refs
 
+with_geometry : {n : ℕ} {es : List Event} {g : GeometryValue} {v : FullState} → IsGeometry g →
+    v.plain.geometry ≡ g → LagsBehind n g es v → WasFed n es v
+with_geometry {n} {es} {g} {v} is same h = record {
+  geometry = subst IsGeometry (sym same) is;
+  lags = subst (λ k. LagsBehind n k es v) (sym same) h;
+}
+
+-- one reference more
+pub fed_reference : {n : ℕ} {es : List Event} {v : FullState} → WasFed n es v → (r : Ref) →
+    WasFed (n + 1) (es ++ event.Reference r ∷ []) (after_unless_settled v r)
+fed_reference {n} {es} {v} h r = with_geometry h.geometry (geometry_unless v r)
+    (lags_more v.plain.geometry h.geometry n es v r h.lags)
+
 -- many references more
 pub fed_batch : (refs : List Ref) {n : ℕ} {es : List Event} {v : FullState} → WasFed n es v →
     WasFed (n + length refs) (es ++ as_events refs) (after_full_batch v refs)
-fed_batch [] {n} {es} {v} h =
-    subst (λ l. WasFed (n + 0) l v) (sym (append-nil es))
-    (subst (λ m. WasFed m es v) {x = n} {y = n + 0} (omega arith) h)
-fed_batch (r ∷ refs) {n} {es} {v} h =
-    subst (λ l. WasFed (n + length (r ∷ refs)) l (after_full_batch v (r ∷ refs)))
-    (append_assoc es (event.Reference r ∷ []) (as_events refs))
-    (subst (λ m. WasFed m ((es ++ event.Reference r ∷ []) ++ as_events refs)
-    (after_full_batch v (r ∷ refs))) {x = n + 1 + length refs} {y = n + length (r ∷ refs)}
-    (omega arith) (fed_batch refs (fed_reference h r)))
+fed_batch refs {n} {es} {v} h = with_geometry h.geometry (geometry_batch v refs)
+    (lags_batch v.plain.geometry h.geometry n es v refs h.lags)
 
 -- a flush
-list_settled : (n : ℕ) (up_to : ℕ → ℕ) (index : ℕ) (cleans : List ℕ) (v : FullState) →
-    after_copies_of up_to index cleans (after_settled n v)
-    ≡ after_settled n (after_copies_of up_to index cleans v)
-unfolding after_copies_of
-list_settled n up_to index [] v = refl
-list_settled n up_to index (clean ∷ cleans) v =
-    ap (after_copies clean (up_to index)) (list_settled n up_to (index + 1) cleans v)
-    ∙ copies_settled n clean (up_to index) (after_copies_of up_to (index + 1) cleans v)
-
-lists_settled : (n : ℕ) (up_to : ℕ → ℕ) (lists : List (List ℕ)) (v : FullState) →
-    fold (λ w cleans. after_copies_of up_to 0 cleans w) (after_settled n v) lists
-    ≡ after_settled n (fold (λ w cleans. after_copies_of up_to 0 cleans w) v lists)
-lists_settled n up_to [] v = refl
-lists_settled n up_to (cleans ∷ lists) v =
-    ap (λ u. fold (λ w cleans. after_copies_of up_to 0 cleans w) u lists)
-    (list_settled n up_to 0 cleans v)
-    ∙ lists_settled n up_to lists (after_copies_of up_to 0 cleans v)
-
-emptying_settled : (n : ℕ) (up_to : ℕ → ℕ) (v : FullState) →
-    after_emptying up_to (after_settled n v) ≡ after_settled n (after_emptying up_to v)
-emptying_settled n up_to v =
-    ap {A = FullState} {B = FullState} (λ w. record w {
-      plain = after_fronts n (after_flush v.plain);
-      cleans = replicate (2 ^ v.plain.geometry.s) [];
-    }) (lists_settled n up_to v.cleans v)
-
 pub fed_flush : {n : ℕ} {es : List Event} {v : FullState} → WasFed n es v →
     WasFed n (es ++ event.Flush ∷ []) (after_full_flush v)
-fed_flush {n} {es} {v} h =
-    let g : GeometryValue = v.plain.geometry in
-    record {
-      geometry = h.geometry;
-      caught = sym (emptying_settled (n - fed_of v.plain) (λ index. g.e) v)
-          ∙ ap after_full_flush h.caught ∙ sym (after_more g es event.Flush);
-      few = h.few;
-    }
-
--- the end
-pub fed_end : {n : ℕ} {es : List Event} {v : FullState} → WasFed n es v →
-    after_end (with_settled n v) ≡ after_end (full_after v.plain.geometry es)
-fed_end {n} {es} {v} h = ap after_end h.caught
+fed_flush {n} {es} {v} h = record {
+  geometry = h.geometry;
+  lags = lags_flush v.plain.geometry n es v h.lags;
+}
 
 -- A profile that refines another one, which was fed the same, may be given only what the other one
 -- has not settled.
-pub settled_there : {n : ℕ} {es : List Event} {v w : FullState} → WasFed n es v → WasFed n es w →
+settled_there : {n : ℕ} {es : List Event} {v w : FullState} → WasFed n es v → WasFed n es w →
     is_refined v.plain.geometry w.plain.geometry ≡ true → (r : Ref) → is_settled v r ≡ true →
     is_settled w r ≡ true
 settled_there {n} {es} {v} {w} hv hw refined r is =
-    ap (λ u. is_settled u r) hw.caught ∙
+    ap (λ u. is_settled u r) hw.lags.caught ∙
     settled_is_refined v.plain.geometry w.plain.geometry es r hv.geometry hw.geometry refined
-    (sym (ap (λ u. is_settled u r) hv.caught) ∙ is)
+    (sym (ap (λ u. is_settled u r) hv.lags.caught) ∙ is)
 
 pub enough : (refs : List Ref) {n : ℕ} {es : List Event} {v w : FullState} → WasFed n es v →
     WasFed n es w → is_refined v.plain.geometry w.plain.geometry ≡ true →
-    (after_full_batch w (unsettled v refs) ≡ after_full_batch w refs)
-    × (unsettled w (unsettled v refs) ≡ unsettled w refs)
-enough [] hv hw refined = (refl, refl)
-enough (r ∷ refs) {n} {es} {v} {w} hv hw refined =
+    after_full_batch w (unsettled v refs) ≡ after_full_batch w refs
+enough refs {n} {es} {v} {w} hv hw refined = unsettled_suffice v.plain.geometry w.plain.geometry
+    hv.geometry hw.geometry refined n es v w refs hv.lags hw.lags
+
+-- and leaves the same
+pub enough_left : (refs : List Ref) {n : ℕ} {es : List Event} {v w : FullState} →
+    WasFed n es v → WasFed n es w → is_refined v.plain.geometry w.plain.geometry ≡ true →
+    unsettled w (unsettled v refs) ≡ unsettled w refs
+enough_left [] hv hw refined = refl
+enough_left (r ∷ refs) {n} {es} {v} {w} hv hw refined =
     let v' : FullState = after_unless_settled v r in
     let w' : FullState = after_unless_settled w r in
     let later : List Ref = unsettled v' refs in
-    let rest = enough refs (fed_reference hv r) (fed_reference hw r)
+    let rest = enough_left refs (fed_reference hv r) (fed_reference hw r)
     (ap₂ is_refined (geometry_unless v r) (geometry_unless w r) ∙ refined) in
     cases (λ b. is_settled v r ≡ b →
-    (after_full_batch w (cond b later (r ∷ later)) ≡ after_full_batch w' refs)
-    × (unsettled w (cond b later (r ∷ later)) ≡ unsettled w (r ∷ refs)))
+    unsettled w (cond b later (r ∷ later)) ≡ unsettled w (r ∷ refs))
     (is_settled v r)
     (λ t is.
     let there = settled_there hv hw refined r is in
     let same : w ≡ w' = sym (ap (λ b. cond b w (after_full_reference w r)) there) in
-    (ap (λ u. after_full_batch u later) same ∙ rest.0,
-    ap (λ u. unsettled u later) same ∙ rest.1
-    ∙ sym (ap (λ b. cond b (unsettled w' refs) (r ∷ unsettled w' refs)) there)))
-    (λ f is. (rest.0,
-    ap (λ l. cond (is_settled w r) l (r ∷ l)) rest.1))
+    ap (λ u. unsettled u later) same ∙ rest
+    ∙ sym (ap (λ b. cond b (unsettled w' refs) (r ∷ unsettled w' refs)) there))
+    (λ f is. ap (λ l. cond (is_settled w r) l (r ∷ l)) rest)
     refl
 
 -- A reference to the block of the one before changes nothing, unless it alone writes.

@@ -66,13 +66,7 @@ pub record IsFitFull (v : FullState) : Type 0 where
   pub above_count : length v.copied_above ≡ v.plain.geometry.e + 1
   pub up_to_count : length v.copied_up_to ≡ v.plain.geometry.e + 1
 
--- A profile was fed n references, except some that were settled: the profile after these are
--- counted, too.
-abbrev pub with_settled : ℕ → FullState → FullState
-with_settled n v = after_settled (n - fed_of v.plain) v
-
--- A profile was fed n references of some events, except some of those that were settled.
+-- a profile that was fed n references of some events, except some of those that were settled
 pub record WasFed (n : ℕ) (es : List Event) (v : FullState) : Type 0 where
   pub geometry : IsGeometry v.plain.geometry
-  pub caught : with_settled n v ≡ full_after v.plain.geometry es
-  pub few : fed_of v.plain ≤ n
+  pub lags : LagsBehind n v.plain.geometry es v
