@@ -9,3 +9,4 @@ pub mod Dirty
 pub mod Copybacks
 pub mod Counted
 pub mod Later
+pub mod Reported
