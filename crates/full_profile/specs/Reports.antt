@@ -16,8 +16,8 @@ use Rattle.cache_core.specs.system.Systems.{cache_stats}
 use Rattle.full_profile.specs.declared.counts.FullCounts.{FullCounts}
 
 -- the statistics of such a cache over its events
-abbrev pub report_of : GeometryValue → List Event → CacheStats
-report_of g es = cache_stats (lru_machine g Back) es
+abbrev pub lru_stats : GeometryValue → List Event → CacheStats
+lru_stats g es = cache_stats (lru_machine g Back) es
 
 -- counts that say the same as the statistics of a cache
 pub record IsReported (c : FullCounts) (s : CacheStats) : Type 0 where

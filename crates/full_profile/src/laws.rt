@@ -13,7 +13,7 @@ ghost use Rattle.cache_core.specs.system.Systems.{system_run, events_for};
 ghost use Rattle.profile_core.specs.internal.profile.State.{empty, after_event};
 ghost use Rattle.profile_core.specs.internal.profile.Fronts.{is_refined};
 ghost use Rattle.full_profile.specs.LookBack.{full_counts};
-ghost use Rattle.full_profile.specs.Reports.{IsReported, report_of, planned_lru, plan_alone};
+ghost use Rattle.full_profile.specs.Reports.{IsReported, lru_stats, planned_lru, plan_alone};
 ghost use Rattle.full_profile.specs.State.{FullState, empty_full, after_full_reference, after_end};
 ghost use Rattle.full_profile.specs.State.{after_full_event, after_full_flush, full_after};
 ghost use Rattle.full_profile.specs.State.{full_counts_at};
@@ -90,13 +90,13 @@ pub fn unsettled_references_suffice()
 /// `Reported.alone_data`.
 pub fn counts_are_those_of_reports()
     ensures counts { (g : GeometryValue) (es : List Event) → 1 ≤ g.e
-        → IsReported (full_counts g es) (report_of g es) }
+        → IsReported (full_counts g es) (lru_stats g es) }
     ensures unified { (g : GeometryValue) (seed : ℕ) (es : List Event)
-        → (system_run (plan_alone L1U (planned_lru g)) seed es).l1u ≡ Some (report_of g es) }
+        → (system_run (plan_alone L1U (planned_lru g)) seed es).l1u ≡ Some (lru_stats g es) }
     ensures instructions { (g : GeometryValue) (seed : ℕ) (es : List Event)
         → (system_run (plan_alone L1I (planned_lru g)) seed es).l1i
-        ≡ Some (report_of g (events_for L1I es)) }
+        ≡ Some (lru_stats g (events_for L1I es)) }
     ensures data { (g : GeometryValue) (seed : ℕ) (es : List Event)
         → (system_run (plan_alone L1D (planned_lru g)) seed es).l1d
-        ≡ Some (report_of g (events_for L1D es)) }
+        ≡ Some (lru_stats g (events_for L1D es)) }
 {}
