@@ -1,5 +1,5 @@
--- The lines of the LRU machine are marked dirty where look-back says so, and so are those that leave
--- it.
+-- The lines of the LRU machine are marked dirty where look-back says so, and so are those that
+-- leave it.
 use Rattle.std.proofs.Common.{◌≡◌, ℕ, ◌+◌, ◌-◌, ◌<◌, ◌≤◌, ◌^◌, ◌&&◌, ◌||◌, Bool, true}
 use Rattle.std.proofs.Common.{false, not, cond, eqb, ltb, List, [], ◌∷◌, ◌++◌, length, take, drop}
 use Rattle.std.proofs.Common.{map, reverse, Option, Some, None, is_some, filter, find}
