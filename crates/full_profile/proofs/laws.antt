@@ -9,3 +9,5 @@ pub mod Dirty
 pub mod Copybacks
 pub mod Counted
 pub mod Later
+pub mod Marks
+pub mod Reported

@@ -3,14 +3,17 @@
 //! law is known. A proof may cite the lemma that a law names instead.
 
 ghost use Rattle.std.specs.Prelude.{ℕ, ◌≡◌, ◌≤◌, ◌+◌, true, List, [], ◌∷◌, ◌++◌, length};
-ghost use Rattle.std.specs.Prelude.{map, fold};
+ghost use Rattle.std.specs.Prelude.{map, fold, Some};
 ghost use Rattle.trace_core.specs.declared.events.Ref.{Ref};
 ghost use Rattle.trace_core.specs.declared.events.Event.{Event};
 ghost use Rattle.trace_core.specs.declared.events.Event.TheVariants as event;
+ghost use Rattle.cache_core.specs.declared.system.plan.CacheName.TheVariants.{L1I, L1D, L1U};
 ghost use Rattle.cache_core.specs.Geometry.{GeometryValue, IsGeometry};
+ghost use Rattle.cache_core.specs.system.Systems.{system_run, events_for};
 ghost use Rattle.profile_core.specs.internal.profile.State.{empty, after_event};
 ghost use Rattle.profile_core.specs.internal.profile.Fronts.{is_refined};
 ghost use Rattle.full_profile.specs.LookBack.{full_counts};
+ghost use Rattle.full_profile.specs.Reports.{IsReported, lru_stats, planned_lru, plan_alone};
 ghost use Rattle.full_profile.specs.State.{FullState, empty_full, after_full_reference, after_end};
 ghost use Rattle.full_profile.specs.State.{after_full_event, after_full_flush, full_after};
 ghost use Rattle.full_profile.specs.State.{full_counts_at};
@@ -78,4 +81,22 @@ pub fn unsettled_references_suffice()
         → IsGeometry g → IsGeometry h → is_refined g h ≡ true → LagsBehind n g es x
         → LagsBehind n h es y
         → after_full_batch y (unsettled x refs) ≡ after_full_batch y refs }
+{}
+
+/// The counts of a cache are what `din` reports of it: of an LRU cache with write-allocate and
+/// write-back that is alone in a system. A cache for instructions or for data takes the references
+/// of its kind.
+/// Lemmas: `Reported.counts_reported`, `Reported.alone_unified`, `Reported.alone_instructions`,
+/// `Reported.alone_data`.
+pub fn counts_are_those_of_reports()
+    ensures counts { (g : GeometryValue) (es : List Event) → 1 ≤ g.e
+        → IsReported (full_counts g es) (lru_stats g es) }
+    ensures unified { (g : GeometryValue) (seed : ℕ) (es : List Event)
+        → (system_run (plan_alone L1U (planned_lru g)) seed es).l1u ≡ Some (lru_stats g es) }
+    ensures instructions { (g : GeometryValue) (seed : ℕ) (es : List Event)
+        → (system_run (plan_alone L1I (planned_lru g)) seed es).l1i
+        ≡ Some (lru_stats g (events_for L1I es)) }
+    ensures data { (g : GeometryValue) (seed : ℕ) (es : List Event)
+        → (system_run (plan_alone L1D (planned_lru g)) seed es).l1d
+        ≡ Some (lru_stats g (events_for L1D es)) }
 {}

@@ -48,7 +48,7 @@ sum_by_same f g (x ∷ xs) e = omega (
 )
 
 -- sums over the numbers below n
-below_same : (f g : ℕ → ℕ) (n : ℕ) → ((k : ℕ) → k < n → f k ≡ g k) →
+pub below_same : (f g : ℕ → ℕ) (n : ℕ) → ((k : ℕ) → k < n → f k ≡ g k) →
     sum_by f (range_with_len 0 n) ≡ sum_by g (range_with_len 0 n)
 below_same f g n e =
     sym (sum-map f (range_with_len 0 n))
@@ -82,7 +82,7 @@ last_taken n [] lt = absurd (omega (arith, lt))
 last_taken zero (x ∷ xs) lt = refl
 last_taken (suc n) (x ∷ xs) lt = last_taken n xs (omega (arith, lt))
 
-count_one : (p : ℕ → Bool) (x : ℕ) → count_by p (x ∷ []) ≡ cond (p x) 1 0
+pub count_one : (p : ℕ → Bool) (x : ℕ) → count_by p (x ∷ []) ≡ cond (p x) 1 0
 count_one p x = sum_by-cons (λ y. cond (p y) 1 0) x [] ∙ omega arith
 
 module _ (n : ℕ) (es : List Event) (v : FullState) (stands : FullStandsFor es v)

@@ -116,7 +116,7 @@ came_from blocks cleans d j alike lt =
     (cases_lt d (length blocks))
 
 -- one more reference, the most recent
-dirty_push : (g : GeometryValue) (es : List Event) (r : Ref) (b : ℕ) →
+pub dirty_push : (g : GeometryValue) (es : List Event) (r : Ref) (b : ℕ) →
     is_block_dirty g b (reverse (es ++ event.Reference r ∷ [])) ≡ cond (eqb (block_of g r.addr) b)
     (is_write r.access || (is_hit g (occurrence_after g es r) && is_block_dirty g b (reverse es)))
     (is_block_dirty g b (reverse es))
