@@ -14,7 +14,7 @@ pub plain_event : (v : FullState) (e : Event) →
 plain_event v (event.Reference r) = refl
 plain_event v event.Flush = refl
 
-plain_from : (es : List Event) (v : FullState) →
+pub plain_from : (es : List Event) (v : FullState) →
     (fold after_full_event v es).plain ≡ fold after_event v.plain es
 plain_from [] v = refl
 plain_from (e ∷ es) v = plain_from es (after_full_event v e) ∙
