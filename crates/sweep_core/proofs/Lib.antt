@@ -22,4 +22,10 @@ pub mod FeedingEach
 pub mod FeedingOne
 pub mod Repeated
 pub mod WorkLaws
+pub mod FullLemmas
+pub mod FullStanding
+pub mod FullWriting
+pub mod FullServing
+pub mod FullSweeping
+pub mod FullFeeding
 mod Examples

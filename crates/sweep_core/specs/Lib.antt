@@ -5,3 +5,5 @@ pub mod SweepText
 pub mod Pages
 pub mod Work
 pub mod Rows
+pub mod FullText
+pub mod FullRows

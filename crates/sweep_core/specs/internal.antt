@@ -3,3 +3,5 @@ pub mod Runs
 pub mod Pass
 pub mod Feeding
 pub mod Waiting
+pub mod FullRuns
+pub mod Full

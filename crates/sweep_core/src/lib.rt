@@ -3,6 +3,7 @@
 
 mod batch;
 mod feeding;
+pub mod full;
 pub mod laws;
 mod pass;
 mod profiles;
@@ -13,6 +14,7 @@ pub mod space;
 pub mod sweep;
 mod table;
 
+pub use full::{FullRows, FullSweepCounts};
 pub use request::Request;
 pub use rows::Rows;
 pub use space::configs::Configs;

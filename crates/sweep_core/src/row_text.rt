@@ -2,15 +2,17 @@
 ghost use Rattle.std.specs.Prelude.{◌≡◌, ◌+◌, ◌≤◌, ◌∷◌, ◌++◌, [], length, decimal};
 ghost use Rattle.sweep_core.specs.Space.{bytes_of};
 ghost use Rattle.sweep_core.specs.SweepText.{row_of};
+ghost use Rattle.sweep_core.specs.FullText.{full_row_of};
 
 use crate::space::Config;
 use cache_core::Counts;
+use full_profile::FullCounts;
 use itoa::write_digits;
 use std::marker::Model;
 use trace_core::text::DECIMAL;
 
-/// The most bytes that a row has: seven numbers, and what stands after each.
-const CAPACITY: usize = 7 * (DECIMAL + 1);
+/// The most bytes that a row has: eleven numbers in a full one, and what stands after each.
+const CAPACITY: usize = 11 * (DECIMAL + 1);
 
 /// The text of a row. It is put together from its end, so that the digits of a number, which are
 /// made from the last to the first, are made where they stay.
@@ -56,6 +58,25 @@ impl RowText {
     {
         self.clear();
         self.put_in_front(counts.evictions, b'\n');
+        self.put_in_front(counts.misses, b',');
+        self.put_in_front(counts.hits, b',');
+        self.put_in_front(bytes, b',');
+        self.put_in_front(config.assoc, b',');
+        self.put_in_front(config.sets, b',');
+        self.put_in_front(config.bsize, b',');
+    }
+
+    /// Puts the full row of a configuration, whose size is `bytes`, in place of what it held.
+    pub(crate) fn set_full(&mut self, config: &Config, bytes: u64, counts: FullCounts)
+        requires { bytes ≡ bytes_of config.now }
+        ensures { self.new ≡ full_row_of config.now counts }
+    {
+        self.clear();
+        self.put_in_front(counts.copybacks, b'\n');
+        self.put_in_front(counts.write_misses, b',');
+        self.put_in_front(counts.read_misses, b',');
+        self.put_in_front(counts.fetch_misses, b',');
+        self.put_in_front(counts.evictions, b',');
         self.put_in_front(counts.misses, b',');
         self.put_in_front(counts.hits, b',');
         self.put_in_front(bytes, b',');

@@ -1,0 +1,13 @@
+pub mod Runs
+pub mod Copies
+pub mod Fit
+pub mod Settled
+pub mod Waiting
+pub mod MissesByKind
+pub mod LookingBack
+pub mod Dirty
+pub mod Copybacks
+pub mod Counted
+pub mod Later
+pub mod Marks
+pub mod Reported

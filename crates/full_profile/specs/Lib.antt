@@ -1,0 +1,4 @@
+pub mod LookBack
+pub mod State
+pub mod Batches
+pub mod Reports

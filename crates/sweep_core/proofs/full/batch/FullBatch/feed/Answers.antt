@@ -1,0 +1,2 @@
+-- What waits is fed.
+use Rattle.sweep_core.proofs.full.batch.FullBatch.feed.Goals as goal

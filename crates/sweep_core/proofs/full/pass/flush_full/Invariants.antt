@@ -1,0 +1,8 @@
+-- The profiles so far were flushed.
+use Rattle.std.proofs.Common.{◌≡◌, ◌++◌, map, take, drop}
+use Rattle.sweep_core.specs.internal.Full.{full_pair_flushed}
+use Rattle.sweep_core.proofs.full.pass.flush_full.Given as goal
+
+abbrev pub invariant-loop-pair : goal.invariant-loop-pair
+invariant-loop-pair l = l.profiles ≡ map full_pair_flushed (take l.pair-index l.fn.profiles) ++
+    drop l.pair-index l.fn.profiles

@@ -1,0 +1,24 @@
+-- What still waits is fed, and then each profile ends.
+use Rattle.std.proofs.Common.{◌≡◌, sym, ap, ◌∙◌, subst}
+use Rattle.std.specs.List.{flat_map}
+use Rattle.trace_core.specs.Events.{events_of}
+use Rattle.trace_core.specs.Task.{entries_of}
+use Rattle.sweep_core.specs.internal.Full.{full_pairs_ended, full_pairs_caught, FedFullAtMost}
+use Rattle.sweep_core.proofs.FullLemmas.{waiting-few, waiting-alike, waiting-behind, ended-is}
+use Rattle.sweep_core.proofs.full.pass.read_full.Goals as goal
+
+pub feed-requires-clause-few : goal.feed-requires-clause-few
+feed-requires-clause-few g c =
+    let read = c.read_full_entries-read in
+    waiting-few read.new.fed read.new.batch read.new.profiles read.ensures.waiting read.ensures.few
+
+pub feed-requires-clause-alike : goal.feed-requires-clause-alike
+feed-requires-clause-alike g c =
+    let read = c.read_full_entries-read in
+    waiting-alike read.new.fed read.new.batch read.new.profiles read.ensures.waiting
+
+pub end_full-requires-clause-behind : goal.end_full-requires-clause-behind
+end_full-requires-clause-behind g c =
+    let read = c.read_full_entries-read in
+    subst (FedFullAtMost read.new.fed) (sym c.feed.ensures.fed)
+    (waiting-behind read.new.fed read.new.batch read.new.profiles read.ensures.waiting)

@@ -1,0 +1,120 @@
+//! One pass over a trace for a full sweep: the references wait in a batch, which is fed to each
+//! profile.
+ghost use Rattle.std.specs.Prelude.{◌≡◌, ◌+◌, ◌<◌, ◌≤◌, ◌∷◌, [], map};
+ghost use Rattle.std.specs.List.{AllByRecursion};
+ghost use Rattle.trace_core.specs.Reader.{new_progress};
+ghost use Rattle.sweep_core.specs.internal.Pass.{kept_events, state_after};
+ghost use Rattle.sweep_core.specs.internal.Full.{full_pair_flushed, full_pairs_after, FeedsFull};
+ghost use Rattle.sweep_core.specs.internal.Full.{full_pairs_fed, full_pairs_caught, IsNewPair};
+ghost use Rattle.sweep_core.specs.internal.Full.{FullWaiting, AreNoFinerFull, EndsFull};
+
+use crate::full::batch::FullBatch;
+use crate::full::feeding::{end_full, finest_full_bits};
+use crate::full::profiles::FullPair;
+use cache_core::MAX_BITS;
+use full_profile::MAX_REFERENCES;
+use trace_core::{Entry, Kind, Lines, Ref, Source, TraceFault, refs_of};
+
+/// Reads a trace up to its end or its first fault, and feeds each entry to the profiles: its
+/// references of a kind, or a flush. Then it ends them. At most one batch of references is kept in
+/// memory.
+pub(crate) fn read_full<S: Source>(
+    lines: &mut Lines,
+    kind: Kind,
+    source: &mut S,
+    profiles: &mut [FullPair],
+    batch: &mut FullBatch,
+) -> Result<(), TraceFault>
+    requires begun { lines.old ≡ new_progress lines.old.format lines.old.limit }
+    requires empty { batch.old ≡ [] }
+    requires fresh { AllByRecursion IsNewPair profiles.old }
+    ensures fed { EndsFull kind lines.old.format lines.old.limit
+        (S.view source.old) (S.view source.new) lines.new profiles.old profiles.new }
+    ensures reports { lines.new.state ≡ state_after result }
+{
+    let mut fed = 0;
+    let read = read_full_entries(lines, kind, source, profiles, batch, &mut fed);
+    batch.feed(profiles);
+    end_full(profiles, fed);
+    read
+}
+
+/// Reads a trace as `read_full` does, but leaves the last references in the batch, and does not
+/// count those that a profile need not be fed. `fed` becomes the number of all references.
+fn read_full_entries<S: Source>(
+    lines: &mut Lines,
+    kind: Kind,
+    source: &mut S,
+    profiles: &mut [FullPair],
+    batch: &mut FullBatch,
+    fed: &mut u64,
+) -> Result<(), TraceFault>
+    requires none { fed.old ≡ 0 }
+    requires empty { batch.old ≡ [] }
+    requires begun { lines.old ≡ new_progress lines.old.format lines.old.limit }
+    requires fresh { AllByRecursion IsNewPair profiles.old }
+    ensures fed { FeedsFull kind lines.old.format lines.old.limit (S.view source.old)
+        (S.view source.new) lines.new profiles.old
+        (full_pairs_caught fed.new (full_pairs_fed batch.new profiles.new)) }
+    ensures reports { lines.new.state ≡ state_after result }
+    ensures waiting { FullWaiting fed.new batch.new profiles.new }
+    ensures few { fed.new ≤ MAX_REFERENCES }
+{
+    let bits = finest_full_bits(profiles);
+    while let Some((_, entry)) = lines.next(source)? {
+        match entry {
+            Entry::Item(item) => {
+                let (first, second) = refs_of(item);
+                feed_full_kept(profiles, batch, bits, kind, first, fed);
+                if let Some(second) = second {
+                    feed_full_kept(profiles, batch, bits, kind, second, fed);
+                }
+            }
+            Entry::Flush => {
+                batch.feed(profiles);
+                flush_full(profiles);
+            }
+        }
+    }
+    Ok(())
+}
+
+/// If a reference is of a kind, adds it to the batch, and to the count `fed`. If the batch is full,
+/// its references are fed first. `bits` are the block bits of the smallest blocks.
+#[inline(always)]
+fn feed_full_kept(
+    profiles: &mut [FullPair],
+    batch: &mut FullBatch,
+    bits: u64,
+    kind: Kind,
+    reference: Ref,
+    fed: &mut u64,
+)
+    requires few { fed.old < MAX_REFERENCES }
+    requires waiting { FullWaiting fed.old batch.old profiles.old }
+    requires small { bits ≤ MAX_BITS }
+    requires finest { AreNoFinerFull bits profiles.old }
+    ensures caught { full_pairs_caught fed.new (full_pairs_fed batch.new profiles.new)
+        ≡ full_pairs_after (kept_events kind (reference ∷ []))
+        (full_pairs_caught fed.old (full_pairs_fed batch.old profiles.old)) }
+    ensures waiting { FullWaiting fed.new batch.new profiles.new }
+    ensures finest { AreNoFinerFull bits profiles.new }
+    ensures more { fed.new ≤ fed.old + 1 }
+{
+    if kind.keeps(reference.access) {
+        if batch.is_full() {
+            batch.feed(profiles);
+        }
+        batch.push(reference, bits);
+        *fed += 1;
+    }
+}
+
+/// Flushes each profile.
+fn flush_full(profiles: &mut [FullPair])
+    ensures { profiles.new ≡ map full_pair_flushed profiles.old }
+{
+    for pair in profiles.iter_mut() {
+        pair.profile.flush();
+    }
+}
