@@ -28,4 +28,8 @@ pub enum Job {
     Sweep {
         request: Request,
     },
+    /// A sweep with the full table.
+    FullSweep {
+        request: Request,
+    },
 }

@@ -9,7 +9,7 @@ use crate::faults::WordsFault;
 use crate::job::Job;
 use crate::readings::{config_at, format_at, is_flagged, kind_at, optional_number_at, range_at};
 use clap::ArgMatches;
-use options::table::{AFTER, ASSOC, BSIZE, FORMAT, KIND, POW2, ROWS, SETS, SIZE};
+use options::table::{AFTER, ASSOC, BSIZE, FORMAT, FULL, KIND, POW2, ROWS, SETS, SIZE};
 use sweep_core::{Config, Request, Space};
 use trace_core::{Format, Kind, MAX_LINES};
 
@@ -34,7 +34,11 @@ pub fn sweep_job(matches: &ArgMatches<'_>) -> Result<Job, WordsFault>
         rows,
         max_lines: MAX_LINES,
     };
-    Ok(Job::Sweep { request })
+    if is_flagged(matches, FULL.name) {
+        Ok(Job::FullSweep { request })
+    } else {
+        Ok(Job::Sweep { request })
+    }
 }
 
 /// The ranges of block sizes, set counts, associativities and sizes.

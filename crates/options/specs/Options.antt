@@ -124,9 +124,12 @@ rows_option = optional (by_name (codes "--") (codes "rows"))
 abbrev pub pow2_option : Rule
 pow2_option = flag (by_name (codes "--") (codes "pow2"))
 
+abbrev pub full_option : Rule
+full_option = flag (by_name (codes "--") (codes "full"))
+
 abbrev pub sweep_rules : List Rule
 sweep_rules = bsize_option ∷ sets_option ∷ assoc_option ∷ size_option ∷ kind_option ∷ format_option
-    ∷ after_option ∷ rows_option ∷ pow2_option ∷ file_option ∷ []
+    ∷ after_option ∷ rows_option ∷ pow2_option ∷ full_option ∷ file_option ∷ []
 
 -- ---- the commands
 

@@ -12,7 +12,7 @@ use crate::help;
 use crate::table::Presence::{Flag, Optional, Required};
 use crate::table::Spelling::{Long, Short};
 use crate::table::{
-    AFTER, ASSOC, BLOCK_BITS, BSIZE, CommandOption, FILE, FORMAT, INFORMAT, KIND, LACKEY_FILE,
+    AFTER, ASSOC, BLOCK_BITS, BSIZE, CommandOption, FILE, FORMAT, FULL, INFORMAT, KIND, LACKEY_FILE,
     LINES, POW2, ROWS, SEED, SET_BITS, SETS, SIZE, VERBOSE,
 };
 use cache_core::CacheName;
@@ -137,7 +137,7 @@ fn sweep_args<'a>(alloc: Global) -> Result<Vec<Arg<'a>>, AllocError>
     ensures { IfOk result (λ v. map rule_and_global v.items ≡ map own_rule sweep_rules) }
 {
     let options = [
-        &BSIZE, &SETS, &ASSOC, &SIZE, &KIND, &FORMAT, &AFTER, &ROWS, &POW2, &FILE,
+        &BSIZE, &SETS, &ASSOC, &SIZE, &KIND, &FORMAT, &AFTER, &ROWS, &POW2, &FULL, &FILE,
     ];
     let mut args = Vec::new(alloc);
     push_options(alloc, &mut args, None, &options)?;

@@ -60,6 +60,9 @@ The table is CSV: a header, and a row for each cache, by rising bsize, then sets
   hits       references that found their block
   misses     references that did not, and loaded it
   evictions  misses that evicted the least recently used block of a full set
+With --full four columns follow. The caches are write-allocate and write-back, as those of din.
+  fetch-misses, read-misses, write-misses  misses by kind of access
+  copybacks  dirty blocks that were evicted or flushed
 
 Every cache with blocks of 64 bytes that holds 4 to 64 KiB in sets of 1 to 8 lines:
   cachesim sweep --bsize 64 --sets 1-1k --assoc 1-8 --size 4k-64k < trace.din

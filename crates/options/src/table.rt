@@ -176,3 +176,10 @@ pub static POW2: CommandOption = long_option!(
     Flag,
     "Take only powers of two for --assoc"
 );
+
+pub static FULL: CommandOption = long_option!(
+    "--",
+    "full",
+    Flag,
+    "Write misses by kind of access and copybacks too"
+);
