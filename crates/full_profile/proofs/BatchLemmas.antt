@@ -11,8 +11,8 @@ use Rattle.trace_core.specs.declared.events.Event.TheVariants as event
 use Rattle.trace_core.specs.Events.{is_write}
 use Rattle.cache_core.specs.Geometry.{GeometryValue, IsGeometry, block_of, set_of_block}
 use Rattle.cache_core.proofs.Lists.{cases}
-use Rattle.profile_core.specs.internal.set_lists.Moves.{is_front}
-use Rattle.profile_core.specs.internal.profile.Fronts.{is_front_of, is_refined}
+use Rattle.profile_core.specs.profile.RecencyList.{is_front}
+use Rattle.profile_core.specs.profile.Fronts.{is_front_of, is_refined}
 use Rattle.full_profile.specs.State.{FullState, after_full_reference, after_full_flush, cleans_of}
 use Rattle.full_profile.specs.State.{full_after}
 use Rattle.full_profile.specs.Batches.{is_settled, after_unless_settled, after_full_batch, unsettled}

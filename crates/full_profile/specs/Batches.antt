@@ -7,9 +7,9 @@ use Rattle.trace_core.specs.declared.events.Ref.{Ref}
 use Rattle.trace_core.specs.Events.{is_write}
 use Rattle.cache_core.specs.Geometry.{GeometryValue, IsGeometry, block_of, set_of}
 use Rattle.trace_core.specs.declared.events.Event.{Event}
-use Rattle.profile_core.specs.internal.profile.State.{list_of, fed_of}
-use Rattle.profile_core.specs.internal.profile.Fronts.{is_front_of, after_fronts, is_refined}
-use Rattle.profile_core.specs.internal.profile.Fronts.{IsFit}
+use Rattle.profile_core.specs.profile.State.{list_of, fed_of}
+use Rattle.profile_core.specs.profile.Fronts.{is_front_of, after_fronts, is_refined}
+use Rattle.profile_core.specs.internal.profile.StackProfile.{IsFit}
 use Rattle.full_profile.specs.State.{FullState, after_full_reference, cleans_of, kind_of}
 use Rattle.full_profile.specs.State.{full_after}
 

@@ -12,9 +12,9 @@ use Rattle.trace_core.specs.declared.events.Event.{Event}
 use Rattle.trace_core.specs.declared.events.Event.TheVariants as event
 use Rattle.trace_core.specs.Events.{is_write}
 use Rattle.cache_core.specs.Geometry.{GeometryValue, block_of, set_of_block}
-use Rattle.profile_core.specs.internal.set_lists.Moves.{index_of, is_in, is_front}
-use Rattle.profile_core.specs.internal.profile.State.{ProfileState, empty, list_of, one_more_at}
-use Rattle.profile_core.specs.internal.profile.State.{after_reference, after_flush, counts_at}
+use Rattle.profile_core.specs.profile.RecencyList.{index_of, is_in, is_front}
+use Rattle.profile_core.specs.profile.State.{ProfileState, empty, list_of, one_more_at}
+use Rattle.profile_core.specs.profile.State.{after_reference, after_flush, counts_at}
 use Rattle.full_profile.specs.declared.counts.FullCounts.{FullCounts}
 
 -- The misses of one kind of access that caches of some associativities have: `behind` counts the

@@ -8,7 +8,7 @@ use Rattle.std.proofs.lemmas.List.Edits.{map_over_more}
 use Rattle.trace_core.specs.declared.events.Event.{Event}
 use Rattle.trace_core.specs.declared.events.Ref.{Ref}
 use Rattle.cache_core.proofs.Lists.{cases}
-use Rattle.profile_core.specs.internal.profile.Fronts.{is_refined}
+use Rattle.profile_core.specs.profile.Fronts.{is_refined}
 use Rattle.full_profile.specs.State.{FullState}
 use Rattle.full_profile.specs.Batches.{after_full_batch, unsettled, after_unless_settled, WasFed}
 use Rattle.full_profile.specs.Batches.{is_settled}

@@ -23,7 +23,8 @@ use Rattle.trace_core.specs.Events.{events_of, is_kept, references, is_write, at
 use Rattle.trace_core.proofs.EntryEvents.{events_more, one_event, two_events}
 use Rattle.cache_core.specs.Geometry.{GeometryValue, block_of}
 use Rattle.cache_core.proofs.Lists.{cases}
-use Rattle.profile_core.specs.internal.profile.State.{fed_of, most_references}
+use Rattle.profile_core.specs.profile.State.{fed_of}
+use Rattle.profile_core.specs.internal.profile.StackProfile.{most_references}
 use Rattle.full_profile.specs.State.{FullState, empty_full, full_after, after_full_event}
 use Rattle.full_profile.specs.State.{after_full_reference, after_full_flush, after_end}
 use Rattle.full_profile.specs.Batches.{after_unless_settled, after_full_batch, with_settled, WasFed}

@@ -8,7 +8,7 @@ use Rattle.std.proofs.lemmas.Simd.{map-map}
 use Rattle.trace_core.specs.declared.events.Event.{Event}
 use Rattle.cache_core.specs.Geometry.{GeometryValue, IsGeometry, geometry_value}
 use Rattle.cache_core.specs.Powers.{log2}
-use Rattle.profile_core.specs.internal.profile.State.{after_event}
+use Rattle.profile_core.specs.profile.State.{after_event}
 use Rattle.full_profile.specs.declared.counts.FullCounts.{FullCounts}
 use Rattle.full_profile.specs.State.{FullState, after_full_event, after_end, full_after, empty_full}
 use Rattle.full_profile.specs.State.{full_counts_at}

@@ -8,8 +8,8 @@ use Rattle.std.proofs.lemmas.Bool.Decides.{nat_tests}
 use Rattle.std.proofs.lemmas.List.Sums.{sum_by-cons}
 use Rattle.deep_list.proofs.SlotLemmas.{sum_take-set, sum_take-set_above}
 use Rattle.cache_core.proofs.Lists.{cases, list_any_is}
-use Rattle.profile_core.specs.internal.set_lists.Moves.{index_of, is_in}
-use Rattle.profile_core.specs.internal.profile.State.{one_more_at}
+use Rattle.profile_core.specs.profile.RecencyList.{index_of, is_in}
+use Rattle.profile_core.specs.profile.State.{one_more_at}
 use Rattle.full_profile.specs.State.{FullState, after_copies, after_copies_of, after_evictions}
 
 -- `u` is `v` after `count` copybacks in the cache of so many ways

@@ -14,8 +14,8 @@ use Rattle.trace_core.specs.declared.events.Event.{Event}
 use Rattle.trace_core.specs.declared.events.Event.TheVariants as event
 use Rattle.cache_core.specs.Geometry.{GeometryValue, block_of, set_of}
 use Rattle.cache_core.proofs.Lists.{cases}
-use Rattle.profile_core.specs.internal.set_lists.Moves.{index_of, is_in}
-use Rattle.profile_core.specs.internal.profile.State.{list_of}
+use Rattle.profile_core.specs.profile.RecencyList.{index_of, is_in}
+use Rattle.profile_core.specs.profile.State.{list_of}
 use Rattle.full_profile.specs.LookBack.{is_block_dirty, held_blocks, copybacks_at, dirty_among}
 use Rattle.full_profile.specs.State.{FullState, cleans_of}
 use Rattle.full_profile.proofs.laws.Fit.{FullStandsFor}

@@ -14,8 +14,8 @@ use Rattle.trace_core.specs.Events.{is_fetch, is_read, is_write}
 use Rattle.trace_core.specs.declared.events.Event.{Event}
 use Rattle.trace_core.specs.declared.events.Event.TheVariants as event
 use Rattle.cache_core.specs.Geometry.{GeometryValue, IsGeometry, block_of, set_of}
-use Rattle.profile_core.specs.internal.set_lists.Moves.{index_of}
-use Rattle.profile_core.specs.internal.profile.State.{list_of}
+use Rattle.profile_core.specs.profile.RecencyList.{index_of}
+use Rattle.profile_core.specs.profile.State.{list_of}
 use Rattle.profile_core.proofs.profile.Counting.{counts_are}
 use Rattle.full_profile.specs.LookBack.{copybacks, misses_of, misses_at, copybacks_at, full_counts}
 use Rattle.full_profile.specs.LookBack.{sum_after}

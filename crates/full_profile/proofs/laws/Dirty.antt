@@ -24,9 +24,9 @@ use Rattle.cache_core.specs.LruLaws.{occurrence_after}
 use Rattle.cache_core.proofs.Lists.{other, IsOnce, IsOnce-take, eqb_flip, filter_passes}
 use Rattle.cache_core.proofs.Lists.{list_all-take, list_any_is}
 use Rattle.cache_core.proofs.Distances.{IsOnce-distinct_of_set}
-use Rattle.profile_core.specs.internal.set_lists.Moves.{index_of, is_in}
-use Rattle.profile_core.specs.internal.profile.State.{ProfileState, list_of}
-use Rattle.profile_core.specs.internal.profile.ProfileStandsFor.{ProfileStandsFor}
+use Rattle.profile_core.specs.profile.RecencyList.{index_of, is_in}
+use Rattle.profile_core.specs.profile.State.{ProfileState, list_of}
+use Rattle.profile_core.specs.profile.ProfileStandsFor.{ProfileStandsFor}
 use Rattle.full_profile.specs.LookBack.{is_block_dirty}
 use Rattle.full_profile.specs.State.{FullState, cleans_of, clean_in_front, after_full_reference}
 use Rattle.full_profile.specs.State.{after_full_flush, empty_full}

@@ -13,11 +13,11 @@ use Rattle.trace_core.specs.declared.events.Ref.{Ref}
 use Rattle.trace_core.specs.declared.events.Event.{Event}
 use Rattle.trace_core.specs.declared.events.Event.TheVariants as event
 use Rattle.cache_core.specs.Geometry.{GeometryValue, IsGeometry, block_of, set_of_block}
-use Rattle.profile_core.specs.internal.set_lists.Moves.{index_of, is_in, is_front, move_to_front}
-use Rattle.profile_core.specs.internal.profile.State.{ProfileState, list_of, after_reference}
-use Rattle.profile_core.specs.internal.profile.State.{after_flush, one_more_at}
-use Rattle.profile_core.specs.internal.profile.Fronts.{IsFit}
-use Rattle.profile_core.specs.internal.profile.ProfileStandsFor.{ProfileStandsFor}
+use Rattle.profile_core.specs.profile.RecencyList.{index_of, is_in, is_front, move_to_front}
+use Rattle.profile_core.specs.profile.State.{ProfileState, list_of, after_reference}
+use Rattle.profile_core.specs.profile.State.{after_flush, one_more_at}
+use Rattle.profile_core.specs.internal.profile.StackProfile.{IsFit}
+use Rattle.profile_core.specs.profile.ProfileStandsFor.{ProfileStandsFor}
 use Rattle.profile_core.proofs.profile.Fronts.{fit_of}
 use Rattle.profile_core.proofs.profile.Runs.{event_stands}
 use Rattle.profile_core.proofs.profile.Stands.{new_stands}

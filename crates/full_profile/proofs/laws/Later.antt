@@ -9,10 +9,10 @@ use Rattle.trace_core.specs.declared.events.Event.{Event}
 use Rattle.trace_core.specs.declared.events.Event.TheVariants as event
 use Rattle.cache_core.specs.Geometry.{GeometryValue, IsGeometry, block_of, set_of}
 use Rattle.cache_core.proofs.Lists.{cases}
-use Rattle.profile_core.specs.internal.set_lists.Moves.{index_of, is_in}
-use Rattle.profile_core.specs.internal.profile.State.{ProfileState, list_of, fed_of, one_more_at}
-use Rattle.profile_core.specs.internal.profile.State.{after_reference, after_flush}
-use Rattle.profile_core.specs.internal.profile.Fronts.{after_fronts, is_refined}
+use Rattle.profile_core.specs.profile.RecencyList.{index_of, is_in}
+use Rattle.profile_core.specs.profile.State.{ProfileState, list_of, fed_of, one_more_at}
+use Rattle.profile_core.specs.profile.State.{after_reference, after_flush}
+use Rattle.profile_core.specs.profile.Fronts.{after_fronts, is_refined}
 use Rattle.profile_core.proofs.profile.Fronts.{fronts_none, fronts_fronts, reference_fronts}
 use Rattle.profile_core.proofs.profile.Fronts.{reference_fed, fit_behind}
 use Rattle.full_profile.specs.State.{FullState, cleans_of, after_copies, after_evictions}

@@ -13,9 +13,9 @@ use Rattle.cache_core.specs.Geometry.{GeometryValue, block_of, set_of}
 use Rattle.cache_core.specs.Windows.{Occurrence, window, distinct_of_set, distance}
 use Rattle.cache_core.specs.Windows.{blocks_seen, is_hit, is_evict}
 use Rattle.cache_core.specs.LruLaws.{occurrence_after}
-use Rattle.profile_core.specs.internal.set_lists.Moves.{index_of, is_in}
-use Rattle.profile_core.specs.internal.profile.State.{ProfileState, list_of}
-use Rattle.profile_core.specs.internal.profile.ProfileStandsFor.{ProfileStandsFor}
+use Rattle.profile_core.specs.profile.RecencyList.{index_of, is_in}
+use Rattle.profile_core.specs.profile.State.{ProfileState, list_of}
+use Rattle.profile_core.specs.profile.ProfileStandsFor.{ProfileStandsFor}
 use Rattle.profile_core.proofs.profile.Steps.{Finds, finds}
 use Rattle.full_profile.specs.LookBack.{held_blocks, sum_after}
 

@@ -9,8 +9,8 @@ use Rattle.trace_core.specs.declared.events.Access.{Access}
 use Rattle.trace_core.specs.declared.events.Access.TheVariants.{Fetch, Read, Write}
 use Rattle.trace_core.specs.Events.{is_fetch, is_read, is_write}
 use Rattle.cache_core.proofs.Lists.{cases, list_any_is}
-use Rattle.profile_core.specs.internal.set_lists.Moves.{index_of, is_in, is_front}
-use Rattle.profile_core.specs.internal.profile.State.{one_more_at}
+use Rattle.profile_core.specs.profile.RecencyList.{index_of, is_in, is_front}
+use Rattle.profile_core.specs.profile.State.{one_more_at}
 use Rattle.profile_core.proofs.profile.Feeding.{found_front}
 use Rattle.full_profile.specs.State.{FullState, KindState, kind_number, kind_of, kind_misses_at}
 use Rattle.full_profile.specs.State.{empty_kind, with_miss, after_reference_in_lists}

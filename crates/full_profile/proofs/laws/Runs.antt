@@ -5,7 +5,7 @@ use Rattle.std.proofs.lemmas.List.Sums.{fold_push}
 use Rattle.trace_core.specs.declared.events.Event.{Event}
 use Rattle.trace_core.specs.declared.events.Event.TheVariants as event
 use Rattle.cache_core.specs.Geometry.{GeometryValue}
-use Rattle.profile_core.specs.internal.profile.State.{empty, after_event}
+use Rattle.profile_core.specs.profile.State.{empty, after_event}
 use Rattle.profile_core.proofs.profile.Runs.{geometry_after}
 use Rattle.full_profile.specs.State.{FullState, empty_full, after_full_event, full_after}
 

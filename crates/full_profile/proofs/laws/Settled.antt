@@ -17,10 +17,11 @@ use Rattle.trace_core.specs.declared.events.Event.TheVariants as event
 use Rattle.trace_core.specs.Events.{is_write}
 use Rattle.cache_core.specs.Geometry.{GeometryValue, IsGeometry, block_of, set_of_block, set_of}
 use Rattle.cache_core.proofs.Lists.{cases}
-use Rattle.profile_core.specs.internal.set_lists.Moves.{index_of, is_in, is_front}
-use Rattle.profile_core.specs.internal.profile.State.{empty, list_of, after_event}
-use Rattle.profile_core.specs.internal.profile.State.{after_reference}
-use Rattle.profile_core.specs.internal.profile.Fronts.{is_front_of, after_fronts, is_refined, Leads}
+use Rattle.profile_core.specs.profile.RecencyList.{index_of, is_in, is_front}
+use Rattle.profile_core.specs.profile.State.{empty, list_of, after_event}
+use Rattle.profile_core.specs.profile.State.{after_reference}
+use Rattle.profile_core.specs.profile.Fronts.{is_front_of, after_fronts, is_refined}
+use Rattle.profile_core.specs.internal.profile.CountedFronts.{Leads}
 use Rattle.profile_core.proofs.profile.Feeding.{found_front}
 use Rattle.profile_core.proofs.profile.Fronts.{front_reference, IsFiner, finer_of, leads_after}
 use Rattle.full_profile.specs.State.{FullState, cleans_of, kind_of, kind_number}

@@ -13,7 +13,7 @@ use Rattle.trace_core.specs.Events.{events_of, is_write, at}
 use Rattle.trace_core.specs.Reader.{Progress}
 use Rattle.trace_core.specs.Task.{HasRead}
 use Rattle.cache_core.specs.Geometry.{IsGeometry}
-use Rattle.profile_core.specs.internal.profile.State.{fed_of}
+use Rattle.profile_core.specs.profile.State.{fed_of}
 use Rattle.full_profile.specs.State.{empty_full, after_full_event, after_full_flush, after_end}
 use Rattle.full_profile.specs.State.{full_after}
 use Rattle.full_profile.specs.Batches.{after_full_batch, with_settled, WasFed}

@@ -1,7 +1,7 @@
 //! References that wait, with their kinds of access, so that each profile is fed many at a time.
 ghost use Rattle.std.specs.Prelude.{◌≡◌, ◌+◌, ◌<◌, ◌≤◌, ◌↔◌, [], length, IsTrue, IfOk};
 ghost use Rattle.std.specs.List.{AllByRecursion};
-ghost use Rattle.profile_core.specs.internal.profile.State.{fed_of};
+ghost use Rattle.profile_core.specs.profile.State.{fed_of};
 ghost use Rattle.sweep_core.specs.internal.Full.{WereFedAlike, full_pairs_fed};
 ghost use Rattle.sweep_core.specs.internal.Full.{with_waiting_ref, is_repeated};
 

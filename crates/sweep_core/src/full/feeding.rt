@@ -3,7 +3,7 @@
 //! left. No count changes, since what is settled is counted at the end.
 ghost use Rattle.std.specs.Prelude.{◌≡◌, ◌+◌, ◌≤◌, length};
 ghost use Rattle.std.specs.List.{AllByRecursion};
-ghost use Rattle.profile_core.specs.internal.profile.State.{fed_of};
+ghost use Rattle.profile_core.specs.profile.State.{fed_of};
 ghost use Rattle.sweep_core.specs.internal.Full.{WereFedAlike, FedFullAtMost, full_pairs_fed};
 ghost use Rattle.sweep_core.specs.internal.Full.{full_pairs_ended, finest_full_bits};
 
