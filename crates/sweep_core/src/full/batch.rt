@@ -8,7 +8,7 @@ ghost use Rattle.sweep_core.specs.internal.Full.{with_waiting_ref, is_repeated};
 use crate::batch::BATCH;
 use crate::full::feeding::feed_full;
 use crate::full::profiles::FullPair;
-use full_profile::MAX_REFERENCES;
+use profile_core::MAX_REFERENCES;
 use std::alloc::{AllocError, Global};
 use std::marker::Model;
 use trace_core::{Access, Ref};

@@ -9,7 +9,7 @@ ghost use Rattle.sweep_core.specs.internal.Full.{full_pairs_ended, finest_full_b
 
 use crate::full::profiles::FullPair;
 use cache_core::MAX_BITS;
-use full_profile::MAX_REFERENCES;
+use profile_core::MAX_REFERENCES;
 use trace_core::Ref;
 
 /// The block bits of the smallest blocks that some profiles have.
