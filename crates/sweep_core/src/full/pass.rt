@@ -12,7 +12,7 @@ use crate::full::batch::FullBatch;
 use crate::full::feeding::{end_full, finest_full_bits};
 use crate::full::profiles::FullPair;
 use cache_core::MAX_BITS;
-use full_profile::MAX_REFERENCES;
+use profile_core::MAX_REFERENCES;
 use trace_core::{Entry, Kind, Lines, Ref, Source, TraceFault, refs_of};
 
 /// Reads a trace up to its end or its first fault, and feeds each entry to the profiles: its
