@@ -2,6 +2,8 @@
 -- and otherwise all.
 use Rattle.std.proofs.Common.{◌≡◌, ℕ, zero, suc, ◌+◌, ◌-◌, ◌<◌, ◌≤◌, List, [], ◌∷◌, ◌++◌, map, take}
 use Rattle.std.proofs.Common.{drop, length, get_or, refl, sym, ap, ap₂, ◌∙◌, arith, true, cond}
+use Rattle.std.proofs.Common.{length-append, length-take, length-drop}
+use Rattle.std.proofs.lemmas.List.{length-map}
 use Rattle.std.specs.List.{AllByRecursion as Each}
 use Rattle.std.proofs.Math.ListN.{set}
 use Rattle.std.proofs.lemmas.List.Edits.{map_over_more}
@@ -43,7 +45,15 @@ begin refs left old room = record {
   left_are = λ d some. absurd (omega (arith, some));
 }
 
-any_default : (xs : List FullPair) (i : ℕ) (d e : FullPair) → i < length xs →
+-- no profile is lost
+pub as_many : {at given : ℕ} {refs left : List Ref} {old now : List FullPair} →
+    IsFedUpTo at given refs left old now → length now ≡ length old
+as_many {at} {given} {refs} {left} {old} {now} h =
+    ap length h.fed ∙ length-append (map (full_pair_fed refs) (take at old)) (drop at old)
+    ∙ omega (arith, length-map (take at old) (full_pair_fed refs), length-take at old,
+    length-drop at old)
+
+pub any_default : (xs : List FullPair) (i : ℕ) (d e : FullPair) → i < length xs →
     get_or xs i d ≡ get_or xs i e
 any_default [] i d e inside = absurd (omega (arith, inside))
 any_default (x ∷ xs) zero d e inside = refl

@@ -6,7 +6,7 @@ ghost use Rattle.sweep_core.specs.internal.Full.{WereFedAlike, full_pairs_fed};
 ghost use Rattle.sweep_core.specs.internal.Full.{with_waiting_ref, is_repeated};
 
 use crate::batch::BATCH;
-use crate::full::feeding::feed_full;
+use crate::full::feeding::feed_first_full;
 use crate::full::profiles::FullPair;
 use profile_core::MAX_REFERENCES;
 use std::alloc::{AllocError, Global};
@@ -85,8 +85,7 @@ impl FullBatch {
         ensures fed { profiles.new ≡ full_pairs_fed self.old profiles.old }
         ensures none { self.new ≡ [] }
     {
-        let count = self.len;
-        feed_full(profiles, &self.refs[..count], &mut self.left[..count]);
+        feed_first_full(profiles, &self.refs, &mut self.left, self.len);
         self.len = 0;
     }
 }

@@ -1,7 +1,7 @@
 //! How all profiles of a full sweep are fed. A reference that is settled in a profile is settled in
 //! each that refines it. So a profile that refines the one before it is given only what that one
 //! left. No count changes, since what is settled is counted at the end.
-ghost use Rattle.std.specs.Prelude.{◌≡◌, ◌+◌, ◌≤◌, length};
+ghost use Rattle.std.specs.Prelude.{◌≡◌, ◌+◌, ◌≤◌, length, take};
 ghost use Rattle.std.specs.List.{AllByRecursion};
 ghost use Rattle.profile_core.specs.profile.State.{fed_of};
 ghost use Rattle.sweep_core.specs.internal.Full.{WereFedAlike, FedFullAtMost, full_pairs_fed};
@@ -23,9 +23,27 @@ pub(crate) fn finest_full_bits(profiles: &[FullPair]) -> u64
     bits
 }
 
+/// Feeds the first `count` of some references to each profile, except those that are settled there.
+/// `left` has room for as many.
+pub(crate) fn feed_first_full(
+    profiles: &mut [FullPair],
+    refs: &[Ref],
+    left: &mut [Ref],
+    count: usize,
+)
+    requires few { AllByRecursion
+        (λ x. fed_of x.profile.plain + count ≤ MAX_REFERENCES) profiles.old }
+    requires alike { WereFedAlike profiles.old }
+    requires within { count ≤ length refs.now }
+    requires room { count ≤ length left.old }
+    ensures { profiles.new ≡ full_pairs_fed (take count refs.now) profiles.old }
+{
+    feed_full(profiles, &refs[..count], &mut left[..count]);
+}
+
 /// Feeds references to each profile, except those that are settled there. `left` has room for as
 /// many: those that the profile before has left.
-pub(crate) fn feed_full(profiles: &mut [FullPair], refs: &[Ref], left: &mut [Ref])
+fn feed_full(profiles: &mut [FullPair], refs: &[Ref], left: &mut [Ref])
     requires few { AllByRecursion
         (λ x. fed_of x.profile.plain + length refs.now ≤ MAX_REFERENCES) profiles.old }
     requires alike { WereFedAlike profiles.old }
@@ -34,7 +52,8 @@ pub(crate) fn feed_full(profiles: &mut [FullPair], refs: &[Ref], left: &mut [Ref
 {
     let mut given = 0;
     for at in 0..profiles.len() {
-        if at == 0 || !profiles[at - 1].profile.is_refined_by(&profiles[at].profile) {
+        let all = &profiles[..];
+        if at == 0 || !all[at - 1].profile.is_refined_by(&all[at].profile) {
             left.copy_from_slice(refs);
             given = refs.len();
         }

@@ -1,9 +1,9 @@
 -- What still waits is fed, and then each profile ends.
-use Rattle.std.proofs.Common.{◌≡◌, sym, ap, ◌∙◌, subst}
+use Rattle.std.proofs.Common.{sym, ap, ◌∙◌, subst}
 use Rattle.std.specs.List.{flat_map}
 use Rattle.trace_core.specs.Events.{events_of}
-use Rattle.trace_core.specs.Task.{entries_of}
-use Rattle.sweep_core.specs.internal.Full.{full_pairs_ended, full_pairs_caught, FedFullAtMost}
+use Rattle.trace_core.proofs.WholeTraces.{holds-less}
+use Rattle.sweep_core.specs.internal.Full.{full_pairs_ended, full_pairs_fed, FedFullAtMost}
 use Rattle.sweep_core.proofs.FullLemmas.{waiting-few, waiting-alike, waiting-behind, ended-is}
 use Rattle.sweep_core.proofs.full.pass.read_full.Goals as goal
 
@@ -22,3 +22,11 @@ end_full-requires-clause-behind g c =
     let read = c.read_full_entries-read in
     subst (FedFullAtMost read.new.fed) (sym c.feed.ensures.fed)
     (waiting-behind read.new.fed read.new.batch read.new.profiles read.ensures.waiting)
+
+pub returns-clause-fed : goal.returns-clause-fed
+returns-clause-fed g c =
+    let read = c.read_full_entries-read in
+    holds-less (λ es held. c.end_full.ensures
+    ∙ ap (full_pairs_ended read.new.fed) c.feed.ensures.fed
+    ∙ ended-is read.new.fed (flat_map (events_of c.args.kind) es) c.args.profiles.now
+    (full_pairs_fed read.new.batch read.new.profiles) held) read.ensures.fed

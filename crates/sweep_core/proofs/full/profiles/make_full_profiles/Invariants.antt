@@ -1,5 +1,5 @@
 -- The profiles made so far are those of the rows before those that are left, which become fewer.
-use Rattle.std.proofs.Common.{length, map}
+use Rattle.std.proofs.Common.{length, map, []}
 use Rattle.std.specs.List.{AllByRecursion}
 use Rattle.sweep_core.specs.SweepText.{configs_of}
 use Rattle.sweep_core.specs.internal.Walk.{rows_left}
