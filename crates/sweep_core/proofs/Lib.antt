@@ -22,4 +22,3 @@ pub mod FeedingEach
 pub mod FeedingOne
 pub mod Repeated
 pub mod WorkLaws
-mod Examples
