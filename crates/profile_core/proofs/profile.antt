@@ -8,4 +8,3 @@ pub mod Fed
 pub mod Fronts
 pub mod Batches
 pub mod Runs
-mod ProfileRows

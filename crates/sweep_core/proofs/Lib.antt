@@ -28,4 +28,3 @@ pub mod FullWriting
 pub mod FullServing
 pub mod FullSweeping
 pub mod FullFeeding
-mod Examples

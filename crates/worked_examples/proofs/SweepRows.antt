@@ -1,4 +1,4 @@
--- Worked examples, computed from the definitions.
+-- Worked rows of sweeps, computed from the definitions.
 use Rattle.std.specs.Prelude.{ℕ, ◌≡◌, Bool, true, false, List, [], ◌∷◌, ◌++◌, refl, map, Some, None}
 use Rattle.std.specs.Prelude.{Result, Ok, Err, codes}
 use lib.Count.{count_trailing_zeros}
