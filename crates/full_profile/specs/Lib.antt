@@ -1,3 +1,5 @@
 pub mod LookBack
 pub mod State
 pub mod Batches
+pub mod Sums
+pub mod internal
