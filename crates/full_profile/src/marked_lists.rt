@@ -4,6 +4,7 @@ pub(crate) mod rows;
 
 ghost use Rattle.std.specs.Prelude.{◌≡◌, ◌+◌, ◌^◌, ◌<◌, ◌≤◌, IsTrue, ◌↔◌, length, slice_index};
 ghost use Rattle.std.specs.Prelude.{sum, sum_by};
+ghost use Rattle.trace_core.specs.Events.{is_write};
 ghost use Rattle.profile_core.specs.internal.set_lists.Moves.{is_front};
 ghost use Rattle.full_profile.specs.internal.Copies.{with_all_copies, up_to_of, CanTake};
 ghost use Rattle.full_profile.specs.internal.Marked.{Marked, blocks_in, cleans_in, touch_of};
@@ -20,6 +21,14 @@ pub enum MarkedTouch {
     Behind(usize, u32),
     New(usize),
     Full(u32),
+}
+
+/// Whether an access writes.
+#[inline(always)]
+pub fn writes(access: Access) -> bool
+    ensures { result ≡ is_write access }
+{
+    matches!(access, Access::Write)
 }
 
 /// A recency list for each set, the most recent block first, with a clean depth beside each block

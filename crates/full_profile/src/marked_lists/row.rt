@@ -3,12 +3,11 @@
 ghost use Rattle.std.specs.Prelude.{◌≡◌, ◌+◌, ◌-◌, ◌^◌, ◌<◌, ◌≤◌, ◌∷◌, length, take, nat_eq};
 ghost use Rattle.std.specs.Prelude.{if◌then◌else◌, slice_index};
 ghost use Rattle.std.specs.List.{remove};
-ghost use Rattle.trace_core.specs.Events.{is_write};
 ghost use Rattle.profile_core.specs.internal.set_lists.Moves.{index_of, move_to_front};
 ghost use Rattle.full_profile.specs.internal.Marked.{touch_of, cleans_after};
 ghost use Rattle.full_profile.specs.internal.Rows.{shifted_of};
 
-use crate::marked_lists::MarkedTouch;
+use crate::marked_lists::{MarkedTouch, writes};
 use std::mem;
 use trace_core::Access;
 
@@ -44,11 +43,11 @@ pub fn bring_in_row(
         (take len.old blocks.old) (take len.old cleans.old) }
 {
     let held = *len as usize;
-    let writes = matches!(access, Access::Write);
-    let clean_if_new = if writes { 0 } else { blocks.len() as u32 };
+    let written = writes(access);
+    let clean_if_new = if written { 0 } else { blocks.len() as u32 };
     match shift_past(&mut blocks[..held], &mut cleans[..held], block, clean_if_new) {
         Shifted::Found(distance, clean) => {
-            if !writes {
+            if !written {
                 cleans[0] = clean.max(distance as u32);
             }
             MarkedTouch::Behind(distance, clean)

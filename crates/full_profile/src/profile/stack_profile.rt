@@ -16,7 +16,7 @@ ghost use Rattle.full_profile.specs.internal.Marked.{empty_marked};
 use crate::copies::{Copies, Emptying, total};
 use crate::counts::FullCounts;
 use crate::kind_counts::KindCounts;
-use crate::marked_lists::{MarkedLists, MarkedTouch};
+use crate::marked_lists::{MarkedLists, MarkedTouch, writes};
 use crate::profile::full_sums::FullSums;
 use crate::profile::numbers::Numbers;
 use cache_core::Geometry;
@@ -120,7 +120,7 @@ impl<L: MarkedLists> FullStackProfile<L> {
             self.feed_behind(set, block, r.access);
             return false;
         }
-        if !matches!(r.access, Access::Write) || self.lists.front_clean(set) == 0 {
+        if !writes(r.access) || self.lists.front_clean(set) == 0 {
             return true;
         }
         self.lists.write_front(set);

@@ -1,0 +1,2 @@
+pub mod Shifting
+pub mod RowBringing
