@@ -1,2 +1,4 @@
 pub mod Shifting
 pub mod RowBringing
+pub mod Parts
+pub mod ListsInRows
