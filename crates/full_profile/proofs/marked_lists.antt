@@ -2,3 +2,4 @@ pub mod Shifting
 pub mod RowBringing
 pub mod Parts
 pub mod ListsInRows
+pub mod Emptying
