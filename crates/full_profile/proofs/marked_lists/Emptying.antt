@@ -125,7 +125,11 @@ module _ {e : Emptying} {was : Marked} {c : CopiesValue} {now : Marked} {d : Cop
       all_blank now.blocks none ∙ ap (λ n. replicate n []) left.set_count in
       let cleans : now.cleans ≡ replicate (length was.cleans) [] =
       all_blank now.cleans no_cleans ∙ ap (λ n. replicate n []) left.clean_count in
-      cc (left.depth, blocks, cleans)
+      let lists : ℕ → List (List ℕ) → List (List ℕ) → Marked =
+      λ n bs cs. record { depth = n; blocks = bs; cleans = cs } in
+      ap (λ n. lists n now.blocks now.cleans) left.depth
+      ∙ ap (λ bs. lists was.depth bs now.cleans) blocks
+      ∙ ap (lists was.depth (replicate (length was.blocks) [])) cleans
 
   pub all_counted : d ≡ with_all_copies (up_to_of e was.depth) was.cleans c
   all_counted = sym (none_listed (up_to_of e was.depth) now.cleans d no_cleans) ∙ left.counted
