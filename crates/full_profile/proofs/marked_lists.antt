@@ -3,3 +3,4 @@ pub mod RowBringing
 pub mod Parts
 pub mod ListsInRows
 pub mod Emptying
+pub mod Touching

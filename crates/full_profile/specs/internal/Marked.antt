@@ -76,5 +76,6 @@ pub record AreAlike (m : Marked) : Type 0 where
 pub record AreTouched (m : Marked) (touched : TouchedValue) : Type 0 where
   pub alike : AreAlike m
   pub few : length m.blocks ≤ 2 ^ 22
+  pub small : m.depth ≤ 2 ^ 22
   pub short : (set : ℕ) → length (blocks_in m set) ≤ m.depth
   pub covers : Covers touched (map length m.blocks)

@@ -162,6 +162,7 @@ impl MarkedRows {
     /// Empty lists for a number of sets. It takes 12 bytes for each of `sets * depth` blocks, and 4
     /// and a quarter for each set.
     pub fn new(alloc: Global, sets: usize, depth: usize) -> Result<MarkedRows, AllocError>
+        requires filled { 1 ≤ sets }
         requires some { 1 ≤ depth }
         requires small { sets * depth ≤ 2 ^ 22 }
         ensures { IfOk result (λ lists. lists ≡ empty_marked sets depth) }
