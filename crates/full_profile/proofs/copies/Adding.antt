@@ -13,7 +13,7 @@ use Rattle.full_profile.specs.internal.Copies.{CopiesValue, with_copy, with_copi
 use Rattle.full_profile.specs.internal.Copies.{with_all_copies, up_to_of}
 
 -- one more
-sum_more : (ns : List ℕ) (i : ℕ) → sum (one_more_at ns i) ≤ sum ns + 1
+pub sum_more : (ns : List ℕ) (i : ℕ) → sum (one_more_at ns i) ≤ sum ns + 1
 sum_more [] i = omega arith
 sum_more (n ∷ ns) zero = omega (
   arith,
@@ -167,3 +167,17 @@ none_listed up_to [] c none = refl
 none_listed up_to (l ∷ lists) c none =
     ap (λ xs. with_all_copies up_to lists (with_copies_of up_to 0 xs c)) (none 0)
     ∙ none_listed up_to lists c (λ k. none (suc k))
+
+pub all_more : (up_to : ℕ → ℕ) (lists : List (List ℕ)) (c : CopiesValue) →
+    IsMore (sum_by length lists) c (with_all_copies up_to lists c)
+all_more up_to [] c = none_more 0 c
+all_more up_to (l ∷ lists) c =
+    let one = copies_more up_to 0 l c in
+    let rest = all_more up_to lists (with_copies_of up_to 0 l c) in
+    let both = sum_by-cons length l lists in
+    record {
+      above_long = rest.above_long ∙ one.above_long;
+      up_to_long = rest.up_to_long ∙ one.up_to_long;
+      above_few = omega (arith, one.above_few, rest.above_few, both);
+      up_to_few = omega (arith, one.up_to_few, rest.up_to_few, both);
+    }

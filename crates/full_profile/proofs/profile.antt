@@ -1,0 +1,2 @@
+pub mod Fit
+pub mod Steps
