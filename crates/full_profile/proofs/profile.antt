@@ -1,2 +1,3 @@
 pub mod Fit
 pub mod Steps
+pub mod Sounds

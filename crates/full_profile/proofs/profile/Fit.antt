@@ -38,10 +38,10 @@ use Rattle.full_profile.proofs.profile.Steps.{emptying_is}
 pub ordered : {v : FullState} → IsFullFit v → AreOrdered v.plain.geometry.e (copies_of v)
 ordered f = record { above_long = f.above_long; up_to_long = f.up_to_long; in_order = f.in_order }
 
-kind_small : (access : Access) → kind_number access < 3
-kind_small Read = omega arith
-kind_small Write = omega arith
-kind_small Fetch = omega arith
+pub kind_within : (access : Access) → kind_number access < 3
+kind_within Read = omega arith
+kind_within Write = omega arith
+kind_within Fetch = omega arith
 
 -- one more miss
 miss_if : (b : Bool) (i : ℕ) (s : KindState) → let after = cond b
@@ -170,7 +170,7 @@ module _ {v : FullState} (f : IsFullFit v) (fit : IsFit v.plain) (access : Acces
   kinds_hold P before after false a =
       let i = kind_number access in
       let y = with_miss x xs (kind_of v access) in
-      let lt : i < length v.kinds = omega (arith, kind_small access, f.kind_count) in
+      let lt : i < length v.kinds = omega (arith, kind_within access, f.kind_count) in
       elim (cases_eq (kind_number a) i) [
         | inl same ↦ subst P (sym (ap (λ j. get_or (set v.kinds i y) j (empty_kind v.plain.geometry))
             same ∙ get_or-set_same v.kinds i y (empty_kind v.plain.geometry) lt)) after

@@ -1,7 +1,7 @@
 -- The invariant of a full profile.
 use Rattle.std.specs.Prelude.{ℕ, ◌≡◌, ◌≤◌, ◌+◌, List, length, take, sum, sum_by}
 use Rattle.trace_core.specs.declared.events.Access.{Access}
-use Rattle.cache_core.specs.Geometry.{GeometryValue}
+use Rattle.cache_core.specs.Geometry.{GeometryValue, IsGeometry}
 use Rattle.profile_core.specs.internal.profile.State.{IsSound, list_of, fed_of, distances_of}
 use Rattle.profile_core.specs.internal.set_lists.Lists.{Lists}
 use Rattle.full_profile.specs.State.{FullState, KindState, cleans_of, kind_of}
@@ -47,5 +47,6 @@ full_state_of g m behind missed probes kinds copies = record {
 -- the invariant of a profile
 pub record IsFullSound (g : GeometryValue) (m : Marked) (behind missed : List ℕ) (probes : ℕ)
     (kinds : List KindState) (copies : CopiesValue) : Type 0 where
+  pub limits : IsGeometry g
   pub plain : IsSound g (plain_lists m) behind missed probes
   pub fit : IsFullFit (full_state_of g m behind missed probes kinds copies)

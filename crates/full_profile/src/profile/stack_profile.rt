@@ -135,25 +135,24 @@ impl<L: MarkedLists> FullStackProfile<L> {
         ensures { self.new ≡ after_reference_in_lists self.old access block
             (list_of self.old.plain set) (cleans_of self.old set) }
     {
-        let numbers = &mut self.numbers;
         match self.lists.bring(set, block, access) {
             MarkedTouch::Behind(distance, clean) => {
-                numbers.probes += distance as u64 + 1;
-                numbers.behind[distance] += 1;
-                numbers.kinds[kind_index(access)].count_behind(distance);
-                numbers.copies.add(clean as usize, distance);
+                self.numbers.probes += distance as u64 + 1;
+                self.numbers.behind[distance] += 1;
+                self.numbers.kinds[kind_index(access)].count_behind(distance);
+                self.numbers.copies.add(clean as usize, distance);
             }
             MarkedTouch::New(held) => {
-                numbers.probes += held as u64;
-                numbers.misses_by_occupancy[held] += 1;
-                numbers.kinds[kind_index(access)].count_missed();
+                self.numbers.probes += held as u64;
+                self.numbers.misses_by_occupancy[held] += 1;
+                self.numbers.kinds[kind_index(access)].count_missed();
             }
             MarkedTouch::Full(clean) => {
-                let depth = numbers.behind.len();
-                numbers.probes += depth as u64;
-                numbers.misses_by_occupancy[depth] += 1;
-                numbers.kinds[kind_index(access)].count_missed();
-                numbers.copies.add(clean as usize, depth);
+                let depth = self.numbers.behind.len();
+                self.numbers.probes += depth as u64;
+                self.numbers.misses_by_occupancy[depth] += 1;
+                self.numbers.kinds[kind_index(access)].count_missed();
+                self.numbers.copies.add(clean as usize, depth);
             }
         }
     }
