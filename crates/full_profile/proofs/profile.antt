@@ -1,3 +1,5 @@
 pub mod Fit
 pub mod Steps
 pub mod Sounds
+pub mod Fronts
+pub mod Batches

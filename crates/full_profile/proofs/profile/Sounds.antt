@@ -4,30 +4,37 @@ use Rattle.std.proofs.Common.{List, [], ◌∷◌, length, get_or, set, sum, ref
 use Rattle.std.specs.List.{sum_by}
 use Rattle.std.proofs.Math.Nat.{mul-le-mul_right}
 use Rattle.std.proofs.lemmas.Bool.{eqb-true}
-use Rattle.std.proofs.lemmas.List.{get_or_read}
+use Rattle.std.specs.Prelude.{replicate}
+use Rattle.std.proofs.lemmas.List.{get_or_read, length-replicate}
+use Rattle.profile_core.proofs.Elements.{all_same}
 use Rattle.trace_core.specs.declared.events.Access.{Access}
-use Rattle.cache_core.specs.Geometry.{GeometryValue, set_of_block}
+use Rattle.cache_core.specs.Geometry.{GeometryValue, IsGeometry, set_of_block}
 use Rattle.profile_core.specs.internal.set_lists.Moves.{index_of, is_in, is_front}
 use Rattle.profile_core.specs.internal.profile.State.{ProfileState, IsSound, IsNext, list_of, fed_of}
 use Rattle.profile_core.specs.internal.profile.State.{one_more_at, after_reference, compared_behind}
 use Rattle.profile_core.specs.internal.profile.State.{most_references, distances_of}
 use Rattle.profile_core.specs.internal.profile.Fronts.{IsFit, after_fronts}
-use Rattle.profile_core.proofs.profile.Feeding.{FoundAt, FoundNowhere}
+use Rattle.profile_core.proofs.profile.Feeding.{FoundAt, FoundNowhere, new_is, new_sound}
 use Rattle.profile_core.proofs.profile.Fed.{IsMoved, found_after, found_sound, nowhere_after}
 use Rattle.profile_core.proofs.profile.Fed.{nowhere_sound, distance_fits, len_fits}
 use Rattle.profile_core.proofs.profile.Fronts.{fit_inside, counted_sound}
 use Rattle.full_profile.specs.State.{FullState, KindState, kind_number, cleans_of, kind_of}
 use Rattle.full_profile.specs.State.{after_reference_in_lists, with_miss, empty_kind}
+use Rattle.full_profile.specs.State.{after_emptying, empty_full}
 use Rattle.full_profile.specs.Batches.{after_settled}
 use Rattle.full_profile.specs.declared.marked_lists.MarkedTouch.TheVariants.{Behind, New, Full}
 use Rattle.full_profile.specs.internal.Copies.{CopiesValue, CanTake, with_copy, copies_of}
+use Rattle.full_profile.specs.internal.Copies.{with_all_copies, up_to_of, no_copies}
+use Rattle.full_profile.specs.declared.copies.Emptying.{Emptying}
 use Rattle.full_profile.specs.internal.Marked.{Marked, blocks_in, cleans_in, touch_of, after_access}
-use Rattle.full_profile.specs.internal.Marked.{cleans_after}
+use Rattle.full_profile.specs.internal.Marked.{cleans_after, emptied, empty_marked}
 use Rattle.full_profile.specs.internal.Sound.{IsFullSound, IsFullFit, full_state_of, plain_lists}
 use Rattle.full_profile.proofs.copies.Order.{ends_few}
 use Rattle.full_profile.proofs.marked_lists.Touching.{inside_lt, index_absent}
 use Rattle.full_profile.proofs.profile.Fit.{ordered, fit_after, fit_settled, kind_within}
+use Rattle.full_profile.proofs.profile.Fit.{fit_emptied, fit_empty}
 use Rattle.full_profile.proofs.profile.Steps.{state_same, reference_is, copies_after}
+use Rattle.full_profile.proofs.profile.Steps.{emptying_is}
 
 -- where an access found its block
 behind_parts : (b e : Bool) (h c p q r n : ℕ) →
@@ -331,3 +338,60 @@ module _ {g : GeometryValue} {m : Marked} {behind missed : List ℕ} {probes : �
         plain = nowhere_sound is_moved nowhere read more;
         fit = step_fit behind (set missed len (n + 1)) probes' kinds' copies' missed_after;
       }
+
+-- lists that are emptied
+module _ {g : GeometryValue} {m : Marked} {behind missed : List ℕ} {probes : ℕ}
+    {kinds : List KindState} {copies : CopiesValue}
+    (h : IsFullSound g m behind missed probes kinds copies) (e : Emptying) (m' : Marked)
+    (copies' : CopiesValue) (none : m' ≡ emptied m)
+    (counted : copies' ≡ with_all_copies (up_to_of e m.depth) m.cleans copies) where
+  sets : length m.blocks ≡ 2 ^ g.s
+  sets = h.plain.set_count
+
+  pub emptied_after : full_state_of g m' behind missed probes kinds copies'
+      ≡ after_emptying (up_to_of e g.e) (full_state_of g m behind missed probes kinds copies)
+  emptied_after =
+      let s = full_state_of g m behind missed probes kinds copies in
+      let blocks : m'.blocks ≡ replicate (2 ^ g.s) [] =
+      ap (λ l. l.blocks) none ∙ ap (λ n. replicate n []) sets in
+      let cleans : m'.cleans ≡ replicate (2 ^ g.s) [] =
+      ap (λ l. l.cleans) none ∙ ap (λ n. replicate n []) (h.fit.set_count ∙ sets) in
+      state_same (full_state_of g m' behind missed probes kinds copies') _
+      (ap (λ ls. record s.plain { lists = ls }) blocks) cleans refl
+      (counted ∙ ap (λ d. with_all_copies (up_to_of e d) m.cleans copies) h.plain.depth)
+      ∙ sym (emptying_is (up_to_of e g.e) s)
+
+  pub emptied_sound : IsFullSound g m' behind missed probes kinds copies'
+  emptied_sound = record {
+    limits = h.limits;
+    plain = subst (λ l. IsSound g l behind missed probes) (sym (ap plain_lists none)) (record {
+      depth = h.plain.depth;
+      set_count = length-replicate (length m.blocks) [] ∙ sets;
+      short = λ k. omega (arith, ap length (all_same {A = List ℕ} (length m.blocks) k []));
+      behind_count = h.plain.behind_count;
+      none_in_front = h.plain.none_in_front;
+      occupancy_count = h.plain.occupancy_count;
+      told = h.plain.told;
+      fed = h.plain.fed;
+      compared = h.plain.compared;
+    });
+    fit = subst IsFullFit (sym emptied_after) (fit_emptied h.fit (plain_fit h) e);
+  }
+
+-- a profile that was fed nothing
+module _ (g : GeometryValue) (m : Marked) (behind missed : List ℕ) (kinds : List KindState)
+    (copies : CopiesValue) (limits : IsGeometry g) (none : m ≡ empty_marked (2 ^ g.s) g.e)
+    (near : behind ≡ replicate g.e 0) (far : missed ≡ replicate (g.e + 1) 0)
+    (kinds_are : kinds ≡ replicate 3 (empty_kind g)) (copies_are : copies ≡ no_copies g.e) where
+  pub new_full : full_state_of g m behind missed 0 kinds copies ≡ empty_full g
+  new_full = state_same (full_state_of g m behind missed 0 kinds copies) (empty_full g)
+      (new_is g (plain_lists m) behind missed (ap (λ l. l.blocks) none) near far)
+      (ap (λ l. l.cleans) none) kinds_are copies_are
+
+  pub new_full_sound : IsFullSound g m behind missed 0 kinds copies
+  new_full_sound = record {
+    limits = limits;
+    plain = new_sound g (plain_lists m) behind missed (ap (λ l. l.depth) none)
+        (ap (λ l. l.blocks) none) limits.some near far;
+    fit = subst IsFullFit (sym new_full) (fit_empty g);
+  }

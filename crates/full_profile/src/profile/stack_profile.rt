@@ -113,6 +113,8 @@ impl<L: MarkedLists> FullStackProfile<L> {
         ensures settled { result ≡ is_settled self.old r }
         ensures step { self.new ≡ after_unless_settled self.old r }
         ensures more { fed_of self.new.plain ≤ fed_of self.old.plain + 1 }
+        ensures counts { is_settled self.old r ≡ true
+            → after_full_reference self.old r ≡ after_settled 1 self.old }
     {
         let block = self.geometry.block_of(r.addr);
         let set = self.geometry.set_of(r.addr) as usize;
@@ -284,7 +286,7 @@ fn kinds(alloc: Global, depth: usize) -> Result<Vec<KindCounts>, AllocError>
         kinds.items ≡ replicate 3 (record { behind = replicate depth 0; missed = 0 })) }
 {
     let mut kinds = Vec::with_capacity(alloc, 3)?;
-    for _ in 0..3 {
+    for made in 0..3 {
         kinds.push(KindCounts::new(alloc, depth)?)?;
     }
     Ok(kinds)
