@@ -3,3 +3,4 @@ pub mod Steps
 pub mod Sounds
 pub mod Fronts
 pub mod Batches
+pub mod Counts

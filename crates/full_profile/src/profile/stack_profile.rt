@@ -25,6 +25,9 @@ use std::alloc::{AllocError, Global};
 use std::marker::Model;
 use trace_core::{Access, Ref};
 
+/// Reads, writes and fetches.
+const KINDS: usize = 3;
+
 /// The lists of all sets, kept in the way `L`, and the numbers counted.
 #[derive(Drop)]
 pub struct FullStackProfile<L: MarkedLists> {
@@ -283,10 +286,10 @@ impl<L: MarkedLists> FullStackProfile<L> {
 /// Nothing counted yet, of each kind of access.
 fn kinds(alloc: Global, depth: usize) -> Result<Vec<KindCounts>, AllocError>
     ensures { IfOk result (λ kinds.
-        kinds.items ≡ replicate 3 (record { behind = replicate depth 0; missed = 0 })) }
+        kinds.items ≡ replicate KINDS (record { behind = replicate depth 0; missed = 0 })) }
 {
-    let mut kinds = Vec::with_capacity(alloc, 3)?;
-    for made in 0..3 {
+    let mut kinds = Vec::with_capacity(alloc, KINDS)?;
+    for made in 0..KINDS {
         kinds.push(KindCounts::new(alloc, depth)?)?;
     }
     Ok(kinds)
