@@ -246,7 +246,8 @@ impl<L: MarkedLists> FullStackProfile<L> {
         requires within { e ≤ self.now.plain.geometry.e }
         requires of_this { sums.old ≡ full_sums_at self.now sums.old.ways }
         requires rising { sums.old.ways ≤ e }
-        ensures { sums.new ≡ full_sums_at self.now e }
+        ensures sums { sums.new ≡ full_sums_at self.now e }
+        ensures in_order { sums.new.copied_up_to ≤ sums.new.copied_above }
     {
         let (from, to) = (sums.ways, e as usize);
         let (above, up_to) = self.numbers.copies.ends_between(from, to);
