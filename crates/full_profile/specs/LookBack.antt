@@ -23,7 +23,7 @@ is_dirty g block (event.Flush ∷ past) = false
 is_dirty g block (event.Reference r ∷ past) =
     if block_of g r.addr == block
     then is_write r.access
-        || (is_hit g (occurrence_after g (reverse past) r) && is_dirty g block past)
+    || (is_hit g (occurrence_after g (reverse past) r) && is_dirty g block past)
     else is_dirty g block past
 
 -- the blocks of a set that the cache holds after some events, the most recent first

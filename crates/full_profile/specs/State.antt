@@ -126,9 +126,9 @@ after_copies_of up_to index (clean ∷ cleans) v =
 abbrev pub after_emptying : (ℕ → ℕ) → FullState → FullState
 after_emptying up_to v = record
     (fold (λ w cleans. after_copies_of up_to 0 cleans w) v v.cleans) {
-  plain = after_flush v.plain;
-  cleans = replicate (2 ^ v.plain.geometry.s) [];
-}
+      plain = after_flush v.plain;
+      cleans = replicate (2 ^ v.plain.geometry.s) [];
+    }
 
 -- after a flush: each cache copies back what it holds dirty, and has copied back what it evicted
 abbrev pub after_full_flush : FullState → FullState

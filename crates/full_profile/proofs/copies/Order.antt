@@ -3,8 +3,6 @@
 use Rattle.std.proofs.Common.{◌≡◌, ℕ, zero, suc, ◌+◌, ◌-◌, ◌<◌, ◌≤◌, Bool, true, false, cond, ltb}
 use Rattle.std.proofs.Common.{List, [], ◌∷◌, length, take, get_or, set, sum, refl, sym, ◌∙◌, ap}
 use Rattle.std.proofs.Common.{arith, length-set, inl, inr}
-
-
 use Rattle.std.proofs.lemmas.Bool.{ltb-true, cases_lt}
 use Rattle.std.proofs.lemmas.List.{length-replicate, take_all}
 use Rattle.std.proofs.lemmas.List.Sums.{sum_by-cons}
@@ -100,17 +98,17 @@ module _ {depth : ℕ} {c : CopiesValue} (o : AreOrdered depth c) where
     up_to_long = length-set c.up_to up_to _ ∙ o.up_to_long;
     in_order = λ ways. elim (cases_lt above ways) [
       | inl within ↦ omega (
-          arith,
-          take_one c.above above ways (omega (arith, o.above_long, le, lt)) within,
-          take_more c.up_to up_to ways,
-          o.in_order ways,
-        )
+        arith,
+        take_one c.above above ways (omega (arith, o.above_long, le, lt)) within,
+        take_more c.up_to up_to ways,
+        o.in_order ways,
+      )
       | inr past ↦ omega (
-          arith,
-          take_same c.up_to up_to ways (omega (arith, past, lt)),
-          none_less c.above above ways,
-          o.in_order ways,
-        )
+        arith,
+        take_same c.up_to up_to ways (omega (arith, past, lt)),
+        none_less c.above above ways,
+        o.in_order ways,
+      )
     ];
   }
 

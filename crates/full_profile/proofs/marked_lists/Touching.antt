@@ -183,7 +183,6 @@ module _ {m : Marked} {touched : TouchedValue} (t : AreTouched m touched) (k : �
       (subst (λ ns. Covers touched ns) (sym (ap (set (map length m.blocks) k) same
       ∙ set-get_or (map length m.blocks) k 0)) t.covers))
 
-
 -- lists that are empty
 lengths_none : (n : ℕ) → map length (replicate {A = List ℕ} n []) ≡ replicate n 0
 lengths_none zero = refl

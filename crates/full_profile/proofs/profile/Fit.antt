@@ -110,8 +110,11 @@ module _ {v : FullState} (f : IsFullFit v) (fit : IsFit v.plain) (access : Acces
   clean_new = cleans_after d access x xs ms
 
   among_lists : k < length v.plain.lists
-  among_lists = omega (arith, mod_below x (2 ^ v.plain.geometry.s) (pow_pos v.plain.geometry.s),
-      fit.set_count)
+  among_lists = omega (
+    arith,
+    mod_below x (2 ^ v.plain.geometry.s) (pow_pos v.plain.geometry.s),
+    fit.set_count,
+  )
 
   among_cleans : k < length v.cleans
   among_cleans = omega (arith, among_lists, f.set_count)

@@ -45,7 +45,12 @@ pub fn bring_in_row(
     let held = *len as usize;
     let written = writes(access);
     let clean_if_new = if written { 0 } else { blocks.len() as u32 };
-    match shift_past(&mut blocks[..held], &mut cleans[..held], block, clean_if_new) {
+    match shift_past(
+        &mut blocks[..held],
+        &mut cleans[..held],
+        block,
+        clean_if_new,
+    ) {
         Shifted::Found(distance, clean) => {
             if !written {
                 cleans[0] = clean.max(distance as u32);

@@ -50,8 +50,11 @@ impl<L: MarkedLists> Model for FullStackProfile<L> {
 impl<L: MarkedLists> FullStackProfile<L> {
     /// A profile with these lists, which are empty. It takes 56 bytes for each associativity and 24
     /// more.
-    pub fn new(alloc: Global, geometry: Geometry, lists: L)
-        -> Result<FullStackProfile<L>, AllocError>
+    pub fn new(
+        alloc: Global,
+        geometry: Geometry,
+        lists: L,
+    ) -> Result<FullStackProfile<L>, AllocError>
         requires { L.view lists ≡ empty_marked (2 ^ geometry.s) geometry.e }
         ensures { IfOk result (λ profile. profile ≡ empty_full geometry) }
     {

@@ -10,20 +10,29 @@ is_set c = omega (arith, c.requires, ap (λ m. length m.blocks) c.self.view_is)
 pub overflow_cast-held : goal.overflow_cast-held
 overflow_cast-held c =
     let at = (goal.at.overflow_cast-held c).After-bring-touch in
-    omega (arith, held_small c.self.invariant c.args.set (is_set at) c.args.block c.args.access
-    c.in-New.ensures.found)
+    omega (
+      arith,
+      held_small c.self.invariant c.args.set (is_set at) c.args.block c.args.access
+          c.in-New.ensures.found,
+    )
 
 pub overflow_cast-held-in-New : goal.overflow_cast-held-in-New
 overflow_cast-held-in-New c =
     let at = (goal.at.overflow_cast-held-in-New c).After-bring-touch in
-    omega (arith, held_small c.self.invariant c.args.set (is_set at) c.args.block c.args.access
-    c.in-New.ensures.found)
+    omega (
+      arith,
+      held_small c.self.invariant c.args.set (is_set at) c.args.block c.args.access
+          c.in-New.ensures.found,
+    )
 
 pub overflow_add-held : goal.overflow_add-held
 overflow_add-held c =
     let at = (goal.at.overflow_add-held c).After-bring-touch in
-    omega (arith, held_small c.self.invariant c.args.set (is_set at) c.args.block c.args.access
-    c.in-New.ensures.found)
+    omega (
+      arith,
+      held_small c.self.invariant c.args.set (is_set at) c.args.block c.args.access
+          c.in-New.ensures.found,
+    )
 
 pub invariant_of-self : goal.invariant_of-self
 invariant_of-self c =

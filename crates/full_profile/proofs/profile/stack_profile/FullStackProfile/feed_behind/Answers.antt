@@ -24,61 +24,92 @@ depth_is g c = omega (
 
 pub overflow_add-self : goal.overflow_add-self
 overflow_add-self g c =
-    omega (arith, found_within c.self.invariant (g.L.MarkedLists.view c.bring.new.self) c.args.set c.args.block c.args.access
-    (next_inside c.self.invariant c.self.view_is c.requires) c.bring.ensures.moved
-    c.in-Behind.ensures.found, c.self.invariant.plain.behind_count,
-    c.self.inside.numbers.behind.ok.0)
+    omega (
+      arith,
+      found_within c.self.invariant (g.L.MarkedLists.view c.bring.new.self) c.args.set c.args.block c.args.access
+          (next_inside c.self.invariant c.self.view_is c.requires) c.bring.ensures.moved
+          c.in-Behind.ensures.found,
+      c.self.invariant.plain.behind_count,
+      c.self.inside.numbers.behind.ok.0,
+    )
 
 pub overflow_add-self-in-Behind : goal.overflow_add-self-in-Behind
 overflow_add-self-in-Behind g c =
-    omega (arith, probes_few c.self.invariant, found_within c.self.invariant (g.L.MarkedLists.view c.bring.new.self) c.args.set c.args.block c.args.access
-    (next_inside c.self.invariant c.self.view_is c.requires) c.bring.ensures.moved
-    c.in-Behind.ensures.found, c.self.invariant.plain.behind_count,
-    c.self.inside.numbers.behind.ok.0)
+    omega (
+      arith,
+      probes_few c.self.invariant,
+      found_within c.self.invariant (g.L.MarkedLists.view c.bring.new.self) c.args.set c.args.block c.args.access
+          (next_inside c.self.invariant c.self.view_is c.requires) c.bring.ensures.moved
+          c.in-Behind.ensures.found,
+      c.self.invariant.plain.behind_count,
+      c.self.inside.numbers.behind.ok.0,
+    )
 
 pub index_mut-requires : goal.index_mut-requires
 index_mut-requires g c =
-    omega (arith, found_within c.self.invariant (g.L.MarkedLists.view c.bring.new.self) c.args.set c.args.block c.args.access
-    (next_inside c.self.invariant c.self.view_is c.requires) c.bring.ensures.moved
-    c.in-Behind.ensures.found, c.self.invariant.plain.behind_count,
-    c.self.inside.numbers.behind.ok.0)
+    omega (
+      arith,
+      found_within c.self.invariant (g.L.MarkedLists.view c.bring.new.self) c.args.set c.args.block c.args.access
+          (next_inside c.self.invariant c.self.view_is c.requires) c.bring.ensures.moved
+          c.in-Behind.ensures.found,
+      c.self.invariant.plain.behind_count,
+      c.self.inside.numbers.behind.ok.0,
+    )
 
 pub overflow_add-index_mut : goal.overflow_add-index_mut
 overflow_add-index_mut g c =
-    omega (arith, distance_few (is_moved c.self.invariant (g.L.MarkedLists.view c.bring.new.self) c.args.set c.args.block c.args.access
-    (next_inside c.self.invariant c.self.view_is c.requires) c.bring.ensures.moved)
-    (found_at c.self.invariant (g.L.MarkedLists.view c.bring.new.self) c.args.set c.args.block c.args.access
-    (next_inside c.self.invariant c.self.view_is c.requires) c.bring.ensures.moved c.in-Behind.ensures.found) c.index_mut.ensures.value)
+    omega (
+      arith,
+      distance_few (is_moved c.self.invariant (g.L.MarkedLists.view c.bring.new.self) c.args.set c.args.block c.args.access
+          (next_inside c.self.invariant c.self.view_is c.requires) c.bring.ensures.moved)
+          (found_at c.self.invariant (g.L.MarkedLists.view c.bring.new.self) c.args.set c.args.block c.args.access
+          (next_inside c.self.invariant c.self.view_is c.requires) c.bring.ensures.moved c.in-Behind.ensures.found) c.index_mut.ensures.value,
+    )
 
 pub count_behind-requires-clause-within : goal.count_behind-requires-clause-within
 count_behind-requires-clause-within g c =
-    omega (arith, found_within c.self.invariant (g.L.MarkedLists.view c.bring.new.self) c.args.set c.args.block c.args.access
-    (next_inside c.self.invariant c.self.view_is c.requires) c.bring.ensures.moved
-    c.in-Behind.ensures.found, kind_long c.self.invariant (g.L.MarkedLists.view c.bring.new.self) c.args.set c.args.block c.args.access
-    (next_inside c.self.invariant c.self.view_is c.requires) c.bring.ensures.moved
-    (c.index_mut-in-Behind.ensures.value
-    ∙ ap (λ i. get_or c.self.inside.numbers.kinds.items i c.index_mut-in-Behind.result.now)
-    c.kind_index.ensures))
+    omega (
+      arith,
+      found_within c.self.invariant (g.L.MarkedLists.view c.bring.new.self) c.args.set c.args.block c.args.access
+          (next_inside c.self.invariant c.self.view_is c.requires) c.bring.ensures.moved
+          c.in-Behind.ensures.found,
+      kind_long c.self.invariant (g.L.MarkedLists.view c.bring.new.self) c.args.set c.args.block c.args.access
+          (next_inside c.self.invariant c.self.view_is c.requires) c.bring.ensures.moved
+          (c.index_mut-in-Behind.ensures.value
+          ∙ ap (λ i. get_or c.self.inside.numbers.kinds.items i c.index_mut-in-Behind.result.now)
+          c.kind_index.ensures),
+    )
 
 pub count_behind-requires-clause-few : goal.count_behind-requires-clause-few
 count_behind-requires-clause-few g c =
-    omega (arith, kind_small c.self.invariant (g.L.MarkedLists.view c.bring.new.self) c.args.set c.args.block c.args.access
-    (next_inside c.self.invariant c.self.view_is c.requires) c.bring.ensures.moved
-    (c.index_mut-in-Behind.ensures.value
-    ∙ ap (λ i. get_or c.self.inside.numbers.kinds.items i c.index_mut-in-Behind.result.now)
-    c.kind_index.ensures))
+    omega (
+      arith,
+      kind_small c.self.invariant (g.L.MarkedLists.view c.bring.new.self) c.args.set c.args.block c.args.access
+          (next_inside c.self.invariant c.self.view_is c.requires) c.bring.ensures.moved
+          (c.index_mut-in-Behind.ensures.value
+          ∙ ap (λ i. get_or c.self.inside.numbers.kinds.items i c.index_mut-in-Behind.result.now)
+          c.kind_index.ensures),
+    )
 
 pub add-requires-clause-above_within : goal.add-requires-clause-above_within
 add-requires-clause-above_within g c =
-    omega (arith, found_within c.self.invariant (g.L.MarkedLists.view c.bring.new.self) c.args.set c.args.block c.args.access
-    (next_inside c.self.invariant c.self.view_is c.requires) c.bring.ensures.moved
-    c.in-Behind.ensures.found, c.self.invariant.fit.above_long)
+    omega (
+      arith,
+      found_within c.self.invariant (g.L.MarkedLists.view c.bring.new.self) c.args.set c.args.block c.args.access
+          (next_inside c.self.invariant c.self.view_is c.requires) c.bring.ensures.moved
+          c.in-Behind.ensures.found,
+      c.self.invariant.fit.above_long,
+    )
 
 pub add-requires-clause-within : goal.add-requires-clause-within
 add-requires-clause-within g c =
-    omega (arith, found_within c.self.invariant (g.L.MarkedLists.view c.bring.new.self) c.args.set c.args.block c.args.access
-    (next_inside c.self.invariant c.self.view_is c.requires) c.bring.ensures.moved
-    c.in-Behind.ensures.found, c.self.invariant.fit.up_to_long)
+    omega (
+      arith,
+      found_within c.self.invariant (g.L.MarkedLists.view c.bring.new.self) c.args.set c.args.block c.args.access
+          (next_inside c.self.invariant c.self.view_is c.requires) c.bring.ensures.moved
+          c.in-Behind.ensures.found,
+      c.self.invariant.fit.up_to_long,
+    )
 
 pub add-requires-clause-above_few : goal.add-requires-clause-above_few
 add-requires-clause-above_few g c =
@@ -112,22 +143,30 @@ returns-in-Behind g c =
 
 pub overflow_add-self-in-New : goal.overflow_add-self-in-New
 overflow_add-self-in-New g c =
-    omega (arith, probes_few c.self.invariant, new_within c.self.invariant (g.L.MarkedLists.view c.bring.new.self) c.args.set c.args.block c.args.access
-    (next_inside c.self.invariant c.self.view_is c.requires) c.bring.ensures.moved c.in-New.ensures.found, c.self.invariant.plain.occupancy_count,
-    c.self.inside.numbers.misses_by_occupancy.ok.0)
+    omega (
+      arith,
+      probes_few c.self.invariant,
+      new_within c.self.invariant (g.L.MarkedLists.view c.bring.new.self) c.args.set c.args.block c.args.access
+          (next_inside c.self.invariant c.self.view_is c.requires) c.bring.ensures.moved c.in-New.ensures.found,
+      c.self.invariant.plain.occupancy_count,
+      c.self.inside.numbers.misses_by_occupancy.ok.0,
+    )
 
 pub overflow_add-index_mut-in-New : goal.overflow_add-index_mut-in-New
 overflow_add-index_mut-in-New g c =
-    omega (arith, len_few (is_moved c.self.invariant (g.L.MarkedLists.view c.bring.new.self) c.args.set c.args.block c.args.access
-    (next_inside c.self.invariant c.self.view_is c.requires) c.bring.ensures.moved)
-    (record {
-      outside = new_outside c.self.invariant (g.L.MarkedLists.view c.bring.new.self) c.args.set c.args.block c.args.access
-    (next_inside c.self.invariant c.self.view_is c.requires) c.bring.ensures.moved c.in-New.ensures.found;
-      index_is = index_absent _ _ (new_outside c.self.invariant (g.L.MarkedLists.view c.bring.new.self) c.args.set c.args.block c.args.access
-    (next_inside c.self.invariant c.self.view_is c.requires) c.bring.ensures.moved c.in-New.ensures.found);
-      len_is = new_len c.self.invariant (g.L.MarkedLists.view c.bring.new.self) c.args.set c.args.block c.args.access
-    (next_inside c.self.invariant c.self.view_is c.requires) c.bring.ensures.moved c.in-New.ensures.found;
-    }) c.index_mut-in-New.ensures.value)
+    omega (
+      arith,
+      len_few (is_moved c.self.invariant (g.L.MarkedLists.view c.bring.new.self) c.args.set c.args.block c.args.access
+          (next_inside c.self.invariant c.self.view_is c.requires) c.bring.ensures.moved)
+          (record {
+            outside = new_outside c.self.invariant (g.L.MarkedLists.view c.bring.new.self) c.args.set c.args.block c.args.access
+                (next_inside c.self.invariant c.self.view_is c.requires) c.bring.ensures.moved c.in-New.ensures.found;
+            index_is = index_absent _ _ (new_outside c.self.invariant (g.L.MarkedLists.view c.bring.new.self) c.args.set c.args.block c.args.access
+                (next_inside c.self.invariant c.self.view_is c.requires) c.bring.ensures.moved c.in-New.ensures.found);
+            len_is = new_len c.self.invariant (g.L.MarkedLists.view c.bring.new.self) c.args.set c.args.block c.args.access
+                (next_inside c.self.invariant c.self.view_is c.requires) c.bring.ensures.moved c.in-New.ensures.found;
+          }) c.index_mut-in-New.ensures.value,
+    )
 
 pub invariant_of-self-in-New : goal.invariant_of-self-in-New
 invariant_of-self-in-New g c =
@@ -165,16 +204,24 @@ returns-in-New g c =
 
 pub overflow_add-self-in-Full : goal.overflow_add-self-in-Full
 overflow_add-self-in-Full g c =
-    omega (arith, probes_few c.self.invariant, depth_is g (goal.at.overflow_add-self-in-Full g c).After-len-depth,
-    c.self.invariant.plain.behind_count, c.self.inside.numbers.behind.ok.0)
+    omega (
+      arith,
+      probes_few c.self.invariant,
+      depth_is g (goal.at.overflow_add-self-in-Full g c).After-len-depth,
+      c.self.invariant.plain.behind_count,
+      c.self.inside.numbers.behind.ok.0,
+    )
 
 pub count_missed-requires-in-Full : goal.count_missed-requires-in-Full
 count_missed-requires-in-Full g c =
-    omega (arith, kind_small c.self.invariant (g.L.MarkedLists.view c.bring.new.self) c.args.set c.args.block c.args.access
-    (next_inside c.self.invariant c.self.view_is c.requires) c.bring.ensures.moved
-    (c.index_mut-in-Full-2.ensures.value
-    ∙ ap (λ i. get_or c.self.inside.numbers.kinds.items i c.index_mut-in-Full-2.result.now)
-    c.kind_index-in-Full.ensures))
+    omega (
+      arith,
+      kind_small c.self.invariant (g.L.MarkedLists.view c.bring.new.self) c.args.set c.args.block c.args.access
+          (next_inside c.self.invariant c.self.view_is c.requires) c.bring.ensures.moved
+          (c.index_mut-in-Full-2.ensures.value
+          ∙ ap (λ i. get_or c.self.inside.numbers.kinds.items i c.index_mut-in-Full-2.result.now)
+          c.kind_index-in-Full.ensures),
+    )
 
 pub add-requires-in-Full-clause-few : goal.add-requires-in-Full-clause-few
 add-requires-in-Full-clause-few g c =
