@@ -1,7 +1,7 @@
 -- The state of a full profile, and how a reference and a flush change it. A block's clean depth is
 -- a number of ways: the block is dirty in the caches of more ways, and clean in those of as many or
 -- fewer, or not in them. (Thompson and Smith 1989.)
-use Rattle.std.specs.Prelude.{ℕ, ◌+◌, ◌-◌, ◌^◌, ◌==◌, nat_lt, max, if◌then◌else◌, Bool, List, []}
+use Rattle.std.specs.Prelude.{ℕ, ◌+◌, ◌-◌, ◌^◌, ◌==◌, nat_lt, max, if◌then◌else◌, List, []}
 use Rattle.std.specs.Prelude.{◌∷◌, length, take, drop, sum, replicate, slice_set, slice_index}
 use Rattle.std.specs.Prelude.{slice_index_or, fold}
 use Rattle.std.specs.List.{remove}

@@ -1,11 +1,10 @@
 -- Copybacks that are counted: how many ends there are, and lists of blocks in any order.
-use Rattle.std.proofs.Common.{◌≡◌, ℕ, zero, suc, ◌+◌, ◌-◌, ◌<◌, ◌≤◌, Bool, true, false, cond, ltb}
-use Rattle.std.proofs.Common.{List, [], ◌∷◌, length, take, drop, get_or, set, sum, refl, sym, ◌∙◌, ap}
-use Rattle.std.proofs.Common.{arith, add-one, length-set, fold}
+use Rattle.std.proofs.Common.{◌≡◌, ℕ, zero, suc, ◌+◌, ◌<◌, ◌≤◌, Bool, true, false, cond, ltb}
+use Rattle.std.proofs.Common.{List, [], ◌∷◌, length, drop, get_or, set, sum, refl, sym, ◌∙◌, ap}
+use Rattle.std.proofs.Common.{arith, add-one, length-set}
 use Rattle.std.specs.List.{sum_by}
 use Rattle.std.proofs.Math.Seq.{drop-cons}
-use Rattle.std.proofs.lemmas.Bool.{ltb-true}
-use Rattle.std.proofs.lemmas.List.Sums.{sum_by-set, sum_by-cons}
+use Rattle.std.proofs.lemmas.List.Sums.{sum_by-cons}
 use Rattle.profile_core.specs.internal.profile.State.{one_more_at}
 use Rattle.full_profile.specs.declared.copies.Emptying.{Emptying}
 use Rattle.full_profile.specs.declared.copies.Emptying.TheVariants.{Flush, End}

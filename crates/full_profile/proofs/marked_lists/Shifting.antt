@@ -1,5 +1,5 @@
 -- Lists that are shifted by one index, with a number in front, until a block is found.
-use Rattle.std.proofs.Common.{◌≡◌, ℕ, ◌+◌, ◌-◌, ◌<◌, ◌≤◌, true, false, eqb, List, [], ◌∷◌, ◌++◌}
+use Rattle.std.proofs.Common.{◌≡◌, ℕ, ◌+◌, ◌<◌, ◌≤◌, true, false, eqb, List, [], ◌∷◌, ◌++◌}
 use Rattle.std.proofs.Common.{length, take, drop, get_or, set, refl, sym, ◌∙◌, ap, arith, add-one}
 use Rattle.std.proofs.Common.{below_more, append-nil}
 use Rattle.std.specs.List.{remove}

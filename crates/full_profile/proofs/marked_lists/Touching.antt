@@ -9,7 +9,7 @@ use Rattle.std.proofs.Math.Nat.{mul-le-mul_left, mul-le-mul_right}
 use Rattle.std.proofs.lemmas.Bool.{ltb-true, cases_eq, eqb-true, false≢true}
 use Rattle.std.proofs.lemmas.Bool.Decides.{nat_tests}
 use Rattle.std.proofs.lemmas.List.{set-get_or, length-replicate}
-use Rattle.cache_core.specs.internal.Touched.{TouchedValue, Covers, after_count, no_sets}
+use Rattle.cache_core.specs.internal.Touched.{TouchedValue, Covers, after_count}
 use Rattle.cache_core.proofs.Lists.{list_any_is}
 use Rattle.cache_core.proofs.TouchedSets.{covers_change, covers_none}
 use Rattle.trace_core.specs.declared.events.Access.{Access}
@@ -19,8 +19,7 @@ use Rattle.full_profile.specs.State.{clean_in_front}
 use Rattle.full_profile.specs.declared.marked_lists.MarkedTouch.{MarkedTouch}
 use Rattle.full_profile.specs.declared.marked_lists.MarkedTouch.TheVariants.{Behind, New, Full}
 use Rattle.full_profile.specs.internal.Marked.{Marked, AreAlike, AreTouched, blocks_in, cleans_in}
-use Rattle.full_profile.specs.internal.Marked.{touch_of, after_access, cleans_after, empty_marked}
-use Rattle.full_profile.specs.internal.Marked.{emptied}
+use Rattle.full_profile.specs.internal.Marked.{touch_of, after_access, cleans_after}
 use Rattle.full_profile.proofs.marked_lists.Shifting.{length-remove, remove_end, index-le}
 use Rattle.full_profile.proofs.marked_lists.Emptying.{lengths_set, length-lengths, length_at}
 

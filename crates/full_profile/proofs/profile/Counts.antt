@@ -1,13 +1,10 @@
 -- The sums of a profile's numbers.
-use Rattle.std.proofs.Common.{◌≡◌, ℕ, ◌+◌, ◌-◌, ◌<◌, ◌≤◌, ◌^◌, List, length, take, drop, sum, refl, sym}
-use Rattle.std.proofs.Common.{◌∙◌, ap, arith}
-use Rattle.std.specs.List.{sum_by}
-use Rattle.std.proofs.lemmas.List.Sums.{sum_by-take-le}
+use Rattle.std.proofs.Common.{◌≡◌, ℕ, ◌+◌, ◌-◌, ◌≤◌, ◌^◌, List, length, take, drop, sum}
+use Rattle.std.proofs.Common.{ap, arith}
 use Rattle.cache_core.specs.Geometry.{GeometryValue}
 use Rattle.trace_core.specs.declared.events.Access.{Access}
 use Rattle.trace_core.specs.declared.events.Access.TheVariants.{Fetch, Read, Write}
-use Rattle.profile_core.specs.internal.profile.State.{weighed, distances_of, compared_behind, fed_of}
-use Rattle.profile_core.specs.internal.profile.State.{counts_at, hit_sums_at}
+use Rattle.profile_core.specs.internal.profile.State.{weighed, distances_of, compared_behind}
 use Rattle.profile_core.proofs.HitSums.{sum-rest, sum-more, sum-split}
 use Rattle.profile_core.proofs.profile.Feeding.{sum-distances}
 use Rattle.profile_core.proofs.profile.Weighing.{weighed-more}

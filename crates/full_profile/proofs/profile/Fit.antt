@@ -1,10 +1,10 @@
 -- A full profile's invariant, after each step.
 use Rattle.std.proofs.Common.{◌≡◌, ℕ, zero, suc, ◌+◌, ◌-◌, ◌<◌, ◌≤◌, ◌^◌, Bool, true, false, cond, eqb}
-use Rattle.std.proofs.Common.{min, List, [], ◌∷◌, length, take, drop, get_or, set, sum, refl, sym, ◌∙◌}
-use Rattle.std.proofs.Common.{ap, subst, arith, inl, inr, length-set, length-take}
+use Rattle.std.proofs.Common.{List, [], ◌∷◌, length, take, get_or, set, sum, refl, sym, ◌∙◌}
+use Rattle.std.proofs.Common.{ap, subst, arith, inl, inr, length-set}
 use Rattle.std.proofs.Common.{get_or-set_same, get_or-set_other}
 use Rattle.std.specs.Prelude.{replicate}
-use Rattle.std.specs.List.{sum_by, remove}
+use Rattle.std.specs.List.{sum_by}
 use Rattle.std.proofs.lemmas.Bool.{cases_eq, eqb-true}
 use Rattle.std.proofs.lemmas.List.{length-replicate}
 use Rattle.std.proofs.lemmas.List.Sums.{sum_by-set, sum_by-cons}
@@ -13,26 +13,25 @@ use Rattle.trace_core.specs.declared.events.Access.{Access}
 use Rattle.trace_core.specs.declared.events.Access.TheVariants.{Fetch, Read, Write}
 use Rattle.cache_core.specs.Geometry.{GeometryValue, set_of_block}
 use Rattle.profile_core.specs.internal.set_lists.Moves.{index_of, is_in, is_front, move_to_front}
-use Rattle.profile_core.specs.internal.profile.State.{ProfileState, list_of, one_more_at, fed_of}
-use Rattle.profile_core.specs.internal.profile.State.{after_reference, after_flush, empty}
-use Rattle.profile_core.specs.internal.profile.Fronts.{IsFit, after_fronts}
-use Rattle.profile_core.proofs.Elements.{all_same}
+use Rattle.profile_core.specs.internal.profile.State.{list_of, one_more_at, fed_of}
+use Rattle.profile_core.specs.internal.profile.State.{after_reference}
+use Rattle.profile_core.specs.internal.profile.Fronts.{IsFit}
 use Rattle.profile_core.proofs.profile.Fronts.{reference_fed}
 use Rattle.full_profile.specs.State.{FullState, KindState, kind_number, cleans_of, kind_of}
 use Rattle.full_profile.specs.State.{with_miss, after_reference_in_lists, after_emptying}
 use Rattle.full_profile.specs.State.{clean_in_front, empty_kind, empty_full}
 use Rattle.full_profile.specs.declared.copies.Emptying.{Emptying}
-use Rattle.full_profile.specs.internal.Copies.{CopiesValue, with_copy, with_all_copies, copies_of}
-use Rattle.full_profile.specs.internal.Copies.{up_to_of, no_copies}
+use Rattle.full_profile.specs.internal.Copies.{CopiesValue, with_copy, copies_of}
+use Rattle.full_profile.specs.internal.Copies.{up_to_of}
 use Rattle.full_profile.specs.internal.Marked.{cleans_after}
 use Rattle.full_profile.specs.Batches.{after_settled}
 use Rattle.full_profile.specs.internal.Sound.{IsFullFit}
 use Rattle.profile_core.proofs.profile.Weighing.{sum-zeros}
 use Rattle.full_profile.proofs.copies.Adding.{IsMore, one_copy, none_more, all_more, sum_more}
-use Rattle.full_profile.proofs.copies.Order.{AreOrdered, copy_ordered, emptying_ordered, ends_few}
+use Rattle.full_profile.proofs.copies.Order.{AreOrdered, copy_ordered, emptying_ordered}
 use Rattle.full_profile.proofs.copies.Order.{none_ordered}
 use Rattle.full_profile.proofs.marked_lists.Touching.{same_size, size_found, size_new, inside_lt}
-use Rattle.full_profile.proofs.profile.Steps.{copies_after, kinds_after, reference_is, with_copies}
+use Rattle.full_profile.proofs.profile.Steps.{copies_after, kinds_after, reference_is}
 use Rattle.full_profile.proofs.profile.Steps.{emptying_is}
 
 pub ordered : {v : FullState} → IsFullFit v → AreOrdered v.plain.geometry.e (copies_of v)

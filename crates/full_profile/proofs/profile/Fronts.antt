@@ -1,7 +1,7 @@
 -- References that find their block in front.
-use Rattle.std.proofs.Common.{◌≡◌, ℕ, zero, suc, ◌+◌, ◌-◌, ◌<◌, ◌≤◌, Bool, true, false, not, ◌&&◌}
-use Rattle.std.proofs.Common.{◌||◌, cond, eqb, ltb, max, List, [], ◌∷◌, length, take, drop, get_or, set}
-use Rattle.std.proofs.Common.{refl, sym, ◌∙◌, ap, subst, arith, add-one}
+use Rattle.std.proofs.Common.{◌≡◌, ℕ, ◌+◌, ◌-◌, ◌<◌, ◌≤◌, Bool, true, false, not, ◌&&◌}
+use Rattle.std.proofs.Common.{◌||◌, cond, eqb, max, List, [], ◌∷◌, length, take, get_or, set}
+use Rattle.std.proofs.Common.{refl, sym, ◌∙◌, ap, subst, arith}
 use Rattle.std.specs.List.{remove}
 use Rattle.std.proofs.lemmas.Bool.{le-ltb, eqb-true, ne_eqb, and_parts}
 use Rattle.std.proofs.lemmas.List.{set-get_or, take_all}
@@ -9,16 +9,16 @@ use Rattle.trace_core.specs.declared.events.Access.{Access}
 use Rattle.trace_core.specs.declared.events.Ref.{Ref}
 use Rattle.trace_core.specs.Events.{is_write}
 use Rattle.cache_core.specs.Geometry.{GeometryValue, block_of, set_of_block}
-use Rattle.profile_core.specs.internal.set_lists.Moves.{index_of, is_in, is_front, move_to_front}
-use Rattle.profile_core.specs.internal.profile.State.{ProfileState, list_of, fed_of, after_reference}
+use Rattle.profile_core.specs.internal.set_lists.Moves.{index_of, is_in, is_front}
+use Rattle.profile_core.specs.internal.profile.State.{list_of, fed_of}
 use Rattle.profile_core.specs.internal.profile.State.{most_references, IsSound, one_more_at}
 use Rattle.profile_core.specs.internal.profile.Fronts.{IsFit, after_fronts}
 use Rattle.profile_core.proofs.profile.Feeding.{found_front}
-use Rattle.profile_core.proofs.profile.Fronts.{front_reference, counted_sound, reference_fed}
+use Rattle.profile_core.proofs.profile.Fronts.{front_reference, counted_sound}
 use Rattle.full_profile.specs.State.{FullState, KindState, cleans_of, clean_in_front, kind_number}
 use Rattle.full_profile.specs.State.{kind_of, with_miss}
 use Rattle.full_profile.specs.State.{after_reference_in_lists, after_full_reference}
-use Rattle.full_profile.specs.Batches.{is_settled, after_settled, after_unless_settled}
+use Rattle.full_profile.specs.Batches.{is_settled, after_settled}
 use Rattle.full_profile.specs.internal.Copies.{CopiesValue, with_copy, copies_of}
 use Rattle.full_profile.specs.internal.Marked.{Marked, blocks_in, cleans_in, cleans_after}
 use Rattle.full_profile.specs.internal.Marked.{after_write_in_front}

@@ -1,5 +1,5 @@
 -- Lists and numbers that stand for a profile, after each step of the code.
-use Rattle.std.proofs.Common.{◌≡◌, ℕ, zero, suc, ◌+◌, ◌-◌, ◌<◌, ◌≤◌, ◌^◌, Bool, true, false, cond, eqb}
+use Rattle.std.proofs.Common.{◌≡◌, ℕ, ◌+◌, ◌-◌, ◌<◌, ◌≤◌, ◌^◌, Bool, true, false, cond, eqb}
 use Rattle.std.proofs.Common.{List, [], ◌∷◌, length, get_or, set, sum, refl, sym, ◌∙◌, ap, subst, arith}
 use Rattle.std.specs.List.{sum_by}
 use Rattle.std.proofs.Math.Nat.{mul-le-mul_right}
@@ -10,20 +10,20 @@ use Rattle.profile_core.proofs.Elements.{all_same}
 use Rattle.trace_core.specs.declared.events.Access.{Access}
 use Rattle.cache_core.specs.Geometry.{GeometryValue, IsGeometry, set_of_block}
 use Rattle.profile_core.specs.internal.set_lists.Moves.{index_of, is_in, is_front}
-use Rattle.profile_core.specs.internal.profile.State.{ProfileState, IsSound, IsNext, list_of, fed_of}
+use Rattle.profile_core.specs.internal.profile.State.{IsSound, IsNext, fed_of}
 use Rattle.profile_core.specs.internal.profile.State.{one_more_at, after_reference, compared_behind}
-use Rattle.profile_core.specs.internal.profile.State.{most_references, distances_of}
-use Rattle.profile_core.specs.internal.profile.Fronts.{IsFit, after_fronts}
+use Rattle.profile_core.specs.internal.profile.State.{most_references}
+use Rattle.profile_core.specs.internal.profile.Fronts.{IsFit}
 use Rattle.profile_core.proofs.profile.Feeding.{FoundAt, FoundNowhere, new_is, new_sound}
 use Rattle.profile_core.proofs.profile.Fed.{IsMoved, found_after, found_sound, nowhere_after}
-use Rattle.profile_core.proofs.profile.Fed.{nowhere_sound, distance_fits, len_fits}
+use Rattle.profile_core.proofs.profile.Fed.{nowhere_sound}
 use Rattle.profile_core.proofs.profile.Fronts.{fit_inside, counted_sound}
-use Rattle.full_profile.specs.State.{FullState, KindState, kind_number, cleans_of, kind_of}
+use Rattle.full_profile.specs.State.{FullState, KindState, kind_number, kind_of}
 use Rattle.full_profile.specs.State.{after_reference_in_lists, with_miss, empty_kind}
 use Rattle.full_profile.specs.State.{after_emptying, empty_full}
 use Rattle.full_profile.specs.Batches.{after_settled}
 use Rattle.full_profile.specs.declared.marked_lists.MarkedTouch.TheVariants.{Behind, New, Full}
-use Rattle.full_profile.specs.internal.Copies.{CopiesValue, CanTake, with_copy, copies_of}
+use Rattle.full_profile.specs.internal.Copies.{CopiesValue, CanTake, with_copy}
 use Rattle.full_profile.specs.internal.Copies.{with_all_copies, up_to_of, no_copies}
 use Rattle.full_profile.specs.declared.copies.Emptying.{Emptying}
 use Rattle.full_profile.specs.internal.Marked.{Marked, blocks_in, cleans_in, touch_of, after_access}

@@ -1,14 +1,14 @@
 -- The state after a reference, part by part.
-use Rattle.std.proofs.Common.{◌≡◌, ℕ, ◌+◌, ◌-◌, ◌<◌, ◌≤◌, Bool, true, false, cond, eqb, ltb, List, []}
-use Rattle.std.proofs.Common.{◌∷◌, ◌^◌, length, take, get_or, set, fold, refl, sym, ◌∙◌, ap, arith}
+use Rattle.std.proofs.Common.{◌≡◌, ℕ, ◌+◌, ◌-◌, Bool, true, false, cond, eqb, ltb, List, []}
+use Rattle.std.proofs.Common.{◌∷◌, ◌^◌, length, get_or, set, fold, refl, ◌∙◌, ap}
 use Rattle.std.specs.Prelude.{replicate}
 use Rattle.trace_core.specs.declared.events.Access.{Access}
-use Rattle.cache_core.specs.Geometry.{GeometryValue, set_of_block}
-use Rattle.profile_core.specs.internal.set_lists.Moves.{index_of, is_in, is_front, move_to_front}
-use Rattle.profile_core.specs.internal.profile.State.{ProfileState, list_of, one_more_at}
+use Rattle.cache_core.specs.Geometry.{set_of_block}
+use Rattle.profile_core.specs.internal.set_lists.Moves.{index_of, is_in, is_front}
+use Rattle.profile_core.specs.internal.profile.State.{ProfileState, one_more_at}
 use Rattle.profile_core.specs.internal.profile.State.{after_reference, after_flush}
-use Rattle.full_profile.specs.State.{FullState, KindState, kind_number, cleans_of, kind_of}
-use Rattle.full_profile.specs.State.{after_copies, after_evictions, with_miss, after_copies_of}
+use Rattle.full_profile.specs.State.{FullState, KindState, kind_number, kind_of}
+use Rattle.full_profile.specs.State.{after_copies, with_miss, after_copies_of}
 use Rattle.full_profile.specs.State.{after_reference_in_lists, after_emptying}
 use Rattle.full_profile.specs.internal.Copies.{CopiesValue, with_copy, with_copies_of}
 use Rattle.full_profile.specs.internal.Copies.{with_all_copies, copies_of}

@@ -1,5 +1,5 @@
 -- Parts of sums that are few.
-use Rattle.std.proofs.Common.{◌-◌, ◌∙◌, ap, sum, take, drop, arith}
+use Rattle.std.proofs.Common.{◌-◌, ap, sum, drop, arith}
 use Rattle.std.proofs.lemmas.List.Sums.{sum_by-take-le, sum_by-take-drop}
 use Rattle.full_profile.proofs.copies.Copies.ends_between.Goals as goal
 

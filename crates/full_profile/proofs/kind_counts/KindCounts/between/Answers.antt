@@ -1,5 +1,5 @@
 -- A part of a sum that is small.
-use Rattle.std.proofs.Common.{◌-◌, ◌∙◌, ap, sum, take, drop, arith}
+use Rattle.std.proofs.Common.{◌-◌, ap, sum, drop, arith}
 use Rattle.std.proofs.lemmas.List.Sums.{sum_by-take-le, sum_by-take-drop}
 use Rattle.full_profile.proofs.kind_counts.KindCounts.between.Goals as goal
 

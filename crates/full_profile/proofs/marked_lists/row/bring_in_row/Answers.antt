@@ -1,10 +1,9 @@
 -- A row whose list gets a block in front: the pass over it, and what is written after that.
-use Rattle.std.proofs.Common.{◌≡◌, ◌∙◌, ◌∷◌, ℕ, cond, length, take, drop, sym, ap, arith}
+use Rattle.std.proofs.Common.{◌≡◌, ◌∙◌, ◌∷◌, cond, length, take, drop, sym, ap, arith}
 use Rattle.std.proofs.Common.{◌++◌, length-append, length-drop}
 use Rattle.std.specs.List.{remove}
 use Rattle.std.proofs.lemmas.List.{length-take-le}
 use Rattle.trace_core.specs.Events.{is_write}
-use Rattle.full_profile.specs.State.{clean_in_front}
 use Rattle.profile_core.specs.internal.set_lists.Moves.{index_of}
 use Rattle.full_profile.proofs.marked_lists.RowBringing.{row_kept, row_full, row_first, row_grown}
 use Rattle.full_profile.proofs.marked_lists.RowBringing.{here, nowhere, clean_written, clean_read}

@@ -1,5 +1,5 @@
 -- The lists of the sets that were passed are empty.
-use Rattle.std.proofs.Common.{◌≡◌, ℕ, ◌<◌, [], length}
+use Rattle.std.proofs.Common.{◌≡◌, ℕ, ◌<◌, []}
 use Rattle.full_profile.specs.internal.Marked.{blocks_in}
 use Rattle.full_profile.proofs.marked_lists.Emptying.{IsLeft}
 use Rattle.full_profile.proofs.marked_lists.rows.empty_all.Given as goal

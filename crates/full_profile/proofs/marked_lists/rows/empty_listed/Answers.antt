@@ -1,5 +1,5 @@
 -- Each listed set's list is emptied; the others are empty.
-use Rattle.std.proofs.Common.{◌≡◌, ◌∙◌, ◌<◌, ◌+◌, ℕ, [], ◌∷◌, get_or, length, map, drop, ap, sym}
+use Rattle.std.proofs.Common.{◌≡◌, ◌∙◌, ◌<◌, ◌+◌, ℕ, [], get_or, length, map, drop, ap, sym}
 use Rattle.std.proofs.Common.{subst, arith}
 use Rattle.std.proofs.lemmas.List.{drop_all}
 use Rattle.cache_core.specs.internal.Touched.{ListsFilled}

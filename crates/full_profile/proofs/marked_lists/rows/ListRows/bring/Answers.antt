@@ -1,5 +1,5 @@
 -- A set's row whose list gets a block in front, among the other rows.
-use Rattle.std.proofs.Common.{◌≡◌, ℕ, ◌+◌, ◌-◌, ◌*◌, ◌<◌, ◌≤◌, ◌∙◌, List, length, take, drop, get_or}
+use Rattle.std.proofs.Common.{◌≡◌, ℕ, ◌+◌, ◌-◌, ◌*◌, ◌≤◌, ◌∙◌, List, length, take, drop, get_or}
 use Rattle.std.proofs.Common.{ap, arith, sym}
 use Rattle.std.specs.Vec.{with_items}
 use Rattle.std.proofs.lemmas.List.{get_or_read}

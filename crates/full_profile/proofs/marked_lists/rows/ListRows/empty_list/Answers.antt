@@ -1,5 +1,5 @@
 -- A set's list, as its row begins with it.
-use Rattle.std.proofs.Common.{◌≡◌, ℕ, ◌+◌, ◌-◌, ◌*◌, ◌<◌, ◌≤◌, ◌∙◌, length, take, drop, get_or, ap}
+use Rattle.std.proofs.Common.{◌≡◌, ◌+◌, ◌-◌, ◌*◌, ◌∙◌, length, take, drop, get_or, ap}
 use Rattle.std.proofs.Common.{arith, sym}
 use Rattle.std.proofs.lemmas.List.{get_or_read, take-take}
 use Rattle.full_profile.specs.internal.Marked.{cleans_in}

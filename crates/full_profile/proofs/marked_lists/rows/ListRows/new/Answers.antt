@@ -1,5 +1,5 @@
 -- All lists are empty, since all lengths are 0.
-use Rattle.std.proofs.Common.{◌≡◌, ◌∙◌, ap, List, [], ℕ}
+use Rattle.std.proofs.Common.{◌∙◌, ap, List, [], ℕ}
 use Rattle.std.specs.Prelude.{replicate}
 use Rattle.full_profile.specs.internal.Rows.{all_listed}
 use Rattle.full_profile.proofs.marked_lists.ListsInRows.{none_listed}

@@ -1,5 +1,5 @@
 -- A set that gets its first block is listed.
-use Rattle.std.proofs.Common.{◌≡◌, ◌<◌, length, ap, arith}
+use Rattle.std.proofs.Common.{◌<◌, length, ap, arith}
 use Rattle.full_profile.proofs.marked_lists.Touching.{held_small, one_grown, none_grown}
 use Rattle.full_profile.proofs.marked_lists.rows.MarkedRowsMarkedLists.bring.Goals as goal
 use Rattle.full_profile.proofs.marked_lists.rows.MarkedRowsMarkedLists.bring.Goals.{After-bring-touch}

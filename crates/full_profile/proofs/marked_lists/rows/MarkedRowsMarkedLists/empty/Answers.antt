@@ -1,6 +1,5 @@
 -- No set has a block.
 use Rattle.std.proofs.Common.{◌≡◌, ◌∙◌, length, ap}
-use Rattle.cache_core.specs.internal.Touched.{no_sets}
 use Rattle.full_profile.specs.internal.Marked.{emptied}
 use Rattle.full_profile.proofs.marked_lists.Touching.{none_touched}
 use Rattle.full_profile.proofs.marked_lists.rows.MarkedRowsMarkedLists.empty.Goals as goal

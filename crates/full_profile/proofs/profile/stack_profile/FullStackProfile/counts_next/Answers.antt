@@ -1,6 +1,6 @@
 -- The counts by the sums.
-use Rattle.std.proofs.Common.{◌≡◌, ◌∙◌, ◌≤◌, ap, arith}
-use Rattle.full_profile.specs.Sums.{FullSumsState, full_sums_at}
+use Rattle.std.proofs.Common.{◌∙◌, ap, arith}
+use Rattle.full_profile.specs.Sums.{FullSumsState}
 use Rattle.full_profile.proofs.profile.Counts.{counts_are}
 use Rattle.full_profile.proofs.profile.stack_profile.FullStackProfile.counts_next.Goals as goal
 

@@ -1,6 +1,6 @@
 -- A settled reference is counted at once.
 use Rattle.std.proofs.Common.{◌∙◌, ap, sym, cond}
-use Rattle.full_profile.specs.State.{FullState, after_full_reference}
+use Rattle.full_profile.specs.State.{after_full_reference}
 use Rattle.full_profile.specs.Batches.{after_settled}
 use Rattle.full_profile.proofs.profile.stack_profile.FullStackProfile.feed.Goals as goal
 

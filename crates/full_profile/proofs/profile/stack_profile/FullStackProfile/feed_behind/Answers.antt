@@ -1,7 +1,7 @@
 -- A reference that is not found in front, and what it leaves.
-use Rattle.std.proofs.Common.{◌≡◌, ◌∙◌, ◌+◌, ◌<◌, ◌≤◌, ◌^◌, List, get_or, set, sum, length, ap, refl, sym}
-use Rattle.std.proofs.Common.{arith, rules}
-use Rattle.profile_core.specs.internal.profile.State.{list_of, most_references}
+use Rattle.std.proofs.Common.{◌≡◌, ◌∙◌, get_or, set, ap, refl}
+use Rattle.std.proofs.Common.{arith}
+use Rattle.profile_core.specs.internal.profile.State.{list_of}
 use Rattle.profile_core.proofs.profile.Fed.{distance_few, len_few}
 use Rattle.full_profile.specs.State.{after_reference_in_lists, cleans_of}
 use Rattle.full_profile.proofs.profile.Sounds.{probes_few, next_inside, found_within, found_at, is_moved}

@@ -1,5 +1,5 @@
 -- A reference of a batch: in front, or behind it.
-use Rattle.std.proofs.Common.{◌≡◌, ◌∙◌, ◌+◌, ◌<◌, ◌≤◌, true, false, cond, get_or, ap, sym, subst, arith}
+use Rattle.std.proofs.Common.{◌≡◌, ◌∙◌, true, false, cond, get_or, ap, sym, subst, arith}
 use Rattle.trace_core.specs.Events.{is_write}
 use Rattle.cache_core.specs.Geometry.{set_of_block, set_of, block_of}
 use Rattle.profile_core.specs.internal.set_lists.Moves.{is_front}

@@ -1,9 +1,8 @@
 -- Sums that are raised: the numbers between two associativities are added, or taken from the misses.
-use Rattle.std.proofs.Common.{◌≡◌, ◌∙◌, ◌+◌, ◌-◌, ◌≤◌, ◌^◌, sum, take, drop, ap, sym, arith}
-use Rattle.profile_core.proofs.HitSums.{part-le, sum-split}
+use Rattle.std.proofs.Common.{◌≡◌, ◌∙◌, ◌-◌, ◌≤◌, ◌^◌, sum, take, drop, ap, sym, arith}
+use Rattle.profile_core.proofs.HitSums.{part-le}
 use Rattle.profile_core.specs.internal.profile.State.{fed_of}
-use Rattle.trace_core.specs.declared.events.Access.TheVariants.{Fetch, Read, Write}
-use Rattle.full_profile.specs.State.{FullState, KindState, kind_of}
+use Rattle.full_profile.specs.State.{FullState, KindState}
 use Rattle.full_profile.specs.Sums.{FullSumsState, full_sums_at}
 use Rattle.full_profile.proofs.profile.Sounds.{above_few, up_to_few}
 use Rattle.full_profile.proofs.profile.Counts.{missed_few, more_le, raised}
