@@ -2,7 +2,12 @@
 //! a depth, in one pass: hits, misses by kind of access, evictions, and copybacks.
 #![tactic(auto)]
 
+mod copies;
 pub mod counts;
+mod kind_counts;
 pub mod laws;
+mod marked_lists;
+pub mod profile;
 
 pub use counts::FullCounts;
+pub use profile::{FullProfile, FullSums};

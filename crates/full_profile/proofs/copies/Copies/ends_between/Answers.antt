@@ -1,0 +1,28 @@
+-- Parts of sums that are few.
+use Rattle.std.proofs.Common.{◌-◌, ap, sum, drop, arith}
+use Rattle.std.proofs.lemmas.List.Sums.{sum_by-take-le, sum_by-take-drop}
+use Rattle.full_profile.proofs.copies.Copies.ends_between.Goals as goal
+
+pub total-requires : goal.total-requires
+total-requires c =
+    let xs = c.deref.result.now in
+    omega (
+      arith,
+      sum_by-take-le (λ n. n) (drop c.args.from xs) (c.args.to - c.args.from),
+      sum_by-take-drop (λ n. n) xs c.args.from,
+      ap sum c.deref.ensures.value,
+      ap (λ v. sum v.above) c.self.view_is,
+      c.requires.above_few,
+    )
+
+pub total-requires-2 : goal.total-requires-2
+total-requires-2 c =
+    let xs = c.deref-2.result.now in
+    omega (
+      arith,
+      sum_by-take-le (λ n. n) (drop c.args.from xs) (c.args.to - c.args.from),
+      sum_by-take-drop (λ n. n) xs c.args.from,
+      ap sum c.deref-2.ensures.value,
+      ap (λ v. sum v.up_to) c.self.view_is,
+      c.requires.few,
+    )

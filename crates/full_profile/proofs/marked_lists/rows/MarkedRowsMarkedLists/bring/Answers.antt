@@ -1,0 +1,49 @@
+-- A set that gets its first block is listed.
+use Rattle.std.proofs.Common.{◌<◌, length, ap, arith}
+use Rattle.full_profile.proofs.marked_lists.Touching.{held_small, one_grown, none_grown}
+use Rattle.full_profile.proofs.marked_lists.rows.MarkedRowsMarkedLists.bring.Goals as goal
+use Rattle.full_profile.proofs.marked_lists.rows.MarkedRowsMarkedLists.bring.Goals.{After-bring-touch}
+
+is_set : (c : After-bring-touch) → c.args.set < length c.self.inside.rows.blocks
+is_set c = omega (arith, c.requires, ap (λ m. length m.blocks) c.self.view_is)
+
+pub overflow_cast-held : goal.overflow_cast-held
+overflow_cast-held c =
+    let at = (goal.at.overflow_cast-held c).After-bring-touch in
+    omega (
+      arith,
+      held_small c.self.invariant c.args.set (is_set at) c.args.block c.args.access
+          c.in-New.ensures.found,
+    )
+
+pub overflow_cast-held-in-New : goal.overflow_cast-held-in-New
+overflow_cast-held-in-New c =
+    let at = (goal.at.overflow_cast-held-in-New c).After-bring-touch in
+    omega (
+      arith,
+      held_small c.self.invariant c.args.set (is_set at) c.args.block c.args.access
+          c.in-New.ensures.found,
+    )
+
+pub overflow_add-held : goal.overflow_add-held
+overflow_add-held c =
+    let at = (goal.at.overflow_add-held c).After-bring-touch in
+    omega (
+      arith,
+      held_small c.self.invariant c.args.set (is_set at) c.args.block c.args.access
+          c.in-New.ensures.found,
+    )
+
+pub invariant_of-self : goal.invariant_of-self
+invariant_of-self c =
+    let at = (goal.at.invariant_of-self c).After-bring-touch in
+    one_grown c.self.invariant c.args.set (is_set at) c.args.block c.args.access
+    c.in-New.ensures.found c.bring-touch.new.self c.add_grown.new.self c.bring-touch.ensures.moved
+    c.add_grown.ensures
+
+pub invariant_of-self-in_default : goal.invariant_of-self-in_default
+invariant_of-self-in_default c =
+    let at = (goal.at.invariant_of-self-in_default c).After-bring-touch in
+    none_grown c.self.invariant c.args.set (is_set at) c.args.block c.args.access
+    c.bring-touch.new.self c.bring-touch.result c.bring-touch.ensures.moved
+    c.bring-touch.ensures.found c.in_default.not-New

@@ -1,0 +1,27 @@
+-- Each reference is fed, or left out if it is settled.
+use Rattle.std.proofs.Common.{◌<◌, ◌∙◌, sym, length, arith}
+use Rattle.full_profile.proofs.profile.Batches.{fed_settled, fed_unsettled}
+use Rattle.full_profile.proofs.profile.stack_profile.FullStackProfile.feed_each.Goals as goal
+use Rattle.full_profile.proofs.profile.stack_profile.FullStackProfile.feed_each.Goals.{
+  then-not-feed_unless_settled,
+  else-not-feed_unless_settled,
+}
+
+pub loop-at-preserved : goal.loop-at-preserved
+loop-at-preserved g c =
+    let so_far = c.loop-at.invariant in
+    let fed = c.feed_unless_settled.ensures in
+    let inside : c.loop-at.at < length c.args.refs.now = omega (
+      arith,
+      c.loop-at-test.true,
+      c.loop-at.auto.at-end,
+      so_far.same_length,
+    ) in
+    elim c.if-not-feed_unless_settled.branch [
+      | then-not-feed_unless_settled w ↦
+          rw (w.refs-is, w.fed-is) (fed_unsettled so_far inside _ _ fed.step fed.more
+          (sym fed.settled ∙ w.if-not-feed_unless_settled.true))
+      | else-not-feed_unless_settled w ↦
+          rw (w.refs-is, w.fed-is) (fed_settled so_far inside _ _ fed.step fed.more
+          (sym fed.settled ∙ w.if-not-feed_unless_settled.false))
+    ]
