@@ -1,6 +1,8 @@
 """From a program to its misses in one command, and the caches of the machine."""
 
+import contextlib
 import csv
+import io
 import os
 import shutil
 import signal
@@ -188,8 +190,9 @@ class Machine(base.ToolTest):
         found = self.found([("Unified", 1, 32, 256, 4)])
         self.assertEqual([(*one,) for one in found], [("l1-u", 1, 32, 256, 4)])
         from lib import machine
-        with self.assertRaises(SystemExit):
+        with self.assertRaises(SystemExit), contextlib.redirect_stderr(io.StringIO()) as told:
             machine.caches(str(self.folder / "none"))
+        self.assertIn("tells of no cache: give some, such as -l1-dsize 32k", told.getvalue())
 
 
 @base.needs("gcc", "qemu-user", "binutils", "llvm")

@@ -72,14 +72,13 @@ class Counter(processes.Process):
 
 
 def over(trace, options, take):
-    """Has `take` called with the group of its processes and the log's descriptor. A fault ends the
-    tool."""
+    """Has `take` called with the log's descriptor. A fault ends the tool."""
     streams.keep_places()
     program = tool.find_cachesim()
     with processes.Group() as group:
         source, unpacker = group.start_source(trace)
         logging = group.start(Logging, program, options, source, ends=(source,))
-        take(group, logging.pipe)
+        take(logging.pipe)
         logging.wait()
         if unpacker:
             unpacker.wait()
@@ -100,10 +99,11 @@ def counts(binary, trace, options, *asked):
     """What the log of a trace has, as out/log-counts counts it: rows of words."""
     counters = []
 
-    def take(group, log):
-        words = ["log-counts", *map(str, asked)]
-        counters.append(group.start(Counter, words, log, path=binary, ends=(log,)))
-        counters[0].wait()
+    def take(source):
+        with processes.Group() as group:
+            words = ["log-counts", *map(str, asked)]
+            counters.append(group.start(Counter, words, source, path=binary))
+            counters[0].wait()
 
     over(trace, options, take)
     *rows, end = counters[0].text.decode("ascii").splitlines() or [""]
