@@ -90,6 +90,7 @@ class Filtering(reading_base.Reading):
 
     def test_format(self):
         expected = self.good(self.run_on("-", *self.CACHE, "-informat", "l", stdin=TRANSPOSE))
+        self.assertGreater(expected.count("\n"), 1)
         for words in (["--informat=l"], ["--informat", "l"], ["--format", "l"], ["--format=l"]):
             got = self.good(self.run_on("-", *words, *self.CACHE, stdin=TRANSPOSE))
             self.assertEqual(got, expected)

@@ -99,7 +99,9 @@ class Warm(reading_base.Reading, base.ToolTest):
         self.assertEqual(self.table(700, *SPACE[:-1], "1"), table.HEADER + "\n")
 
     def test_a_number_that_begins_with_0(self):
-        self.assertEqual(self.table("0700", *SPACE), self.table(700, *SPACE))
+        table = self.table(700, *SPACE)
+        self.assertEqual(self.table("0700", *SPACE), table)
+        self.assertGreater(table.count("\n"), 1)
 
     def test_faults(self):
         for stdin, arguments, status, fault in (
