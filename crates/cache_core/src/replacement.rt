@@ -73,6 +73,7 @@ impl Replacement for Lru {
         0
     }
 
+    #[inline(always)]
     fn place(&mut self, set: &mut [Slot], filled: usize, new: Slot) -> (usize, Option<Slot>) {
         let oldest = put_in_front(set, filled, new);
         (0, oldest)
@@ -80,6 +81,7 @@ impl Replacement for Lru {
 }
 
 /// Puts a slot in front, and takes out the last one of a full set.
+#[inline(always)]
 fn put_in_front(set: &mut [Slot], filled: usize, new: Slot) -> Option<Slot>
     requires filled { filled ≤ length set.old }
     requires some { 1 ≤ length set.old }
@@ -125,6 +127,7 @@ impl Replacement for Fifo {
         at
     }
 
+    #[inline(always)]
     fn place(&mut self, set: &mut [Slot], filled: usize, new: Slot) -> (usize, Option<Slot>) {
         let first = put_in_front(set, filled, new);
         (0, first)
@@ -182,6 +185,7 @@ impl Replacement for Random {
         at
     }
 
+    #[inline(always)]
     fn place(&mut self, set: &mut [Slot], filled: usize, new: Slot) -> (usize, Option<Slot>) {
         if filled < set.len() {
             set[filled] = new;

@@ -31,6 +31,7 @@ impl Replacement for ChosenPolicy {
         }
     }
 
+    #[inline(always)]
     fn place(&mut self, set: &mut [Slot], filled: usize, new: Slot) -> (usize, Option<Slot>) {
         match self {
             ChosenPolicy::Lru(policy) => policy.place(set, filled, new),

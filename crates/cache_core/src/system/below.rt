@@ -45,7 +45,6 @@ impl Memory {
 }
 
 /// A reference arrives at the second level, or at memory.
-#[inline(never)]
 fn descend<O: Observer>(
     second: &mut Option<SystemCache>,
     memory: &mut Memory,
