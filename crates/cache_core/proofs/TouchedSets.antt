@@ -8,8 +8,7 @@ use Rattle.std.specs.List.{list_any}
 use Rattle.std.proofs.lemmas.Bool.{cases_eq, ne_eqb}
 use Rattle.std.proofs.lemmas.List.Elements.{All-nil, All-cons, All-tail, All-append}
 use Rattle.std.proofs.lemmas.List.Folds.{list_any-append}
-use Rattle.cache_core.specs.internal.Touched.{TouchedValue, Covers, ListsFilled, after_count}
-use Rattle.cache_core.specs.internal.Touched.{with_set}
+use Rattle.cache_core.specs.Touched.{TouchedValue, Covers, ListsFilled, after_count, with_set}
 use Rattle.cache_core.proofs.Lists.{cases}
 
 all_zero : (counts : List ℕ) → ((k : ℕ) → get_or counts k 0 ≡ 0) →

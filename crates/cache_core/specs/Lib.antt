@@ -4,6 +4,7 @@ pub mod Geometry
 pub mod Windows
 pub mod LruLaws
 pub mod Simulation
+pub mod Touched
 pub mod cache
 pub mod replacement
 pub mod system

@@ -1,3 +1,4 @@
 pub mod RandomNumbers
 pub mod Rules
 pub mod AnyPolicy
+pub mod Chosen

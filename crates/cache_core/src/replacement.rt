@@ -73,6 +73,7 @@ impl Replacement for Lru {
         0
     }
 
+    #[inline(always)]
     fn place(&mut self, set: &mut [Slot], filled: usize, new: Slot) -> (usize, Option<Slot>) {
         let oldest = put_in_front(set, filled, new);
         (0, oldest)
@@ -80,6 +81,7 @@ impl Replacement for Lru {
 }
 
 /// Puts a slot in front, and takes out the last one of a full set.
+#[inline(always)]
 fn put_in_front(set: &mut [Slot], filled: usize, new: Slot) -> Option<Slot>
     requires filled { filled ≤ length set.old }
     requires some { 1 ≤ length set.old }
@@ -89,18 +91,18 @@ fn put_in_front(set: &mut [Slot], filled: usize, new: Slot) -> Option<Slot>
 {
     let last = filled.min(set.len() - 1);
     let gone = (filled == set.len()).then_some(set[last]);
-    bring(set, last, new);
+    put_first(set, last, new);
     gone
 }
 
-/// Puts a slot in front of a row, and takes out the one at an index.
+/// Puts a slot first, and takes out the one at an index.
 #[inline(always)]
-fn bring(row: &mut [Slot], at: usize, slot: Slot)
-    requires { at < length row.old }
-    ensures { row.new ≡ slot ∷ remove row.old at }
+fn put_first(slots: &mut [Slot], at: usize, slot: Slot)
+    requires { at < length slots.old }
+    ensures { slots.new ≡ slot ∷ remove slots.old at }
 {
-    row[at] = slot;
-    row[..=at].rotate_right(1);
+    slots[at] = slot;
+    slots[..=at].rotate_right(1);
 }
 
 /// First in, first out: the slot that was placed last is in front.
@@ -125,6 +127,7 @@ impl Replacement for Fifo {
         at
     }
 
+    #[inline(always)]
     fn place(&mut self, set: &mut [Slot], filled: usize, new: Slot) -> (usize, Option<Slot>) {
         let first = put_in_front(set, filled, new);
         (0, first)
@@ -182,6 +185,7 @@ impl Replacement for Random {
         at
     }
 
+    #[inline(always)]
     fn place(&mut self, set: &mut [Slot], filled: usize, new: Slot) -> (usize, Option<Slot>) {
         if filled < set.len() {
             set[filled] = new;

@@ -32,9 +32,8 @@ impl Simulation {
     ghost use Rattle.std.specs.Prelude.{◌≡◌, ◌^◌, List, [], ◌∷◌, ◌++◌, IfOk};
     ghost use Rattle.cache_core.specs.Geometry.{GeometryValue};
     ghost use Rattle.cache_core.specs.LruLaws.{occurrence_after};
-    ghost use Rattle.cache_core.specs.Simulation.{lookup_at};
-    ghost use Rattle.cache_core.specs.internal.Simulation.{counts_with, SimulationCountsWithin};
-    ghost use Rattle.cache_core.specs.internal.Simulation.{SimulationStandsFor};
+    ghost use Rattle.cache_core.specs.Simulation.{lookup_at, counts_with, SimulationCountsWithin};
+    ghost use Rattle.cache_core.specs.Simulation.{SimulationStandsFor};
     ghost use Rattle.cache_core.specs.Windows.{counts};
     ghost use Rattle.trace_core.specs.declared.events.Event.{Event};
     ghost use Rattle.trace_core.specs.declared.events.Event.TheVariants as event;

@@ -9,12 +9,12 @@ ghost use Rattle.std.specs.Prelude.{◌≡◌, ◌≤◌, ◌<◌, ◌+◌, ◌^
 ghost use Rattle.std.specs.Prelude.{Option, ◌++◌, Some, None, true, MatchBool};
 ghost use Rattle.cache_core.specs.internal.system.SystemSteps.{AccessesFirst, AccessesFirstLevel};
 ghost use Rattle.cache_core.specs.internal.system.SystemSteps.{EmptiesCache, accesses_of};
-ghost use Rattle.cache_core.specs.internal.system.SystemSteps.{stats_held, IsNewCache};
-ghost use Rattle.cache_core.specs.internal.system.SystemSteps.{nothing_down, first_name};
-ghost use Rattle.cache_core.specs.internal.system.SystemSteps.{first_hits_in_front};
+ghost use Rattle.cache_core.specs.internal.system.SystemSteps.{IsNewCache, nothing_down};
+ghost use Rattle.cache_core.specs.internal.system.SystemSteps.{first_name, first_hits_in_front};
 ghost use Rattle.cache_core.specs.internal.system.SystemSteps.{level_hits_in_front};
+ghost use Rattle.cache_core.specs.system.SystemSteps.{stats_held};
 ghost use Rattle.cache_core.specs.declared.system.arrival.Arrival.TheVariants.{Cache};
-ghost use Rattle.cache_core.specs.internal.system.SystemStands.{PlannedCacheStandsFor};
+ghost use Rattle.cache_core.specs.system.SystemStands.{PlannedCacheStandsFor};
 ghost use Rattle.cache_core.specs.system.Arrivals.{Saw, cache_arrivals, first_arrivals, flushes};
 ghost use Rattle.cache_core.specs.system.Plans.{PlannedCaches, IsPlan, IsPlannedCache};
 ghost use Rattle.cache_core.specs.system.Systems.{events_for};
@@ -48,7 +48,7 @@ pub struct System {
 }
 
 impl Model for System {
-    ghost use Rattle.cache_core.specs.internal.system.SystemSteps.{SystemValue};
+    ghost use Rattle.cache_core.specs.system.SystemSteps.{SystemValue};
 
     ghost Value = { SystemValue };
 
@@ -61,12 +61,11 @@ impl Model for System {
 }
 
 impl System {
-    ghost use Rattle.cache_core.specs.system.SystemSteps.{HasWritten};
-    ghost use Rattle.cache_core.specs.internal.system.SystemSteps.{stats_of};
+    ghost use Rattle.cache_core.specs.system.SystemSteps.{HasWritten, stats_of};
     ghost use Rattle.trace_core.specs.declared.events.Event.TheVariants as event;
     ghost use Rattle.cache_core.specs.system.Systems.{system_run};
     ghost use Rattle.cache_core.specs.system.Arrivals.{arrivals_of};
-    ghost use Rattle.cache_core.specs.internal.system.SystemStands.{SystemStandsFor};
+    ghost use Rattle.cache_core.specs.system.SystemStands.{SystemStandsFor};
 
     /// A system of the caches of a plan, all empty; each with random replacement has a generator of
     /// its own, of this seed. Takes the memory of all its caches; it fails only if there is too

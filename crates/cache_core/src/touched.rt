@@ -2,8 +2,7 @@
 //! only these.
 ghost use Rattle.std.specs.Prelude.{◌≡◌, ◌<◌, ◌/◌, ◌^◌, [], length, Some, IfOk, option_map};
 ghost use Rattle.std.specs.Prelude.{replicate};
-ghost use Rattle.cache_core.specs.internal.Touched.{after_count, with_set, no_sets, Covers};
-ghost use Rattle.cache_core.specs.internal.Touched.{ListsFilled};
+ghost use Rattle.cache_core.specs.Touched.{after_count, with_set, no_sets, Covers, ListsFilled};
 
 use std::alloc::{AllocError, Global};
 use std::marker::Model;
@@ -24,7 +23,7 @@ pub struct TouchedSets {
 
 impl Model for TouchedSets {
     ghost use Rattle.std.specs.Prelude.{◌≤◌, IfSome, length, option_map, take};
-    ghost use Rattle.cache_core.specs.internal.Touched.{TouchedValue};
+    ghost use Rattle.cache_core.specs.Touched.{TouchedValue};
 
     ghost Value = { TouchedValue };
 

@@ -7,11 +7,10 @@ ghost use Rattle.std.specs.Prelude.{ℕ, ◌≡◌, ◌≤◌, ◌*◌, ◌↔�
 ghost use Rattle.trace_core.specs.declared.events.Ref.{Ref};
 ghost use Rattle.trace_core.specs.declared.events.Event.{Event};
 ghost use Rattle.trace_core.specs.declared.events.Event.TheVariants as event;
-ghost use Rattle.cache_core.specs.Geometry.{GeometryValue, IsGeometry, is_geometry};
-ghost use Rattle.cache_core.specs.Geometry.{geometry_value};
+ghost use Rattle.cache_core.specs.Geometry.{GeometryValue, IsGeometry, is_geometry, geometry_value};
 ghost use Rattle.cache_core.specs.Windows.{window, window_after, occurrences, counts};
-ghost use Rattle.cache_core.specs.internal.cache.Stands.{StartLaw, AccessLaw, FlushLaw, RunLaw};
-ghost use Rattle.cache_core.specs.internal.cache.Stands.{OrderLaw, DownLaw};
+ghost use Rattle.cache_core.specs.cache.Stands.{StartLaw, AccessLaw, FlushLaw, RunLaw};
+ghost use Rattle.cache_core.specs.cache.Stands.{OrderLaw, DownLaw};
 ghost use Rattle.cache_core.specs.replacement.AnyPolicy.{TouchKeeps, PlaceKeeps};
 ghost use Rattle.cache_core.specs.replacement.AnyPolicy.{AnyStartLaw, AnyAccessLaw, AnyFlushLaw};
 ghost use Rattle.cache_core.specs.LruLaws.{occurrence_after, HitLaw, VictimLaw, CountLaw, NextLaw};

@@ -3,7 +3,7 @@ ghost use Rattle.std.specs.Prelude.{◌≡◌, ◌<◌, ℕ, List, ◌++◌, len
 ghost use Rattle.trace_core.specs.declared.events.Event.{Event};
 ghost use Rattle.trace_core.specs.declared.events.Event.TheVariants as event;
 ghost use Rattle.cache_core.specs.system.Plans.{PlannedCaches, IsPlan};
-ghost use Rattle.cache_core.specs.internal.system.SystemStands.{SystemStandsFor};
+ghost use Rattle.cache_core.specs.system.SystemStands.{SystemStandsFor};
 ghost use Rattle.cache_core.specs.system.Arrivals.{arrivals_of};
 
 use cache_core::{Arrival, MAX_ARRIVALS, MAX_STEPS, Observer, System};

@@ -1,6 +1,6 @@
 //! A cache under a policy of one's own.
 ghost use Rattle.std.specs.Prelude.{◌≡◌, ◌≤◌, IfOk};
-ghost use Rattle.cache_core.specs.internal.cache.Slab.{empty_sets};
+ghost use Rattle.cache_core.specs.cache.Slab.{empty_sets};
 
 use cache_core::{AllocMode, Cache, Geometry, Lru, Replacement, Slot, WriteMode};
 use cache_laws::slots_are_kept;

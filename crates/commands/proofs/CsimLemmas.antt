@@ -15,7 +15,7 @@ use Rattle.trace_core.proofs.Written.{Wrote-more, Wrote-none}
 use Rattle.cache_core.specs.declared.simulation.Lookup.{Lookup}
 use Rattle.cache_core.specs.declared.simulation.Simulation.{Simulation}
 use Rattle.cache_core.specs.Geometry.{GeometryValue}
-use Rattle.cache_core.specs.internal.Simulation.{SimulationStandsFor}
+use Rattle.cache_core.specs.Simulation.{SimulationStandsFor}
 use Rattle.cache_core.specs.Windows.{counts}
 use Rattle.commands.specs.CsimText.{csim_task, csim_lines, lines_after, line_of, lookups_of}
 use Rattle.commands.specs.CsimText.{summary}

@@ -16,8 +16,7 @@ use Rattle.cache_core.specs.declared.simulation.Lookup.{Lookup}
 use Rattle.cache_core.specs.declared.simulation.Simulation.{Simulation}
 use Rattle.cache_core.specs.Geometry.{GeometryValue}
 use Rattle.cache_core.specs.LruLaws.{occurrence_after}
-use Rattle.cache_core.specs.Simulation.{lookup_at}
-use Rattle.cache_core.specs.internal.Simulation.{SimulationStandsFor}
+use Rattle.cache_core.specs.Simulation.{lookup_at, SimulationStandsFor}
 use Rattle.cache_core.specs.Windows.{occurrences_after}
 use Rattle.cache_core.proofs.Occurrences.{occurrences_after-append}
 

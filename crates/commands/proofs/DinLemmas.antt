@@ -1,8 +1,8 @@
 -- How a system follows the events of a trace.
 use Rattle.std.proofs.Common.{List, [], ◌∷◌, ◌++◌, append_assoc, subst}
 use Rattle.trace_core.specs.declared.events.Event.{Event}
-use Rattle.cache_core.specs.internal.system.SystemSteps.{SystemValue}
-use Rattle.cache_core.specs.internal.system.SystemStands.{SystemStandsFor}
+use Rattle.cache_core.specs.system.SystemSteps.{SystemValue}
+use Rattle.cache_core.specs.system.SystemStands.{SystemStandsFor}
 use Rattle.commands.specs.internal.DinPass.{AddsEvents}
 
 -- some events after others

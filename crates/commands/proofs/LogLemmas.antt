@@ -18,8 +18,8 @@ use Rattle.trace_core.proofs.Written.{Wrote-more}
 use Rattle.cache_core.specs.declared.system.arrival.Arrival.{Arrival}
 use Rattle.cache_core.specs.system.Arrivals.{Saw, arrivals_of, arrivals_from}
 use Rattle.cache_core.specs.system.Plans.{PlannedCaches, IsPlan}
-use Rattle.cache_core.specs.internal.system.SystemSteps.{SystemValue}
-use Rattle.cache_core.specs.internal.system.SystemStands.{SystemStandsFor}
+use Rattle.cache_core.specs.system.SystemSteps.{SystemValue}
+use Rattle.cache_core.specs.system.SystemStands.{SystemStandsFor}
 use Rattle.commands.specs.declared.log_text.LogText.{LogText}
 use Rattle.commands.specs.internal.DinPass.{AddsEvents}
 use Rattle.commands.specs.LogText.{arrival_line, arrival_lines, log_lines, log_task}

@@ -4,7 +4,7 @@ ghost use Rattle.trace_core.specs.declared.events.Event.{Event};
 ghost use Rattle.trace_core.specs.Events.{events_of};
 ghost use Rattle.trace_core.specs.Task.{Performs};
 ghost use Rattle.cache_core.specs.Geometry.{GeometryValue};
-ghost use Rattle.cache_core.specs.internal.Simulation.{SimulationCountsWithin, SimulationStandsFor};
+ghost use Rattle.cache_core.specs.Simulation.{SimulationCountsWithin, SimulationStandsFor};
 ghost use Rattle.commands.specs.CsimText.{csim_task, lookups_of};
 ghost use Rattle.commands.specs.internal.CsimPass.{lookups_of_pair};
 

@@ -5,7 +5,7 @@ ghost use Rattle.trace_core.specs.Events.{events_of};
 ghost use Rattle.trace_core.specs.Reader.{new_progress};
 ghost use Rattle.trace_core.specs.Task.{HasRead, Performs};
 ghost use Rattle.cache_core.specs.declared.system.TheConstants.{MAX_STEPS};
-ghost use Rattle.cache_core.specs.internal.system.SystemSteps.{SystemValue, stats_of};
+ghost use Rattle.cache_core.specs.system.SystemSteps.{SystemValue, stats_of};
 ghost use Rattle.commands.specs.internal.DinPass.{AddsEvents};
 ghost use Rattle.commands.specs.DinText.{din_task};
 

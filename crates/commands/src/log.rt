@@ -6,7 +6,7 @@ ghost use Rattle.trace_core.specs.Task.{Performs};
 ghost use Rattle.cache_core.specs.declared.system.TheConstants.{MAX_STEPS};
 ghost use Rattle.cache_core.specs.system.Arrivals.{arrivals_from};
 ghost use Rattle.cache_core.specs.system.Plans.{PlannedCaches, IsPlan};
-ghost use Rattle.cache_core.specs.internal.system.SystemStands.{SystemStandsFor};
+ghost use Rattle.cache_core.specs.system.SystemStands.{SystemStandsFor};
 ghost use Rattle.commands.specs.LogText.{arrival_lines, log_task};
 
 use crate::log_text::LogText;

@@ -15,8 +15,7 @@ use Rattle.cache_core.specs.Geometry.{block_of}
 use Rattle.cache_core.specs.cache.Outcomes.{is_allocated}
 use Rattle.cache_core.specs.cache.Order.{Visits, VisitsAt, Hits, Fills, PassesOn, TakesIn}
 use Rattle.cache_core.specs.cache.Order.{with_dirty_at, position_of, dirty_in, is_dirty}
-use Rattle.cache_core.specs.cache.Order.{dirty_slots}
-use Rattle.cache_core.specs.internal.cache.Order.{DirtiesByWrites}
+use Rattle.cache_core.specs.cache.Order.{dirty_slots, DirtiesByWrites}
 use Rattle.cache_core.specs.internal.cache.Slab.{IsCacheSlab, sets_of}
 use Rattle.cache_core.proofs.cache.Slabs.{segment_slots, with_segment, IsWritten, set_read}
 use Rattle.cache_core.proofs.cache.Slabs.{sets_written, length-sets_of}

@@ -16,7 +16,7 @@ use Rattle.cache_core.specs.cache.Machine.{Machine, MachineState, Line, is_block
 use Rattle.cache_core.specs.cache.Machine.{exchange, least_line, lesser_line, victim, with_line_at}
 use Rattle.cache_core.specs.cache.Machine.{victim_line, step, step_at, step_with, next, dirty_count}
 use Rattle.cache_core.specs.replacement.Rules.{Place, InFront, InPlace, Victim, rules}
-use Rattle.cache_core.specs.internal.cache.Stands.{DownLaw}
+use Rattle.cache_core.specs.cache.Stands.{DownLaw}
 use Rattle.cache_core.specs.replacement.AnyPolicy.{MayLeave, is_evicting}
 use Rattle.cache_core.proofs.Lists.{cases}
 

@@ -15,7 +15,7 @@ use Rattle.cache_core.specs.cache.Machine.{Machine, MachineState, Line, slot_of,
 use Rattle.cache_core.specs.cache.Machine.{start, dirty_count}
 use Rattle.cache_core.specs.cache.Order.{Contents, FlushesCache, slots_of, dirty_in, dirty_slots}
 use Rattle.cache_core.specs.replacement.Rules.{Place, rules}
-use Rattle.cache_core.specs.internal.cache.Stands.{IsState, IsGood, IsSoundState}
+use Rattle.cache_core.specs.cache.Stands.{IsState, IsGood, IsSoundState}
 use Rattle.cache_core.proofs.cache.Lines.{ne-eqb}
 
 -- no set has a slot

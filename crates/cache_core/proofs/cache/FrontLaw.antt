@@ -17,8 +17,8 @@ use Rattle.cache_core.specs.Geometry.{block_of, set_of}
 use Rattle.cache_core.specs.cache.Outcomes.{outcome_of, on_hit, is_dirtied, two_options}
 use Rattle.cache_core.specs.cache.Outcomes.{through_writes}
 use Rattle.cache_core.specs.cache.Order.{Moves, Touches, Hits, Visits, VisitsAt, Accesses}
-use Rattle.cache_core.specs.cache.Order.{with_dirty_at, position_of}
-use Rattle.cache_core.specs.internal.cache.Order.{DirtiesByWrites, holds_first, hits_in_front}
+use Rattle.cache_core.specs.cache.Order.{with_dirty_at, position_of, DirtiesByWrites}
+use Rattle.cache_core.specs.internal.cache.Order.{holds_first, hits_in_front}
 use Rattle.cache_core.specs.replacement.Rules.{Place, InFront, InPlace, rules}
 use Rattle.cache_core.specs.internal.cache.Slab.{IsCacheSlab, Addressable, sets_of, slab_contents}
 use Rattle.cache_core.proofs.replacement.Addresses.{marked_fits}

@@ -12,8 +12,7 @@ use Rattle.cache_core.specs.declared.design.Repl.{Repl}
 use Rattle.cache_core.specs.cache.Machine.{Line, is_block, lines_of_set, lines_without, exchange}
 use Rattle.cache_core.specs.cache.Machine.{least_line, with_line_at, key_at}
 use Rattle.cache_core.specs.replacement.Rules.{Place, InFront, InPlace, rules}
-use Rattle.cache_core.specs.cache.Stands.{Absent, Distinct}
-use Rattle.cache_core.specs.internal.cache.Stands.{Falls, CountsUp, InOrder}
+use Rattle.cache_core.specs.cache.Stands.{Absent, Distinct, Falls, CountsUp, InOrder}
 
 pub ne-eqb : (a b : ℕ) → a ≢ b → eqb a b ≡ false
 ne-eqb a b h = ⊎_elim (λ t. absurd (h t.1)) (λ f. f.0) (eqb_tells a b)

@@ -5,8 +5,8 @@ use Rattle.trace_core.specs.declared.events.Event.{Event}
 use Rattle.trace_core.specs.declared.events.Event.TheVariants as event
 use Rattle.cache_core.specs.cache.Machine.{Machine, start, next, run}
 use Rattle.cache_core.proofs.cache.SoundLaw.{run_sound}
-use Rattle.cache_core.specs.internal.cache.Stands.{OrderLaw, IsState, CacheStandsFor, StartLaw}
-use Rattle.cache_core.specs.internal.cache.Stands.{AccessLaw, FlushLaw, RunLaw}
+use Rattle.cache_core.specs.cache.Stands.{OrderLaw, IsState, CacheStandsFor, StartLaw}
+use Rattle.cache_core.specs.cache.Stands.{AccessLaw, FlushLaw, RunLaw}
 use Rattle.cache_core.proofs.cache.StateLaw.{access_law}
 use Rattle.cache_core.proofs.cache.FlushLaw.{start_state, flush_law}
 

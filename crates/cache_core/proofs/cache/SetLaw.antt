@@ -13,8 +13,7 @@ use Rattle.cache_core.specs.cache.Machine.{with_line_at, with_touch, with_block,
 use Rattle.cache_core.specs.cache.Order.{Moves, Touches, Inserts, Exchanges, with_slot_at}
 use Rattle.cache_core.specs.cache.Order.{victim_at, with_dirty_at, position_of}
 use Rattle.cache_core.specs.replacement.Rules.{Place, InFront, InPlace, Last, rules}
-use Rattle.cache_core.specs.cache.Stands.{Absent}
-use Rattle.cache_core.specs.internal.cache.Stands.{Falls, InOrder, IsGood}
+use Rattle.cache_core.specs.cache.Stands.{Absent, Falls, InOrder, IsGood}
 use Rattle.cache_core.proofs.replacement.Lawful.{remove_split}
 use Rattle.cache_core.proofs.cache.Lines.{ne-eqb, Found, found, absent_round, distinct_back}
 use Rattle.cache_core.proofs.cache.Lines.{distinct_front, distinct_without, least_last, find_way}

@@ -24,7 +24,7 @@ use Rattle.cache_core.specs.cache.Order.{Visits, VisitsAt, Fills, PassesOn, Move
 use Rattle.cache_core.specs.cache.Order.{with_slot_at, victim_at, with_dirty_at, position_of}
 use Rattle.cache_core.specs.cache.Order.{random_numbers_after}
 use Rattle.cache_core.specs.replacement.Rules.{Place, InFront, InPlace, rules}
-use Rattle.cache_core.specs.internal.cache.Stands.{IsSoundState}
+use Rattle.cache_core.specs.cache.Stands.{IsSoundState}
 use Rattle.cache_core.proofs.cache.StateLaw.{step_agrees, sound_step}
 use Rattle.cache_core.proofs.cache.Visits.{at_each}
 use Rattle.cache_core.proofs.cache.FlushLaw.{start_sound, empty_good}

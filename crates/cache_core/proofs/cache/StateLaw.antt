@@ -19,8 +19,7 @@ use Rattle.cache_core.specs.cache.Machine.{step}
 use Rattle.cache_core.specs.cache.Order.{Contents, Accesses, Visits, VisitsAt, Fills, PassesOn}
 use Rattle.cache_core.specs.cache.Order.{TakesIn, random_numbers_after, slots_of}
 use Rattle.cache_core.specs.replacement.Rules.{Place, InFront, InPlace, rules}
-use Rattle.cache_core.specs.cache.Stands.{Absent}
-use Rattle.cache_core.specs.internal.cache.Stands.{IsState, IsGood, IsSoundState}
+use Rattle.cache_core.specs.cache.Stands.{Absent, IsState, IsGood, IsSoundState}
 use Rattle.cache_core.proofs.cache.Lines.{ne-eqb, not_found, find_in_set, absent_other, set_without}
 use Rattle.cache_core.proofs.cache.Lines.{set_exchange, lines_without_absent, exchange_absent}
 use Rattle.cache_core.proofs.cache.Lines.{Found, found, absent_right, order_later}

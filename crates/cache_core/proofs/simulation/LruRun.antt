@@ -16,7 +16,7 @@ use Rattle.cache_core.specs.cache.Outcomes.{Effect}
 use Rattle.cache_core.specs.cache.Machine.{Machine, MachineState, Line, slot_of, is_block}
 use Rattle.cache_core.specs.cache.Machine.{lines_of_set, start, step, next, run, with_effects_from}
 use Rattle.cache_core.specs.cache.Machine.{effects}
-use Rattle.cache_core.specs.internal.cache.Stands.{IsSoundState}
+use Rattle.cache_core.specs.cache.Stands.{IsSoundState}
 use Rattle.cache_core.specs.Windows.{Occurrence, window, window_after, distinct_of_set, is_hit}
 use Rattle.cache_core.specs.Windows.{is_evict, occurrences, counts}
 use Rattle.cache_core.specs.LruLaws.{lru_machine, is_held, HitLaw, VictimLaw, CountLaw, NextLaw}

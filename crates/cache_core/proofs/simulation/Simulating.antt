@@ -15,13 +15,11 @@ use Rattle.cache_core.specs.declared.simulation.Lookup.TheVariants.{Hit, Miss, M
 use Rattle.cache_core.specs.declared.simulation.Simulation.{Simulation}
 use Rattle.cache_core.specs.Geometry.{GeometryValue}
 use Rattle.cache_core.specs.LruLaws.{lru_machine, occurrence_after}
-use Rattle.cache_core.specs.internal.cache.Stands.{CacheStandsFor}
+use Rattle.cache_core.specs.cache.Stands.{CacheStandsFor}
 use Rattle.cache_core.specs.cache.Machine.{Machine}
-use Rattle.cache_core.specs.Simulation.{lookup_at}
+use Rattle.cache_core.specs.Simulation.{lookup_at, lru_policy, no_numbers, lru_contents}
+use Rattle.cache_core.specs.Simulation.{counts_with, SimulationCountsWithin, SimulationStandsFor}
 use Rattle.cache_core.specs.internal.cache.Lookups.{LooksUp}
-use Rattle.cache_core.specs.internal.Simulation.{lru_policy, no_numbers, lru_contents}
-use Rattle.cache_core.specs.internal.Simulation.{counts_with, SimulationCountsWithin}
-use Rattle.cache_core.specs.internal.Simulation.{SimulationStandsFor}
 use Rattle.cache_core.specs.cache.Slab.{CacheValue}
 use Rattle.cache_core.specs.Windows.{Occurrence, counts, is_hit, occurrences_after}
 use Rattle.cache_core.proofs.simulation.LruRun.{next_law}

@@ -16,15 +16,15 @@ use Rattle.cache_core.specs.declared.system.system_cache.SystemCache.{SystemCach
 use Rattle.cache_core.specs.cache.Outcomes.{two_options}
 use Rattle.cache_core.specs.cache.Machine.{Machine, run, step}
 use Rattle.cache_core.specs.system.Plans.{IsPlannedCache}
-use Rattle.cache_core.specs.internal.cache.Stands.{CacheStandsFor}
-use Rattle.cache_core.specs.internal.system.CacheSteps.{system_cache_contents, Enters}
+use Rattle.cache_core.specs.cache.Stands.{CacheStandsFor}
+use Rattle.cache_core.specs.system.SystemStands.{system_cache_contents, PlannedCacheStandsFor}
+use Rattle.cache_core.specs.internal.system.CacheSteps.{Enters}
 use Rattle.cache_core.specs.system.Systems.{machine_of, is_taken_by, events_for, references_sent}
-use Rattle.cache_core.specs.system.Systems.{cache_stats}
-use Rattle.cache_core.specs.system.Systems.{counts_if_planned}
+use Rattle.cache_core.specs.system.Systems.{cache_stats, counts_if_planned}
 use Rattle.cache_core.specs.internal.system.SystemSteps.{present_refs, AccessesFirst}
 use Rattle.cache_core.specs.internal.system.SystemSteps.{AccessesUnified, AccessesSplit}
-use Rattle.cache_core.specs.internal.system.SystemSteps.{AccessesFirstLevel, stats_held, first_name}
-use Rattle.cache_core.specs.internal.system.SystemStands.{PlannedCacheStandsFor}
+use Rattle.cache_core.specs.internal.system.SystemSteps.{AccessesFirstLevel, first_name}
+use Rattle.cache_core.specs.system.SystemSteps.{stats_held}
 use Rattle.cache_core.proofs.cache.RunLaw.{access_run}
 use Rattle.cache_core.proofs.cache.DownLaw.{down_law}
 use Rattle.cache_core.proofs.system.SystemPushes.{counts_push, events_taken, events_left}

@@ -20,13 +20,13 @@ use Rattle.cache_core.specs.declared.system.below.Memory.{Memory as SystemMemory
 use Rattle.cache_core.specs.system.Arrivals.{arrival_at, cache_arrivals, first_level_arrivals}
 use Rattle.cache_core.specs.system.Arrivals.{all_arrivals_below, at_memory, first_arrivals}
 use Rattle.cache_core.specs.system.Arrivals.{lower_arrivals, references_passed, flushes, Saw}
-use Rattle.cache_core.specs.internal.system.CacheSteps.{Enters, Empties, system_cache_contents}
+use Rattle.cache_core.specs.system.SystemStands.{system_cache_contents, PlannedCacheStandsFor}
+use Rattle.cache_core.specs.internal.system.CacheSteps.{Enters, Empties}
 use Rattle.cache_core.specs.cache.Machine.{run, step}
 use Rattle.cache_core.specs.system.Plans.{IsPlan, IsPlannedCache, PlannedCaches}
-use Rattle.cache_core.specs.internal.cache.Stands.{CacheStandsFor}
+use Rattle.cache_core.specs.cache.Stands.{CacheStandsFor}
 use Rattle.cache_core.specs.system.Systems.{machine_of, events_for, is_taken, lower_events}
 use Rattle.cache_core.specs.system.Systems.{first_level_references}
-use Rattle.cache_core.specs.internal.system.SystemStands.{PlannedCacheStandsFor}
 use Rattle.cache_core.specs.internal.system.SystemSteps.{present_refs, Descends}
 use Rattle.cache_core.proofs.cache.DownLaw.{down_law}
 use Rattle.cache_core.proofs.system.FirstLevelLaw.{present_refs_two}

@@ -13,15 +13,15 @@ use Rattle.cache_core.specs.declared.system.plan.CacheName.TheVariants.{L1I, L1D
 use Rattle.cache_core.specs.declared.system.system_cache.SystemCache.{SystemCache}
 use Rattle.cache_core.specs.cache.Machine.{Machine, run, dirty_count}
 use Rattle.cache_core.specs.system.Plans.{PlannedCaches, IsPlan}
-use Rattle.cache_core.specs.internal.system.CacheSteps.{system_cache_contents, Empties}
+use Rattle.cache_core.specs.system.SystemStands.{system_cache_contents, SystemStandsFor}
+use Rattle.cache_core.specs.internal.system.CacheSteps.{Empties}
 use Rattle.cache_core.specs.system.Systems.{machine_of, events_for, first_level_references}
 use Rattle.cache_core.specs.system.Systems.{lower_events, flush_counts, flush_copybacks, is_taken}
-use Rattle.cache_core.specs.internal.system.SystemSteps.{SystemValue, present_refs}
-use Rattle.cache_core.specs.internal.system.SystemSteps.{AccessesFirstLevel, AllDescend}
-use Rattle.cache_core.specs.internal.system.SystemSteps.{EmptiesCache, IsNewSystemCache, IsNewCache}
-use Rattle.cache_core.specs.internal.system.SystemSteps.{accesses_of}
+use Rattle.cache_core.specs.system.SystemSteps.{SystemValue}
+use Rattle.cache_core.specs.internal.system.SystemSteps.{present_refs, AccessesFirstLevel}
+use Rattle.cache_core.specs.internal.system.SystemSteps.{AllDescend, EmptiesCache, IsNewSystemCache}
+use Rattle.cache_core.specs.internal.system.SystemSteps.{IsNewCache, accesses_of}
 use Rattle.cache_core.specs.internal.system.Counted.{accesses}
-use Rattle.cache_core.specs.internal.system.SystemStands.{SystemStandsFor}
 use Rattle.cache_core.proofs.cache.RunLaw.{start_law, flush_run}
 use Rattle.cache_core.proofs.Pushes.{count_by_push}
 use Rattle.cache_core.proofs.system.SystemPushes.{counts_flush, flush_counts_flush}

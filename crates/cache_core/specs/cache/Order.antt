@@ -1,10 +1,11 @@
 -- The contents of a cache, each set in its policy's order, and one access to it.
-use Rattle.std.specs.Prelude.{◌≡◌, ◌≢◌, ◌<◌, ℕ, ◌+◌, ◌-◌, ◌%◌, Bool, true, false, List, []}
-use Rattle.std.specs.Prelude.{◌∷◌, ◌++◌, Option, Some, None, if◌then◌else◌, ◌==◌, length}
+use Rattle.std.specs.Prelude.{◌≡◌, ◌≢◌, ◌<◌, ◌≤◌, ℕ, ◌+◌, ◌-◌, ◌%◌, Bool, true, false, List}
+use Rattle.std.specs.Prelude.{[], ◌∷◌, ◌++◌, Option, Some, None, if◌then◌else◌, ◌==◌, length}
 use Rattle.std.specs.Prelude.{MatchOption, MatchBool, slice_get, slice_set, slice_index_or, remove}
 use Rattle.std.specs.Prelude.{position, sum_by, count_by, replicate, IsPermutation, unwrap_or}
 use Rattle.std.specs.Option.{option_map}
 use Rattle.trace_core.specs.declared.events.Ref.{Ref}
+use Rattle.trace_core.specs.Events.{is_write, one_if}
 use Rattle.cache_core.specs.declared.outcome.Slot.{Slot}
 use Rattle.cache_core.specs.declared.outcome.Outcome.{Outcome}
 use Rattle.cache_core.specs.declared.design.Design.{Design}
@@ -164,3 +165,10 @@ pub record FlushesCache (old : Contents) (dirty : ℕ) (new : Contents) : Type 0
 -- whether there is a slot, and it is dirty
 abbrev pub is_dirty : Option Slot → Bool
 is_dirty slot = unwrap_or (option_map (λ s. s.dirty) slot) false
+
+-- after an access at most one more slot is dirty, the one that left counted too, and that only
+-- after a write
+abbrev pub DirtiesByWrites : List (List Slot) → Ref → Outcome → List (List Slot) → Type 0
+DirtiesByWrites old ref outcome new =
+    dirty_slots new + one_if (is_dirty outcome.evicted) ≤ dirty_slots old + one_if
+    (is_write ref.access)

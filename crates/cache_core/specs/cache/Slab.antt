@@ -1,8 +1,9 @@
 -- A cache as its callers see it: its design, its policy and its sets.
-use Rattle.std.specs.Prelude.{ℕ, List, Option}
+use Rattle.std.specs.Prelude.{ℕ, ◌^◌, List, [], Option, replicate}
 use Rattle.cache_core.specs.declared.outcome.Slot.{Slot}
 use Rattle.cache_core.specs.declared.design.Design.{Design}
 use Rattle.cache_core.specs.declared.design.Repl.{Repl}
+use Rattle.cache_core.specs.Geometry.{GeometryValue}
 use Rattle.cache_core.specs.cache.Order.{Contents}
 
 -- a cache: its design, its policy and its sets
@@ -20,3 +21,7 @@ contents_of policy numbers c = record {
   random_numbers = numbers c.policy;
   sets = c.sets;
 }
+
+-- the sets of an empty cache
+abbrev pub empty_sets : GeometryValue → List (List Slot)
+empty_sets g = replicate (2 ^ g.s) []

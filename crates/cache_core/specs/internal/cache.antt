@@ -1,6 +1,5 @@
 pub mod Order
 pub mod Slab
-pub mod Stands
 pub mod Lookups
 pub mod SlotOrder
 pub mod Indexed

@@ -2,11 +2,10 @@
 //! found by an index.
 ghost use Rattle.std.specs.Prelude.{◌≡◌, ◌<◌, ◌*◌, ◌^◌, IfOk, IfSome};
 ghost use Rattle.cache_core.specs.Geometry.{IsGeometry};
-ghost use Rattle.cache_core.specs.cache.Order.{Accesses, FlushesCache};
-ghost use Rattle.cache_core.specs.cache.Slab.{contents_of};
+ghost use Rattle.cache_core.specs.cache.Order.{Accesses, FlushesCache, DirtiesByWrites};
+ghost use Rattle.cache_core.specs.cache.Slab.{contents_of, empty_sets};
 ghost use Rattle.cache_core.specs.internal.cache.Lookups.{LooksUp};
-ghost use Rattle.cache_core.specs.internal.cache.Slab.{empty_sets, AccessesInFront};
-ghost use Rattle.cache_core.specs.internal.cache.Order.{DirtiesByWrites};
+ghost use Rattle.cache_core.specs.internal.cache.Slab.{AccessesInFront};
 
 use crate::cache::Cache;
 use crate::cache::indexed::IndexedCache;

@@ -6,10 +6,9 @@ mod slot_order;
 
 ghost use Rattle.std.specs.Prelude.{◌≡◌, ◌<◌, ◌*◌, ◌^◌, IfOk, IfSome};
 ghost use Rattle.cache_core.specs.Geometry.{IsGeometry};
-ghost use Rattle.cache_core.specs.cache.Order.{Accesses, FlushesCache};
-ghost use Rattle.cache_core.specs.cache.Slab.{contents_of};
-ghost use Rattle.cache_core.specs.internal.cache.Slab.{empty_sets, AccessesInFront};
-ghost use Rattle.cache_core.specs.internal.cache.Order.{DirtiesByWrites};
+ghost use Rattle.cache_core.specs.cache.Order.{Accesses, FlushesCache, DirtiesByWrites};
+ghost use Rattle.cache_core.specs.cache.Slab.{contents_of, empty_sets};
+ghost use Rattle.cache_core.specs.internal.cache.Slab.{AccessesInFront};
 
 use crate::cache::indexed::emptying::empty_sets;
 use crate::cache::indexed::one_set::{visit, visit_front};
@@ -41,7 +40,7 @@ impl<P: NamedPolicy> Model for IndexedCache<P> {
     ghost use Rattle.std.specs.Prelude.{◌≡◌, Some};
     ghost use Rattle.cache_core.specs.cache.Slab.{CacheValue};
     ghost use Rattle.cache_core.specs.internal.cache.Indexed.{sets_at, IsIndexed, counts_of};
-    ghost use Rattle.cache_core.specs.internal.Touched.{Covers};
+    ghost use Rattle.cache_core.specs.Touched.{Covers};
 
     ghost Value = { CacheValue P };
 

@@ -8,10 +8,10 @@ ghost use Rattle.std.specs.Prelude.{replicate, is_some};
 ghost use Rattle.cache_core.specs.declared.design.Repl.{Repl};
 ghost use Rattle.cache_core.specs.Geometry.{IsGeometry, block_of, set_of};
 ghost use Rattle.cache_core.specs.cache.Order.{position_of, Accesses, FlushesCache, slots_of};
-ghost use Rattle.cache_core.specs.internal.cache.Order.{DirtiesByWrites, hits_in_front};
-ghost use Rattle.cache_core.specs.internal.cache.Order.{hit_in_front};
+ghost use Rattle.cache_core.specs.cache.Order.{DirtiesByWrites};
+ghost use Rattle.cache_core.specs.internal.cache.Order.{hits_in_front, hit_in_front};
 ghost use Rattle.cache_core.specs.internal.cache.Slab.{IsCacheSlab, sets_of, slab_contents};
-ghost use Rattle.cache_core.specs.internal.Touched.{Covers};
+ghost use Rattle.cache_core.specs.Touched.{Covers};
 
 use crate::cache::effects::{dirties_line, hit_outcome};
 use crate::cache::walked::emptying::empty_slab;
@@ -44,7 +44,7 @@ impl<P> Model for Cache<P> {
     ghost Value = { CacheValue P };
 
     ghost use Rattle.cache_core.specs.internal.cache.Slab.{sets_of, IsCacheSlab};
-    ghost use Rattle.cache_core.specs.internal.Touched.{Covers};
+    ghost use Rattle.cache_core.specs.Touched.{Covers};
 
     ghost view = { λ c. record {
       design = c.design;
@@ -57,8 +57,8 @@ impl<P> Model for Cache<P> {
 }
 
 impl<P: Replacement> Cache<P> {
-    ghost use Rattle.cache_core.specs.cache.Slab.{contents_of};
-    ghost use Rattle.cache_core.specs.internal.cache.Slab.{empty_sets, AccessesInFront};
+    ghost use Rattle.cache_core.specs.cache.Slab.{contents_of, empty_sets};
+    ghost use Rattle.cache_core.specs.internal.cache.Slab.{AccessesInFront};
 
     /// An empty cache. It takes all its memory here, 16 bytes for each line and 4 and a quarter for
     /// each set, and that alone can fail.

@@ -1,6 +1,6 @@
 //! The policy of a cache of a system, which is chosen at run time.
 ghost use Rattle.std.specs.Prelude.{◌≡◌, Some};
-ghost use Rattle.cache_core.specs.internal.replacement.SystemCaches.{policy_of, random_numbers_of};
+ghost use Rattle.cache_core.specs.replacement.Chosen.{policy_of, random_numbers_of};
 ghost use Rattle.cache_core.specs.system.Systems.{random_numbers_for};
 
 use crate::design::Repl;
@@ -17,8 +17,7 @@ pub(crate) enum ChosenPolicy {
 }
 
 impl Replacement for ChosenPolicy {
-    ghost use Rattle.cache_core.specs.internal.replacement.SystemCaches.{policy_of};
-    ghost use Rattle.cache_core.specs.internal.replacement.SystemCaches.{random_numbers_of};
+    ghost use Rattle.cache_core.specs.replacement.Chosen.{policy_of, random_numbers_of};
 
     ghost policy = { policy_of };
 
@@ -32,6 +31,7 @@ impl Replacement for ChosenPolicy {
         }
     }
 
+    #[inline(always)]
     fn place(&mut self, set: &mut [Slot], filled: usize, new: Slot) -> (usize, Option<Slot>) {
         match self {
             ChosenPolicy::Lru(policy) => policy.place(set, filled, new),

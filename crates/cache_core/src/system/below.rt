@@ -4,7 +4,7 @@ ghost use Rattle.cache_core.specs.internal.system.Counted.{accesses};
 ghost use Rattle.cache_core.specs.internal.system.SystemSteps.{present_refs, memory_after_all};
 ghost use Rattle.cache_core.specs.internal.system.SystemSteps.{Descends, AllDescend, accesses_of};
 ghost use Rattle.cache_core.specs.internal.system.SystemSteps.{memory_accesses};
-ghost use Rattle.cache_core.specs.internal.system.SystemStands.{PlannedCacheStandsFor};
+ghost use Rattle.cache_core.specs.system.SystemStands.{PlannedCacheStandsFor};
 ghost use Rattle.cache_core.specs.system.Arrivals.{Saw, arrivals_below, all_arrivals_below};
 ghost use Rattle.cache_core.specs.system.Arrivals.{at_memory};
 ghost use Rattle.cache_core.specs.system.Plans.{IsPlannedCache};
@@ -45,7 +45,6 @@ impl Memory {
 }
 
 /// A reference arrives at the second level, or at memory.
-#[inline(never)]
 fn descend<O: Observer>(
     second: &mut Option<SystemCache>,
     memory: &mut Memory,

@@ -4,7 +4,7 @@ ghost use Rattle.cache_core.specs.system.Arrivals.{Saw, arrival_at};
 ghost use Rattle.cache_core.specs.cache.Order.{dirty_slots};
 ghost use Rattle.cache_core.specs.internal.cache.Order.{hits_in_front, hit_in_front};
 ghost use Rattle.cache_core.specs.internal.system.Counted.{accesses, IsCounted};
-ghost use Rattle.cache_core.specs.internal.replacement.SystemCaches.{policy_of, random_numbers_of};
+ghost use Rattle.cache_core.specs.replacement.Chosen.{policy_of, random_numbers_of};
 ghost use Rattle.cache_core.specs.system.Systems.{random_numbers_for};
 
 use crate::cache::chosen::ChosenCache;

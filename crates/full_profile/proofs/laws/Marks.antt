@@ -29,7 +29,7 @@ use Rattle.cache_core.specs.cache.Machine.{lines_without, least_line, victim_lin
 use Rattle.cache_core.specs.cache.Machine.{dirty_count, slot_of}
 use Rattle.cache_core.specs.cache.Order.{dirty_in, dirty_slots}
 use Rattle.cache_core.proofs.cache.FlushLaw.{dirty_all}
-use Rattle.cache_core.specs.internal.cache.Stands.{Falls}
+use Rattle.cache_core.specs.cache.Stands.{Falls}
 use Rattle.cache_core.proofs.Lists.{cases, eqb_flip}
 use Rattle.cache_core.proofs.cache.Lines.{not_found, lines_without_absent, least_last}
 use Rattle.cache_core.proofs.simulation.LruRun.{IsStacked, blocks_in}

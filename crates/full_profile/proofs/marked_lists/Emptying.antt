@@ -6,7 +6,7 @@ use Rattle.std.specs.Prelude.{replicate}
 use Rattle.std.specs.List.{sum_by}
 use Rattle.std.proofs.lemmas.Bool.{cases_eq, cases_lt}
 use Rattle.std.proofs.lemmas.List.Sums.{sum_by-set}
-use Rattle.cache_core.specs.internal.Touched.{ListsFilled}
+use Rattle.cache_core.specs.Touched.{ListsFilled}
 use Rattle.full_profile.specs.declared.copies.Emptying.{Emptying}
 use Rattle.full_profile.specs.internal.Copies.{CopiesValue, CanTake, with_copies_of}
 use Rattle.full_profile.specs.internal.Copies.{with_all_copies, up_to_of}

@@ -9,7 +9,7 @@ use Rattle.std.proofs.Math.Nat.{mul-le-mul_left, mul-le-mul_right}
 use Rattle.std.proofs.lemmas.Bool.{ltb-true, cases_eq, eqb-true, false≢true}
 use Rattle.std.proofs.lemmas.Bool.Decides.{nat_tests}
 use Rattle.std.proofs.lemmas.List.{set-get_or, length-replicate}
-use Rattle.cache_core.specs.internal.Touched.{TouchedValue, Covers, after_count}
+use Rattle.cache_core.specs.Touched.{TouchedValue, Covers, after_count}
 use Rattle.cache_core.proofs.Lists.{list_any_is}
 use Rattle.cache_core.proofs.TouchedSets.{covers_change, covers_none}
 use Rattle.trace_core.specs.declared.events.Access.{Access}

@@ -3,7 +3,7 @@ use Rattle.std.specs.Prelude.{ℕ, ◌≡◌, ◌≤◌, ◌-◌, ◌^◌, ◌==
 use Rattle.std.specs.Prelude.{take, map, replicate, slice_set, slice_index, slice_index_or}
 use Rattle.std.specs.List.{remove}
 use Rattle.trace_core.specs.declared.events.Access.{Access}
-use Rattle.cache_core.specs.internal.Touched.{TouchedValue, Covers}
+use Rattle.cache_core.specs.Touched.{TouchedValue, Covers}
 use Rattle.profile_core.specs.profile.RecencyList.{index_of, is_in, move_to_front}
 use Rattle.full_profile.specs.declared.marked_lists.MarkedTouch.{MarkedTouch}
 use Rattle.full_profile.specs.declared.marked_lists.MarkedTouch.TheVariants.{Behind, New, Full}

@@ -2,7 +2,7 @@
 //! a length for each list.
 ghost use Rattle.std.specs.Prelude.{◌≡◌, ◌+◌, ◌*◌, ◌^◌, ◌<◌, ◌≤◌, [], IfOk, length, map, slice_set};
 ghost use Rattle.std.specs.Prelude.{slice_index, sum, sum_by, ℕ};
-ghost use Rattle.cache_core.specs.internal.Touched.{ListsFilled};
+ghost use Rattle.cache_core.specs.Touched.{ListsFilled};
 ghost use Rattle.full_profile.specs.internal.Copies.{with_copies_of, with_all_copies, up_to_of};
 ghost use Rattle.full_profile.specs.internal.Marked.{blocks_in, cleans_in, empty_marked, touch_of};
 ghost use Rattle.full_profile.specs.internal.Marked.{after_access, after_write_in_front, emptied};

@@ -6,7 +6,7 @@ use Rattle.std.specs.List.{sum_by}
 use Rattle.std.proofs.Math.Nat.{mul-le-mul_right}
 use Rattle.std.proofs.lemmas.List.{length-take-le, get_or_default, get_or_read, take_more}
 use Rattle.std.proofs.lemmas.List.Sums.{sum_by-cons, sum_by-le, sum_by_push, sum_by-take-le}
-use Rattle.cache_core.specs.internal.Touched.{TouchedValue}
+use Rattle.cache_core.specs.Touched.{TouchedValue}
 use Rattle.profile_core.specs.internal.rows.Rows.{RowsValue, row_for}
 use Rattle.profile_core.specs.internal.set_lists.Lists.{Lists, lists_in, IsListed}
 

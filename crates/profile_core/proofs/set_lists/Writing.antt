@@ -5,7 +5,7 @@ use Rattle.std.proofs.Common.{false, not, ◌&&◌, cond, eqb}
 use Rattle.std.proofs.Math.Seq.{take-nil}
 use Rattle.std.proofs.lemmas.Bool.{ne_eqb}
 use Rattle.std.proofs.lemmas.List.{set-get_or, get_or-set_other}
-use Rattle.cache_core.specs.internal.Touched.{TouchedValue, Covers, after_count, with_set}
+use Rattle.cache_core.specs.Touched.{TouchedValue, Covers, after_count, with_set}
 use Rattle.cache_core.proofs.TouchedSets.{covers_change}
 use Rattle.profile_core.specs.profile.RecencyList.{is_front, move_to_front}
 use Rattle.profile_core.specs.internal.set_lists.Moves.{is_second}

@@ -3,7 +3,7 @@
 
 ghost use Rattle.std.specs.Prelude.{◌≡◌, ◌*◌, ◌^◌, ◌<◌, ◌≤◌, [], length, slice_index, MatchOption};
 ghost use Rattle.std.specs.Prelude.{◌-◌, replicate, IfOk, slice_index_or, ◌+◌};
-ghost use Rattle.cache_core.specs.internal.Touched.{Covers, ListsFilled};
+ghost use Rattle.cache_core.specs.Touched.{Covers, ListsFilled};
 ghost use Rattle.profile_core.specs.internal.set_lists.Moves.{is_second};
 ghost use Rattle.profile_core.specs.internal.rows.Rows.{AreLong};
 ghost use Rattle.profile_core.specs.internal.set_lists.Lists.{lists_after_bring};

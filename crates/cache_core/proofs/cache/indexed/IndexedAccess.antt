@@ -17,7 +17,7 @@ use Rattle.cache_core.specs.cache.Outcomes.{is_allocated}
 use Rattle.cache_core.specs.replacement.Rules.{rules}
 use Rattle.cache_core.specs.cache.Order.{Accesses, Visits, TakesIn, position_of}
 use Rattle.cache_core.specs.cache.Order.{random_numbers_after, with_dirty_at, Touches}
-use Rattle.cache_core.specs.internal.cache.Order.{DirtiesByWrites}
+use Rattle.cache_core.specs.cache.Order.{DirtiesByWrites}
 use Rattle.cache_core.specs.internal.cache.SlotOrder.{OrderValue, order_of, with_order, with_moved}
 use Rattle.cache_core.specs.internal.cache.Indexed.{set_at, sets_at, with_mark, IsIndexed}
 use Rattle.cache_core.specs.internal.cache.Indexed.{indexed_contents}

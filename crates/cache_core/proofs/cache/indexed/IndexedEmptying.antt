@@ -20,7 +20,7 @@ use Rattle.cache_core.specs.cache.Order.{dirty_in, dirty_slots}
 use Rattle.cache_core.specs.internal.cache.SlotOrder.{OrderValue, order_of, with_order}
 use Rattle.cache_core.specs.internal.cache.Indexed.{slot_at, set_at, sets_at, counts_of, IsHeld}
 use Rattle.cache_core.specs.internal.cache.Indexed.{Holds}
-use Rattle.cache_core.specs.internal.Touched.{ListsFilled}
+use Rattle.cache_core.specs.Touched.{ListsFilled}
 use Rattle.cache_core.proofs.cache.indexed.SlotsApart.{same_or, in_other}
 use Rattle.cache_core.proofs.cache.indexed.HeldLaw.{with_block, held_taken, by_set, order_same}
 use Rattle.cache_core.proofs.cache.indexed.HeldLaw.{order_other}

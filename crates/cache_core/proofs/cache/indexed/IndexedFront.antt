@@ -16,7 +16,8 @@ use Rattle.cache_core.specs.Geometry.{block_of, set_of, set_of_block}
 use Rattle.cache_core.specs.cache.Outcomes.{outcome_of, on_hit, is_dirtied, two_options}
 use Rattle.cache_core.specs.cache.Outcomes.{through_writes}
 use Rattle.cache_core.specs.cache.Order.{Accesses, Visits, Touches, with_dirty_at, position_of}
-use Rattle.cache_core.specs.internal.cache.Order.{DirtiesByWrites, holds_first, hits_in_front}
+use Rattle.cache_core.specs.cache.Order.{DirtiesByWrites}
+use Rattle.cache_core.specs.internal.cache.Order.{holds_first, hits_in_front}
 use Rattle.cache_core.specs.internal.cache.SlotOrder.{OrderValue, order_of}
 use Rattle.cache_core.specs.internal.cache.Indexed.{slot_at, set_at, sets_at, with_mark}
 use Rattle.cache_core.specs.internal.cache.Indexed.{IsIndexed, indexed_contents}

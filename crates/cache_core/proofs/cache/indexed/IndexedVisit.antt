@@ -14,9 +14,8 @@ use Rattle.cache_core.specs.Geometry.{block_of, set_of}
 use Rattle.cache_core.specs.cache.Outcomes.{is_allocated, is_dirtied, outcome_of, on_hit}
 use Rattle.cache_core.specs.cache.Outcomes.{on_passing, on_placing}
 use Rattle.cache_core.specs.cache.Order.{Accesses, Contents, Visits, VisitsAt, Fills, PassesOn}
-use Rattle.cache_core.specs.cache.Order.{Touches, TakesIn}
-use Rattle.cache_core.specs.cache.Order.{position_of, with_dirty_at, random_numbers_after, is_dirty}
-use Rattle.cache_core.specs.internal.cache.Order.{DirtiesByWrites}
+use Rattle.cache_core.specs.cache.Order.{Touches, TakesIn, position_of, with_dirty_at}
+use Rattle.cache_core.specs.cache.Order.{random_numbers_after, is_dirty, DirtiesByWrites}
 use Rattle.cache_core.proofs.cache.DirtyLaw.{visit_dirty, sets_dirty}
 
 -- the contents of a cache

@@ -11,7 +11,7 @@ use Rattle.std.proofs.lemmas.List.Sums.{sum_by-set, sum_by-cons, count_by-le-len
 use Rattle.cache_core.specs.declared.outcome.Slot.{Slot}
 use Rattle.cache_core.specs.cache.Order.{dirty_slots}
 use Rattle.cache_core.specs.internal.cache.Slab.{sets_of}
-use Rattle.cache_core.specs.internal.Touched.{ListsFilled}
+use Rattle.cache_core.specs.Touched.{ListsFilled}
 use Rattle.cache_core.proofs.cache.Slabs.{length-sets_of, get_or-sets_of, sets_of-empty}
 use Rattle.cache_core.proofs.TouchedSets.{no_count, next_listed, emptied}
 

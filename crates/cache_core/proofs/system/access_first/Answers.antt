@@ -2,7 +2,7 @@
 use Rattle.std.proofs.Common.{List, subst}
 use Rattle.cache_core.specs.declared.system.arrival.Arrival.{Arrival}
 use Rattle.cache_core.specs.system.Arrivals.{Saw}
-use Rattle.cache_core.specs.internal.system.SystemStands.{PlannedCacheStandsFor}
+use Rattle.cache_core.specs.system.SystemStands.{PlannedCacheStandsFor}
 use Rattle.cache_core.proofs.system.Observed.{entered}
 use Rattle.cache_core.proofs.system.access_first.Goals as goal
 

@@ -8,7 +8,7 @@ use Rattle.cache_core.specs.declared.system.plan.CacheName.{CacheName}
 use Rattle.cache_core.specs.declared.system.plan.PlannedCache.{PlannedCache}
 use Rattle.cache_core.specs.system.Arrivals.{cache_arrivals}
 use Rattle.cache_core.specs.system.Plans.{IsPlannedCache}
-use Rattle.cache_core.specs.internal.system.SystemStands.{PlannedCacheStandsFor}
+use Rattle.cache_core.specs.system.SystemStands.{PlannedCacheStandsFor}
 use Rattle.cache_core.proofs.system.Observed.{entered}
 use Rattle.std.specs.Prelude.{MatchBool}
 use Rattle.trace_core.specs.declared.events.Ref.{Ref}

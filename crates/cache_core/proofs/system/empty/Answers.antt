@@ -2,7 +2,7 @@
 use Rattle.std.proofs.Common.{List, refl, subst}
 use Rattle.cache_core.specs.declared.system.arrival.Arrival.{Arrival}
 use Rattle.cache_core.specs.system.Arrivals.{Saw}
-use Rattle.cache_core.specs.internal.system.SystemStands.{PlannedCacheStandsFor}
+use Rattle.cache_core.specs.system.SystemStands.{PlannedCacheStandsFor}
 use Rattle.cache_core.proofs.system.Observed.{emptied}
 use Rattle.cache_core.proofs.system.empty.Goals as goal
 

@@ -1,16 +1,14 @@
 -- The contents of a cache, each set in its policy's order, and one access to it.
 -- Only the proofs need these definitions.
-use Rattle.std.specs.Prelude.{◌≡◌, ◌<◌, ◌≤◌, ℕ, ◌+◌, Bool, true, false, List, []}
-use Rattle.std.specs.Prelude.{◌∷◌, None, if◌then◌else◌, ◌==◌, length}
-use Rattle.std.specs.Prelude.{slice_index_or}
+use Rattle.std.specs.Prelude.{◌≡◌, ◌<◌, ℕ, Bool, true, false, List, [], ◌∷◌, None, if◌then◌else◌}
+use Rattle.std.specs.Prelude.{◌==◌, length, slice_index_or}
 use Rattle.trace_core.specs.declared.events.Ref.{Ref}
-use Rattle.trace_core.specs.Events.{is_write, one_if}
 use Rattle.cache_core.specs.declared.outcome.Slot.{Slot}
 use Rattle.cache_core.specs.declared.outcome.Outcome.{Outcome}
 use Rattle.cache_core.specs.declared.design.Design.{Design}
 use Rattle.cache_core.specs.Geometry.{block_of, set_of}
 use Rattle.cache_core.specs.cache.Outcomes.{through_writes}
-use Rattle.cache_core.specs.cache.Order.{slots_of, dirty_slots, is_dirty}
+use Rattle.cache_core.specs.cache.Order.{slots_of}
 
 -- the outcome of a hit that sends nothing down
 abbrev pub hit_in_front : Outcome
@@ -26,13 +24,6 @@ abbrev pub hits_in_front : Design → List (List Slot) → Ref → Bool
 hits_in_front d sets ref =
     if holds_first (block_of d.geometry ref.addr) (slots_of sets (set_of d.geometry ref.addr))
     then length (through_writes d.write ref) == 0 else false
-
--- after an access at most one more slot is dirty, the one that left counted too, and that only
--- after a write
-abbrev pub DirtiesByWrites : List (List Slot) → Ref → Outcome → List (List Slot) → Type 0
-DirtiesByWrites old ref outcome new =
-    dirty_slots new + one_if (is_dirty outcome.evicted) ≤ dirty_slots old + one_if
-    (is_write ref.access)
 
 -- no slot before an index holds a block
 abbrev pub NoneBefore : ℕ → List Slot → ℕ → Type 0

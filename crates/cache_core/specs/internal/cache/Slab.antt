@@ -1,16 +1,16 @@
 -- A cache's sets in one array of slots: each has a segment of as many slots as it has ways, and the
--- first of them are filled. Few clauses cite these definitions, which need not be judged.
+-- first of them are filled. Only the proofs need these definitions.
 use Rattle.std.specs.Prelude.{◌≡◌, ◌<◌, ◌≤◌, ℕ, ◌*◌, ◌^◌, List, [], ◌∷◌, Option, length, take, drop}
-use Rattle.std.specs.Prelude.{All, replicate, None, IfSome, is_some}
-use Rattle.cache_core.specs.Geometry.{GeometryValue, IsGeometry}
+use Rattle.std.specs.Prelude.{All, None, IfSome, is_some}
+use Rattle.cache_core.specs.Geometry.{IsGeometry}
 use Rattle.trace_core.specs.declared.events.Ref.{Ref}
 use Rattle.cache_core.specs.declared.outcome.Slot.{Slot}
 use Rattle.cache_core.specs.declared.outcome.Outcome.{Outcome}
 use Rattle.cache_core.specs.declared.design.Design.{Design}
 use Rattle.cache_core.specs.declared.design.Repl.{Repl}
-use Rattle.cache_core.specs.cache.Order.{Contents, Accesses}
+use Rattle.cache_core.specs.cache.Order.{Contents, Accesses, DirtiesByWrites}
 use Rattle.cache_core.specs.cache.Slab.{CacheValue, contents_of}
-use Rattle.cache_core.specs.internal.cache.Order.{DirtiesByWrites, hit_in_front, hits_in_front}
+use Rattle.cache_core.specs.internal.cache.Order.{hit_in_front, hits_in_front}
 
 -- the filled slots of each segment
 abbrev pub sets_of : ℕ → List Slot → List ℕ → List (List Slot)
@@ -38,10 +38,6 @@ slab_contents d policy numbers slots filled = record {
       numbers;
   sets = sets_of d.geometry.e slots filled;
 }
-
--- the sets of an empty cache
-abbrev pub empty_sets : GeometryValue → List (List Slot)
-empty_sets g = replicate (2 ^ g.s) []
 
 -- an access is made if it finds its block in the first slot of its set and sends nothing down; any
 -- other access changes nothing

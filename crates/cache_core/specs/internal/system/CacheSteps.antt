@@ -1,17 +1,12 @@
--- One reference or one flush at a cache of a system.
+-- One reference or one flush at a cache of a system. Only the proofs need these definitions.
 use Rattle.std.specs.Prelude.{◌≡◌, ℕ}
 use Rattle.std.specs.Option.{option_map}
 use Rattle.trace_core.specs.declared.events.Ref.{Ref}
 use Rattle.cache_core.specs.declared.outcome.Outcome.{Outcome}
 use Rattle.cache_core.specs.declared.system.system_cache.SystemCache.{SystemCache}
-use Rattle.cache_core.specs.cache.Order.{Contents, Accesses, FlushesCache}
-use Rattle.cache_core.specs.cache.Slab.{contents_of}
+use Rattle.cache_core.specs.cache.Order.{Accesses, FlushesCache}
 use Rattle.cache_core.specs.system.CacheStats.{stats_after_access, stats_after_flush}
-use Rattle.cache_core.specs.internal.replacement.SystemCaches.{policy_of, random_numbers_of}
-
--- the contents of the cache
-abbrev pub system_cache_contents : SystemCache → Contents
-system_cache_contents cache = contents_of policy_of random_numbers_of cache.cache
+use Rattle.cache_core.specs.system.SystemStands.{system_cache_contents}
 
 -- one reference at a cache of a system
 pub record Enters (old : SystemCache) (ref : Ref) (outcome : Outcome)

@@ -1,6 +1,6 @@
 -- The fields of a system as contracts see them.
 use Rattle.cache_core.specs.declared.system.System.TheInside.{Inside}
-use Rattle.cache_core.specs.internal.system.SystemSteps.{SystemValue}
+use Rattle.cache_core.specs.system.SystemSteps.{SystemValue}
 
 abbrev pub system_value : Inside → SystemValue
 system_value s =

@@ -4,8 +4,6 @@ use Rattle.std.specs.Prelude.{None, if◌then◌else◌, MatchBool, is_some}
 use Rattle.trace_core.specs.declared.events.Ref.{Ref}
 use Rattle.trace_core.specs.Events.{is_fetch, is_write}
 use Rattle.cache_core.specs.declared.outcome.Outcome.{Outcome}
-use Rattle.cache_core.specs.declared.system.stats.CacheStats.{CacheStats}
-use Rattle.cache_core.specs.declared.system.stats.Stats.{Stats}
 use Rattle.cache_core.specs.declared.system.system_cache.SystemCache.{SystemCache}
 use Rattle.cache_core.specs.declared.system.below.Memory.{Memory}
 use Rattle.cache_core.specs.internal.cache.Order.{hits_in_front}
@@ -13,10 +11,11 @@ use Rattle.cache_core.specs.system.Systems.{random_numbers_for}
 use Rattle.cache_core.specs.declared.system.plan.CacheName.{CacheName}
 use Rattle.cache_core.specs.declared.system.plan.CacheName.TheVariants.{L1I, L1D, L1U}
 use Rattle.cache_core.specs.declared.system.plan.PlannedCache.{PlannedCache}
-use Rattle.cache_core.specs.internal.cache.Slab.{empty_sets}
+use Rattle.cache_core.specs.cache.Slab.{empty_sets}
 use Rattle.cache_core.specs.system.CacheStats.{no_counts}
+use Rattle.cache_core.specs.system.SystemSteps.{SystemValue}
 use Rattle.cache_core.specs.internal.system.Counted.{accesses}
-use Rattle.cache_core.specs.internal.replacement.SystemCaches.{policy_of, random_numbers_of}
+use Rattle.cache_core.specs.replacement.Chosen.{policy_of, random_numbers_of}
 use Rattle.cache_core.specs.internal.system.CacheSteps.{Enters, Empties}
 
 -- the references that are there, in order
@@ -80,16 +79,6 @@ level_hits_in_front i d u ref =
     else if is_fetch ref.access then first_hits_in_front i ref
     else first_hits_in_front d ref
 
--- a system: its caches, what reached memory, the references that no cache took, and its steps
-pub record SystemValue : Type 0 where
-  pub i : Option SystemCache
-  pub d : Option SystemCache
-  pub u : Option SystemCache
-  pub second : Option SystemCache
-  pub memory : Memory
-  pub bypassed : ℕ
-  pub steps : ℕ
-
 -- The unified cache is accessed, and the others stay.
 abbrev pub AccessesUnified : Option SystemCache → Option SystemCache → Option SystemCache → Ref →
     Option (List (Option Ref)) →
@@ -141,23 +130,6 @@ abbrev pub EmptiesCache : Option SystemCache → ℕ → Option SystemCache → 
 EmptiesCache None dirty new = (new ≡ None) × (dirty ≡ 0)
 EmptiesCache (Some old) dirty new = (next : SystemCache) × (new ≡ Some next) ×
     Empties old dirty next
-
--- the counts of a cache, if there is one
-abbrev pub stats_held : Option SystemCache → Option CacheStats
-stats_held None = None
-stats_held (Some cache) = Some cache.stats
-
--- the statistics of a system
-abbrev pub stats_of : SystemValue → Stats
-stats_of v = record {
-  l1i = stats_held v.i;
-  l1d = stats_held v.d;
-  l1u = stats_held v.u;
-  l2u = stats_held v.second;
-  memory_reads = v.memory.reads;
-  memory_writes = v.memory.writes;
-  bypassed = v.bypassed;
-}
 
 -- a new cache of a system: empty, under its policy, with the random numbers of the seed
 pub record IsNewSystemCache (seed : ℕ) (planned : PlannedCache) (cache : SystemCache) : Type 0 where

@@ -6,7 +6,7 @@ ghost use Rattle.cache_core.specs.cache.Order.{dirty_in, dirty_slots};
 ghost use Rattle.cache_core.specs.internal.cache.Indexed.{IsIndexed, IsHeld, sets_at, set_at};
 ghost use Rattle.cache_core.specs.internal.cache.Indexed.{counts_of};
 ghost use Rattle.cache_core.specs.internal.cache.SlotOrder.{order_of, with_order};
-ghost use Rattle.cache_core.specs.internal.Touched.{Covers, ListsFilled};
+ghost use Rattle.cache_core.specs.Touched.{Covers, ListsFilled};
 
 use crate::cache::indexed::slot_order::SlotOrder;
 use crate::design::Design;

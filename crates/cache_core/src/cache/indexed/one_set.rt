@@ -6,13 +6,13 @@ ghost use Rattle.block_index.specs.BlockIndex.{HasBlock, NoSlotHas};
 ghost use Rattle.cache_core.specs.declared.design.Repl.{Repl};
 ghost use Rattle.cache_core.specs.Geometry.{block_of, set_of, set_of_block};
 ghost use Rattle.cache_core.specs.cache.Order.{Accesses, TakesIn, random_numbers_after};
+ghost use Rattle.cache_core.specs.cache.Order.{DirtiesByWrites};
 ghost use Rattle.cache_core.specs.replacement.Rules.{rules};
-ghost use Rattle.cache_core.specs.internal.cache.Order.{DirtiesByWrites, hits_in_front};
-ghost use Rattle.cache_core.specs.internal.cache.Order.{hit_in_front};
+ghost use Rattle.cache_core.specs.internal.cache.Order.{hits_in_front, hit_in_front};
 ghost use Rattle.cache_core.specs.internal.cache.Indexed.{IsIndexed, indexed_contents, sets_at};
 ghost use Rattle.cache_core.specs.internal.cache.Indexed.{set_at, counts_of, with_mark};
 ghost use Rattle.cache_core.specs.internal.cache.SlotOrder.{order_of, with_order, with_moved};
-ghost use Rattle.cache_core.specs.internal.Touched.{Covers};
+ghost use Rattle.cache_core.specs.Touched.{Covers};
 
 use crate::cache::effects::{
     allocates_line, dirties_line, hit_outcome, passing_outcome, placing_outcome,

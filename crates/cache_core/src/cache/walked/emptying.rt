@@ -2,7 +2,7 @@
 ghost use Rattle.std.specs.Prelude.{◌≡◌, ◌≤◌, ◌*◌, ◌^◌, length, All, count_by, replicate};
 ghost use Rattle.cache_core.specs.cache.Order.{dirty_slots};
 ghost use Rattle.cache_core.specs.internal.cache.Slab.{sets_of};
-ghost use Rattle.cache_core.specs.internal.Touched.{Covers, ListsFilled, no_sets};
+ghost use Rattle.cache_core.specs.Touched.{Covers, ListsFilled, no_sets};
 
 use crate::outcome::Slot;
 use crate::touched::TouchedSets;

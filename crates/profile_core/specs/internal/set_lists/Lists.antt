@@ -1,7 +1,7 @@
 -- The recency lists of all sets: the front of each, and behind it the set's row of blocks.
 use Rattle.std.specs.Prelude.{ℕ, ◌≡◌, ◌≤◌, ◌<◌, ◌+◌, ◌*◌, ◌^◌, List, [], ◌∷◌, length, take}
 use Rattle.std.specs.Prelude.{slice_index_or, slice_set}
-use Rattle.cache_core.specs.internal.Touched.{TouchedValue, Covers}
+use Rattle.cache_core.specs.Touched.{TouchedValue, Covers}
 use Rattle.profile_core.specs.profile.RecencyList.{move_to_front}
 use Rattle.profile_core.specs.internal.rows.Rows.{RowsValue, AreLong}
 

@@ -2,7 +2,7 @@
 use Rattle.std.proofs.Common.{◌∙◌, sym}
 use Rattle.cache_core.specs.declared.design.WriteMode.TheVariants.{Back}
 use Rattle.cache_core.specs.LruLaws.{lru_machine}
-use Rattle.cache_core.specs.internal.Simulation.{lru_contents}
+use Rattle.cache_core.specs.Simulation.{lru_contents}
 use Rattle.cache_core.proofs.cache.RunLaw.{flush_run}
 use Rattle.cache_core.proofs.simulation.Simulating.{counts-flush}
 use Rattle.cache_core.proofs.simulation.Simulation.flush.Goals as goal

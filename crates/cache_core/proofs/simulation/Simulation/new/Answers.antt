@@ -3,7 +3,7 @@ use Rattle.std.proofs.Common.{refl}
 use Rattle.cache_core.specs.declared.design.WriteMode.TheVariants.{Back}
 use Rattle.cache_core.specs.LruLaws.{lru_machine}
 use Rattle.cache_core.specs.Windows.{counts, occurrences_after}
-use Rattle.cache_core.specs.internal.Simulation.{lru_contents}
+use Rattle.cache_core.specs.Simulation.{lru_contents}
 use Rattle.cache_core.proofs.cache.RunLaw.{start_law}
 use Rattle.cache_core.proofs.simulation.Simulation.new.Goals as goal
 

@@ -7,7 +7,7 @@ use Rattle.trace_core.specs.declared.events.Event.TheVariants as event
 use Rattle.trace_core.specs.declared.events.Ref.{Ref}
 use Rattle.trace_core.specs.declared.events.Access.TheVariants.{Fetch}
 use Rattle.cache_core.specs.declared.design.WriteMode.TheVariants.{Back}
-use Rattle.cache_core.specs.internal.Simulation.{SimulationStandsFor}
+use Rattle.cache_core.specs.Simulation.{SimulationStandsFor}
 use Rattle.cache_core.specs.Windows.{counts}
 use Rattle.cache_core.proofs.simulation.LruRun.{count_law}
 use Rattle.cache_core.proofs.simulation.Simulating.{simulated_within, within_with}

@@ -1,7 +1,7 @@
 -- What the simulation stands for as the references are taken one by one.
 use Rattle.std.proofs.Common.{map, take}
 use Rattle.trace_core.specs.declared.events.Event.TheVariants as event
-use Rattle.cache_core.specs.internal.Simulation.{SimulationCountsWithin, SimulationStandsFor}
+use Rattle.cache_core.specs.Simulation.{SimulationCountsWithin, SimulationStandsFor}
 use Rattle.cache_core.proofs.simulation.simulate.simulate.Given as goal
 
 abbrev pub invariant-loop-reference : goal.invariant-loop-reference

@@ -1,6 +1,6 @@
 -- A flush of a system is one of each of its caches, and is seen so.
 use Rattle.std.proofs.Common.{refl, subst, sym}
-use Rattle.cache_core.specs.internal.system.SystemStands.{SystemStandsFor}
+use Rattle.cache_core.specs.system.SystemStands.{SystemStandsFor}
 use Rattle.cache_core.proofs.system.Observed.{saw_both}
 use Rattle.cache_core.proofs.system.SystemLaw.{system_flush_law}
 use Rattle.cache_core.proofs.system.System.flush_observed.Goals as goal

@@ -1,7 +1,7 @@
 -- A reference that finds its block in the first slot of its set is a step that sends nothing down.
 use Rattle.std.proofs.Common.{Some, arith, refl, sym, subst}
 use Rattle.cache_core.specs.internal.system.SystemSteps.{nothing_down}
-use Rattle.cache_core.specs.internal.system.SystemStands.{SystemStandsFor}
+use Rattle.cache_core.specs.system.SystemStands.{SystemStandsFor}
 use Rattle.cache_core.proofs.system.SystemLaw.{step_law}
 use Rattle.cache_core.proofs.system.System.step.Goals as goal
 

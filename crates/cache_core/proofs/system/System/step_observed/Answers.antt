@@ -5,7 +5,7 @@ use Rattle.std.proofs.Common.{subst, refl, append-nil}
 use Rattle.cache_core.specs.declared.system.arrival.Arrival.{Arrival}
 use Rattle.cache_core.specs.declared.system.arrival.Arrival.TheVariants.{Cache}
 use Rattle.cache_core.specs.system.Arrivals.{Saw, first_arrivals, lower_arrivals}
-use Rattle.cache_core.specs.internal.system.SystemStands.{SystemStandsFor}
+use Rattle.cache_core.specs.system.SystemStands.{SystemStandsFor}
 use Rattle.cache_core.specs.internal.system.SystemSteps.{nothing_down}
 use Rattle.cache_core.proofs.system.Counters.{first_level_grows}
 use Rattle.cache_core.proofs.system.Observed.{seen_below}

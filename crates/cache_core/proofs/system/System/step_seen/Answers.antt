@@ -4,7 +4,7 @@ use Rattle.std.proofs.Common.{List, Some, None, arith, refl, sym, subst}
 use Rattle.cache_core.specs.declared.system.arrival.Arrival.{Arrival}
 use Rattle.cache_core.specs.system.Arrivals.{Saw}
 use Rattle.cache_core.specs.system.Systems.{lower_events}
-use Rattle.cache_core.specs.internal.system.SystemStands.{SystemStandsFor}
+use Rattle.cache_core.specs.system.SystemStands.{SystemStandsFor}
 use Rattle.cache_core.specs.internal.system.SystemSteps.{present_refs}
 use Rattle.cache_core.proofs.system.Counters.{first_level_grows, all_grow}
 use Rattle.cache_core.proofs.system.Observed.{saw_both, seen_below, seen_bypassed}

@@ -2,7 +2,7 @@
 use Rattle.std.proofs.Common.{arith, sym, subst, List, append-nil, ◌∙◌, ap, ◌++◌, ◌∷◌, []}
 use Rattle.trace_core.specs.declared.events.Event.TheVariants as event
 use Rattle.cache_core.specs.declared.system.arrival.Arrival.{Arrival}
-use Rattle.cache_core.specs.internal.system.SystemStands.{PlannedCacheStandsFor}
+use Rattle.cache_core.specs.system.SystemStands.{PlannedCacheStandsFor}
 use Rattle.cache_core.specs.system.Arrivals.{Saw, arrivals_below, all_arrivals_below}
 use Rattle.cache_core.proofs.system.Observed.{descended, first_sent, second_sent, saw_both}
 use Rattle.cache_core.proofs.system.below.descend_all.Goals as goal

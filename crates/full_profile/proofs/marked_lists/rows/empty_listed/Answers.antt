@@ -2,7 +2,7 @@
 use Rattle.std.proofs.Common.{◌≡◌, ◌∙◌, ◌<◌, ◌+◌, ℕ, [], get_or, length, map, drop, ap, sym}
 use Rattle.std.proofs.Common.{subst, arith}
 use Rattle.std.proofs.lemmas.List.{drop_all}
-use Rattle.cache_core.specs.internal.Touched.{ListsFilled}
+use Rattle.cache_core.specs.Touched.{ListsFilled}
 use Rattle.cache_core.proofs.TouchedSets.{next_listed, emptied}
 use Rattle.full_profile.specs.internal.Marked.{blocks_in}
 use Rattle.full_profile.proofs.marked_lists.Emptying.{one_less, lengths_set, filled_within}

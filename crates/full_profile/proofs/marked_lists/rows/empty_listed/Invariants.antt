@@ -1,6 +1,6 @@
 -- All lists that are not empty are those of listed sets still to come.
 use Rattle.std.proofs.Common.{drop, map, length}
-use Rattle.cache_core.specs.internal.Touched.{ListsFilled}
+use Rattle.cache_core.specs.Touched.{ListsFilled}
 use Rattle.full_profile.proofs.marked_lists.Emptying.{IsLeft}
 use Rattle.full_profile.proofs.marked_lists.rows.empty_listed.Given as goal
 

@@ -1,7 +1,7 @@
 -- Where no listed set is left, all fronts and lengths are 0.
 use Rattle.std.proofs.Common.{◌∙◌, ap, arith, subst, replicate}
 use Rattle.std.proofs.lemmas.List.{drop_all}
-use Rattle.cache_core.specs.internal.Touched.{ListsFilled}
+use Rattle.cache_core.specs.Touched.{ListsFilled}
 use Rattle.cache_core.proofs.TouchedSets.{no_count}
 use Rattle.profile_core.proofs.set_lists.recency.blank_listed.Goals as goal
 

@@ -1,7 +1,7 @@
 -- The sets that are still to come are all that have a slot, and what was dirty is counted.
 use Rattle.std.proofs.Common.{drop}
 use Rattle.cache_core.specs.internal.cache.Indexed.{counts_of}
-use Rattle.cache_core.specs.internal.Touched.{ListsFilled}
+use Rattle.cache_core.specs.Touched.{ListsFilled}
 use Rattle.cache_core.proofs.cache.indexed.IndexedEmptying.{Emptying}
 use Rattle.cache_core.proofs.cache.indexed.emptying.empty_listed.Given as goal
 

@@ -4,11 +4,17 @@ use Rattle.trace_core.specs.declared.events.Event.{Event}
 use Rattle.cache_core.specs.declared.system.plan.PlannedCache.{PlannedCache}
 use Rattle.cache_core.specs.declared.system.plan.CacheName.TheVariants.{L1I, L1D, L1U}
 use Rattle.cache_core.specs.declared.system.system_cache.SystemCache.{SystemCache}
+use Rattle.cache_core.specs.cache.Order.{Contents}
+use Rattle.cache_core.specs.cache.Slab.{contents_of}
+use Rattle.cache_core.specs.cache.Stands.{CacheStandsFor}
+use Rattle.cache_core.specs.replacement.Chosen.{policy_of, random_numbers_of}
 use Rattle.cache_core.specs.system.Plans.{PlannedCaches}
-use Rattle.cache_core.specs.internal.cache.Stands.{CacheStandsFor}
-use Rattle.cache_core.specs.internal.system.CacheSteps.{system_cache_contents}
 use Rattle.cache_core.specs.system.Systems.{machine_of, events_for, lower_events, system_run}
-use Rattle.cache_core.specs.internal.system.SystemSteps.{SystemValue, stats_of}
+use Rattle.cache_core.specs.system.SystemSteps.{SystemValue, stats_of}
+
+-- the contents of a cache of a system
+abbrev pub system_cache_contents : SystemCache → Contents
+system_cache_contents cache = contents_of policy_of random_numbers_of cache.cache
 
 -- a cache of a system stands for the events that come to it
 abbrev pub PlannedCacheStandsFor : ℕ → Option PlannedCache → List Event →
