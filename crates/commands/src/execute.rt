@@ -9,13 +9,14 @@ use crate::din::din;
 use crate::log::log;
 use arguments::Job;
 use std::alloc::Global;
+use sweep_core::full::sweep_full;
 use sweep_core::sweep::sweep;
 use trace_core::{MAX_LINES, RunFault, Sink, Source};
 
 /// Does a job: it returns, reads and writes what the command of that name does.
 ///
-/// Errors: those of `csim`, `din`, `log` and `sweep`. The comparisons that `sweep` returns are
-/// dropped.
+/// Errors: those of `csim`, `din`, `log`, `sweep` and `sweep_full`. The comparisons that the sweeps
+/// return are dropped.
 pub fn execute<S: Source, K: Sink>(
     alloc: Global,
     job: &Job,
@@ -47,6 +48,10 @@ pub fn execute<S: Source, K: Sink>(
         } => log(alloc, plan, seed, format, max_lines, source, sink),
         Job::Sweep { request } => {
             sweep(alloc, &request, source, sink)?;
+            Ok(())
+        }
+        Job::FullSweep { request } => {
+            sweep_full(alloc, &request, source, sink)?;
             Ok(())
         }
     }
