@@ -27,6 +27,7 @@ LONG_LISTS = (
     f"If A is {NUMBER} or more, it takes at most {FORMULA} bytes: {NUMBER} MB for one set of "
     f"65,536 ways, {NUMBER} MB for the largest pair"
 )
+FULL = f"With `--full` a pair takes {FORMULA} bytes instead, and all pairs together {NUMBER} KiB"
 BATCH = f"All pairs together take {NUMBER} KiB more"
 # of docs/speed.md
 ALL_PAIRS = f"Sweeping all {PAIRS} pairs with one way takes {NUMBER} MB"
@@ -67,6 +68,11 @@ def told_of_pair(sets, ways):
     return value(formula, sets, ways)
 
 
+def told_of_full_pair(sets, ways):
+    """The same with --full."""
+    return value(told_by_the_manual(FULL)[0], sets, ways)
+
+
 def told_of_cache(sets, ways, policy="l"):
     """The bytes of a cache for so many sets and lines per set, by the letter of its policy."""
     line, set_, indexed, *others = told_by_the_manual(CACHES)
@@ -80,6 +86,12 @@ def pair(sets, ways):
     """A sweep of one pair, and its bytes."""
     words = ["sweep", "--bsize", "16", "--sets", f"{sets}", "--assoc", f"{ways}"]
     return [*words, "--size", "0-1g"], told_of_pair(sets, ways)
+
+
+def full_pair(sets, ways):
+    """The same of the full table."""
+    words, _ = pair(sets, ways)
+    return [*words, "--full"], told_of_full_pair(sets, ways)
 
 
 def cache(command, sets, ways, policy="l"):
@@ -127,6 +139,13 @@ def bytes_of_pairs(limits, told):
         limits.judge(name, good, f"not {most:g} MB", f"{megabytes:.2f} MB")
 
 
+def bytes_of_full_pairs(limits, told):
+    """In the full table each list of fewer than 256 ways is in rows."""
+    for sets, ways in ((1, 1), (2**20, 1), (1024, 2), (4096, 12), (8192, 32), (4096, 255)):
+        name = f"a full sweep with S = {sets} and A = {ways}"
+        limits.takes(name, full_pair(sets, ways), full_pair(16, 1), told)
+
+
 def bytes_of_tables(limits, told):
     """A pair counts with its greatest associativity, and only if it has a row. Of the first sizes,
     with blocks of 16 bytes, each cache has 2^11 to 2^15 lines, so each pair has a row."""
@@ -162,7 +181,9 @@ def bytes_of_caches(limits, told):
 def bytes_of_buffers(limits, large):
     [batch] = told_by_the_manual(BATCH)
     [buffer, same] = told_by_the_manual(BUFFERS, "docs/speed.md")
-    runs = pair(1, 1)[0], cache("din", 1, 1)[0], ["--help"]
-    sweep, din, none = (limits.asked(arguments, large)[0] / 1024 for arguments in runs)
+    _, of_full = told_by_the_manual(FULL)
+    runs = pair(1, 1)[0], full_pair(1, 1)[0], cache("din", 1, 1)[0], ["--help"]
+    sweep, full, din, none = (limits.asked(arguments, large)[0] / 1024 for arguments in runs)
     limits.equal("KiB of two buffers", din - none, 2 * buffer)
     limits.equal("KiB of references that wait", (sweep - din, same), (batch, batch))
+    limits.equal("KiB of references that wait in a full sweep", full - din, of_full)

@@ -351,6 +351,10 @@ def table(space):
                     yield b, s, e
 
 
+HEADER = "bsize,sets,assoc,size,hits,misses,evictions"
+MORE_OF_FULL = ("fetch miss", "read miss", "write miss", "copybacks")
+
+
 def sweep(job, text, write):
     entries, fault = read(job["format"], text)
     if fault:
@@ -358,12 +362,34 @@ def sweep(job, text, write):
     events = events_of(entries, job["kind"])
     rows = [row for row in table(job) if job["after"] is None or row > job["after"]]
     if job["after"] is None:
-        write("bsize,sets,assoc,size,hits,misses,evictions\n")
+        more = ",fetch-misses,read-misses,write-misses,copybacks" if job["full"] else ""
+        write(f"{HEADER}{more}\n")
     looked = {}
     for b, s, e in rows[: job["rows"]]:
-        if (b, s) not in looked:
-            looked[b, s] = windows(events, s.bit_length() - 1, b.bit_length() - 1)
-        write("%d,%d,%d,%d,%d,%d,%d\n" % (b, s, e, b * s * e, *counts(looked[b, s], e)))
+        bits = s.bit_length() - 1, b.bit_length() - 1
+        if job["full"]:
+            numbers = full_counts(events, *bits, e)
+        else:
+            if (b, s) not in looked:
+                looked[b, s] = windows(events, *bits)
+            numbers = counts(looked[b, s], e)
+        write(",".join(map(str, (b, s, e, b * s * e, *numbers))) + "\n")
+
+
+def full_counts(events, s, b, ways):
+    """The counts of a row of --full: what one LRU cache that allocates at writes and writes back
+    counts. What it holds dirty at the end is not copied back."""
+    cache = Machine(s, ways, b, repl="l", walloc="a", wback="a", words=None)
+    for event in events:
+        if event is FLUSH:
+            cache.flush()
+        else:
+            cache.step(event)
+    stats = cache.stats
+    more = [stats[name] for name in MORE_OF_FULL]
+    misses = sum(more[:3])
+    hits = stats["fetch"] + stats["read"] + stats["write"] - misses
+    return [hits, misses, stats["evictions"], *more]
 
 
 # ---- words
@@ -424,7 +450,7 @@ OPTIONS = {
     + [Option("-informat", one_of("dl")), Option("--seed", number), FILE],
     "sweep": [Option(f"--{name}", range_of, True) for name in ("bsize", "sets", "assoc", "size")]
     + [Option("--kind", one_of("udi")), Option("--format", one_of("dl")), Option("--after", triple)]
-    + [Option("--rows", number), Option("--pow2", None), FILE],
+    + [Option("--rows", number), Option("--pow2", None), Option("--full", None), FILE],
 }
 OPTIONS["log"] = OPTIONS["din"]
 
@@ -559,7 +585,8 @@ def sweep_job(values, texts):
             raise Fault(f"{name}: reversed range", 2)
     job = {name: values[f"--{name}"] for name in ("bsize", "sets", "assoc", "size")}
     job.update(kind=values.get("--kind", "u"), format=values.get("--format", "d"))
-    job.update(after=values.get("--after"), rows=values.get("--rows"), pow2="--pow2" in texts)
+    job.update(after=values.get("--after"), rows=values.get("--rows"))
+    job.update(pow2="--pow2" in texts, full="--full" in texts)
     return job
 
 

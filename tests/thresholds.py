@@ -290,7 +290,7 @@ def places_of_sweep(job, text, out):
     deepest = {(bsize, sets): ways for bsize, sets, ways in model.table(job)}
     found = set()
     for row in out.splitlines():
-        bsize, sets, ways, *_, evictions = row.split(",")
+        bsize, sets, ways, _, _, _, evictions = row.split(",")[:7]
         if evictions.isdecimal() and int(evictions):
             found.add(("sweep", "sets", int(sets)))
             if deepest[int(bsize), int(sets)] == int(ways):

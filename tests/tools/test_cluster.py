@@ -70,11 +70,12 @@ class Submitting(ToolTest):
     def test_same_bytes(self):
         pressed = self.folder / "a trace.gz"
         pressed.write_bytes(gzip.compress(TRACE.read_bytes()))
-        traces = (1, TRACE), (4, "a trace.gz"), (5, "./a trace.gz")
-        for number, (tasks, trace) in enumerate(traces):
-            said = self.good(self.submit(f"run {number}", tasks, trace, *SPACE))
+        runs = (1, TRACE), (4, "a trace.gz"), (5, "./a trace.gz"), (3, TRACE, "--full")
+        for number, (tasks, trace, *more) in enumerate(runs):
+            said = self.good(self.submit(f"run {number}", tasks, trace, *SPACE, *more))
             made = self.folder / f"run {number}"
-            self.assertEqual((made / "table.csv").read_text(), self.sweep(*SPACE, "-t", TRACE))
+            wanted = self.sweep(*SPACE, *more, "-t", TRACE)
+            self.assertEqual((made / "table.csv").read_text(), wanted)
             jobs = f"job {7 + 2 * number}: {tasks} pages; job {8 + 2 * number}"
             self.assertEqual(said, f"{jobs}: {made}/table.csv\n")
             self.assertEqual(len((made / "pages").read_text().splitlines()), tasks)

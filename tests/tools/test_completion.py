@@ -15,7 +15,7 @@ PLACES = {"bash": "bash-completion/completions/cachesim", "zsh": "zsh/site-funct
 CACHES = "size sets bsize assoc repl walloc wback"
 ONE_OR_TWO = ["informat", *(f"{cache}{option}" for cache in ("l1-i", "l1-d", "l1-u", "l2-u")
                             for option in CACHES.split())]
-SWEEP = "-h --help --bsize --sets --assoc --size --kind --format --after --rows --pow2"
+SWEEP = "-h --help --bsize --sets --assoc --size --kind --format --after --rows --pow2 --full"
 DIN = "-h --help --seed " + " ".join(f"-{name} --{name}" for name in ONE_OR_TWO)
 OPTIONS = {
     "cachesim sweep": f"{SWEEP} -t",

@@ -29,7 +29,7 @@ ANSWERS = (
         ("80+2/16", "7.082"), ("80+0.125", "7.082"), ("80", "6.792"), ("80+1/8", "7.082"),
         ("0+1", "3.317"), ("0", "1"), ("0.5", "1.036"))),
     ("--measure traffic --rows 9", "4096.csv", "bsize", "16 32 64 128 256"),
-    ("--measure traffic --rows 9", "4096.csv", "traffic", "13712 23168 44800 99584 243456"),
+    ("--measure traffic --rows 9", "4096.csv", "miss-traffic", "13712 23168 44800 99584 243456"),
     # a column of that name is what is compared
     ("--measure traffic", "named.csv", "traffic", "7"),
     # exactly, in cycles: 1 + 84 * 724 / 10,000 and 1 + 88 * 700 / 10,000
@@ -40,7 +40,7 @@ ANSWERS = (
     ("--miss-cost 80+2/16 --front", "t.csv", "bsize", "32 64 64 64"),
     ("--miss-cost 80+2/16 --front", "t.csv", "size", "4096 16384 65536 262144"),
     ("--miss-cost 80+2/16", "none.csv", "AMAT", "1"),
-    ("--measure traffic", "none.csv", "traffic", "0"),
+    ("--measure traffic", "none.csv", "miss-traffic", "0"),
 )
 WRONG = "x", "", "80+", "80+2/0", "80+2/", "80*2", "-1", "80+2/1.5", "1e3", "1/2", "1234567890"
 
@@ -87,10 +87,10 @@ class Costs(PlotTest):
             got = [row[column] for row in self.best(file, *words.split())[1]]
             self.assertEqual(" ".join(got), wanted, words)
         header, _ = self.best("4096.csv", "--measure", "traffic")
-        self.assertEqual(header, f"{table.HEADER},traffic")
+        self.assertEqual(header, f"{table.HEADER},miss-traffic")
         answer = self.run_tool("best", "4096.csv", "--measure", "traffic", "--rows", "2").stdout
         _, rows = self.best("-", "--measure", "traffic", stdin=answer)
-        self.assertEqual([row["traffic"] for row in rows], ["13712"])
+        self.assertEqual([row["miss-traffic"] for row in rows], ["13712"])
 
     def test_refused(self):
         ran = self.run_tool("best", "4096.csv", *BOOK, "--below", "7.0815")

@@ -136,9 +136,13 @@ class Manual(base.ToolTest):
         """The pages of the libraries tell what the manual tells, which tests/limits measures."""
         limits, page = importlib.import_module("limits_memory"), "CALLING.md"
         cost = section((base.TOP / "crates/profile_core" / page).read_text(), "Cost")
-        told, said = (re.findall(limits.FORMULA, it) for it in (section(MANUAL, "Limits"), cost))
+        plain, full = section(MANUAL, "Limits").split("With `--full`")
+        told, said = (re.findall(limits.FORMULA, it) for it in (plain, cost))
         self.assertEqual(len(told), 5)
         self.assertEqual(sorted(said), sorted(told))
+        of_full = re.findall(limits.FORMULA, full)[0]
+        cost = section((base.TOP / "crates/full_profile" / page).read_text(), "Cost")
+        self.assertEqual(re.findall(limits.FORMULA, cost), [of_full])
         caches = limits.told_by_the_manual(limits.CACHES)
         line, set_, ways, *indexed = caches
         self.assertEqual(ways, constant("cache_core", "cache/chosen.rt", "INDEXED_WAYS"))

@@ -49,18 +49,20 @@ class SecondLevel(log_base.Filtering, base.ToolTest):
             self.assertEqual(self.judge(text, *options).count("4 0\n"), 3)
 
     def compare(self, text, first, second, *more):
-        """Compares a sweep of the second level with `cachesim din` of both, in all its counts."""
+        """Compares a full sweep of the second level with `cachesim din` of both, in all its
+        counts."""
         stream = self.good(self.run_on("-", *first, *more, stdin=text))
         bsize, sets, ways = second
         space = ["--bsize", bsize, "--sets", sets, "--assoc", ways, "--size", bsize * sets * ways]
-        row = self.sweep(*space, stdin=stream.encode()).split("\n")[1].split(",")
+        row = self.sweep("--full", *space, stdin=stream.encode()).split("\n")[1].split(",")
         words = ("din", *first, *shape("l2-u", *second), *more)
         report = self.good(self.run_command(base.PROGRAM, *words, stdin=text))
         counted = re.findall(r"(\S+)=(\d+)", report.split("l2-u")[1].split("\n")[0])
         counted = {name: int(count) for name, count in counted}
         references = sum(counted[word] for word in ("fetches", "reads", "writes"))
-        misses = sum(counted[word] for word in ("fetch-misses", "read-misses", "write-misses"))
-        wanted = [references - misses, misses, counted["evictions"]]
+        kinds = [counted[word] for word in ("fetch-misses", "read-misses", "write-misses")]
+        misses = sum(kinds)
+        wanted = [references - misses, misses, counted["evictions"], *kinds, counted["copybacks"]]
         self.assertEqual(list(map(int, row[4:])), wanted, (first, second))
         return misses
 

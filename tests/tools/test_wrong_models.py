@@ -64,6 +64,16 @@ MISTAKES = {
     "a flush is no data": (
         "sweep-tables", "            events.append(FLUSH)\n",
         '            events += [FLUSH] * (kind != "d")\n'),
+    "what is dirty at the end is copied back": (
+        "sweep-full", "    stats = cache.stats\n", "    cache.flush()\n    stats = cache.stats\n"),
+    "a flush copies nothing back": (
+        "sweep-full", '        self.stats["copybacks"] += dirty\n', ""),
+    "misses of reads and of writes change places": (
+        "sweep-full", '"read miss", "write miss", "copybacks")',
+        '"write miss", "read miss", "copybacks")'),
+    "a block that is placed after a write is dirty": (
+        "sweep-full", "        self.held[block] = [key, False]\n",
+        "        self.held[block] = [key, self.stats['write'] > 0]\n"),
     "a number has at most 20 digits": (
         "sweep-words", 'if re.fullmatch("[0-9]+", text)', 'if re.fullmatch("[0-9]{1,20}", text)'),
     "the ends of a range differ": (

@@ -49,16 +49,18 @@ def number_text(value):
 
 def of_sweep(asked, lines, name):
     """The lines of the answer for a table of a sweep."""
-    measure, rows = costs.column_of(asked), costs.rows_of(asked, lines, name)
+    measure, rows = costs.name_of(asked, lines), costs.rows_of(asked, lines, name)
     if len({row.references for row in rows}) > 1:
         raise table.BadTable(f"{asked.table}: rows of several traces: they count different numbers"
                              " of references")
-    added = [] if measure in table.HEADER.split(",") else [measure]
+    own = table.own_columns(lines)
+    added = [] if measure in own else [measure]
     is_count = rows[0].is_count
-    yield ",".join([table.HEADER, *added, *["percent"] * is_count])
+    yield ",".join([*own, *added, *["percent"] * is_count])
     for row in chosen(asked, rows, is_count):
         values = [number_text(row.value) for _ in added]
-        yield ",".join([*map(str, row[:7]), *values, *[f"{row.shown:.3f}"] * is_count])
+        counts = [*row[:table.COLUMNS], *row.more]
+        yield ",".join([*map(str, counts), *values, *[f"{row.shown:.3f}"] * is_count])
 
 
 def of_din(asked, lines, name):

@@ -5,7 +5,7 @@ import re
 
 from lib import tool
 
-TRAFFIC, ACCESS_TIME = "traffic", "AMAT"
+TRAFFIC, MISS_TRAFFIC, ACCESS_TIME = "traffic", "miss-traffic", "AMAT"
 NUMBER = "([0-9]{1,9}(?:[.][0-9]{1,9})?)"
 HIT = 1  # cycles of a hit
 
@@ -48,6 +48,27 @@ def column_of(asked):
     return ACCESS_TIME if asked.miss_cost else asked.measure or "misses"
 
 
+def is_made(asked, lines):
+    """Whether it is made of the block size and the counts, and no column is named so."""
+    columns = "".join(lines[:1]).strip().split(",")
+    return column_of(asked) in (TRAFFIC, MISS_TRAFFIC) and column_of(asked) not in columns
+
+
+def name_of(asked, lines):
+    """What the answer calls it. Without copybacks traffic is that of the misses alone."""
+    from lib import table
+    has_copybacks = "copybacks" in table.own_columns(lines)
+    if is_made(asked, lines) and not has_copybacks:
+        return MISS_TRAFFIC
+    return column_of(asked)
+
+
+def traffic(row, name):
+    """The bytes that misses bring in and, if the name says no other, copybacks carry out."""
+    copybacks = row.more[-1] if row.more and name == TRAFFIC else 0
+    return row.bsize * (row.misses + copybacks)
+
+
 def rows_of(asked, lines, name):
     """The rows of a sweep's table with what is asked for. A column named so comes before what would
     be made of the block size and the misses."""
@@ -56,9 +77,9 @@ def rows_of(asked, lines, name):
     if asked.miss_cost:
         def made(row):
             return access_time(row, asked.miss_cost)
-    elif column == TRAFFIC and TRAFFIC not in "".join(lines[:1]).strip().split(","):
+    elif is_made(asked, lines):
         def made(row):
-            return row.bsize * row.misses
+            return traffic(row, column)
     else:
         return table.read_table(lines, name, column)
     return [row._replace(value=made(row), is_count=False)

@@ -8,22 +8,28 @@ from lib.files import spare
 from lib.tool import faults_of, warn
 
 HEADER = "bsize,sets,assoc,size,hits,misses,evictions"
+# what `cachesim sweep --full` adds
+OF_FULL = ("fetch-misses", "read-misses", "write-misses", "copybacks")
+FULL_HEADER = ",".join([HEADER, *OF_FULL])
+COLUMNS = len(HEADER.split(","))
 # columns that count references, those of `three-c` too: they are shown in per cent of all
 # references, and any other column, such as one of cycles, in its own unit
-COUNTS = ("hits", "misses", "evictions", "compulsory", "capacity", "conflict")
+COUNTS = ("hits", "misses", "evictions", "compulsory", "capacity", "conflict", *OF_FULL)
 # which `three-c` leaves empty for a cache of too many lines
 MAY_BE_EMPTY = ("capacity", "conflict")
 # no longer than a picture's axis can bear; a field that may be empty; any field
 WHOLE, PERHAPS, ANY = "[0-9]{1,64}", "[0-9]{0,64}", "[^,]*"
 # conflict misses may be below 0
 NUMBER = re.compile("-?[0-9]{1,64}([.][0-9]{1,64})?")
+PAGE_OF_FULL = re.compile(",".join([WHOLE] * len(FULL_HEADER.split(","))))
 # an option of a cache, as a column of a table of din-table has it
 OPTION = re.compile("(l[12]-[diu])(size|sets|bsize|assoc|repl|walloc|wback)")
 
 
-class Row(namedtuple("Row", f"{HEADER},value,is_count", defaults=(None, True))):
+class Row(namedtuple("Row", f"{HEADER},value,is_count,more", defaults=(None, True, ()))):
     """A cache, and what a sweep counted for it. `value` is that of the measure, where this is not
-    its misses, and `is_count` whether it counts references."""
+    its misses, and `is_count` whether it counts references. `more` are the counts of a full table:
+    misses by kind, and copybacks."""
 
     __slots__ = ()
 
@@ -62,6 +68,14 @@ class Row(namedtuple("Row", f"{HEADER},value,is_count", defaults=(None, True))):
     def ties(self):
         """Of caches that are alike in size and measure the one where this is less comes first."""
         return self.assoc, self.bsize, self.sets
+
+
+def own_columns(lines):
+    """The columns that a sweep wrote, plain or full; those behind them were added. Of a page, which
+    has no header, how many numbers there are tells which it is."""
+    first = "".join(lines[:1]).rstrip("\r\n")
+    is_full = f"{first},".startswith(f"{FULL_HEADER},") or PAGE_OF_FULL.fullmatch(first)
+    return (FULL_HEADER if is_full else HEADER).split(",")
 
 
 class BadTable(Exception):
@@ -114,12 +128,15 @@ def read_table(lines, name, measure="misses"):
     only the measure is read."""
     judge_end(lines, name)
     rows, seen, empty = [], set(), 0
-    own, first = HEADER.split(","), "".join(lines[:1]).rstrip("\r\n").split(",")
+    own, first = own_columns(lines), "".join(lines[:1]).rstrip("\r\n").split(",")
     columns = first if first[:len(own)] == own else own
     forms = [WHOLE] * len(own) + [ANY] * (len(columns) - len(own))
     for number, fields in rows_of(lines, name, columns, forms, "a sweep's table"):
         numbers, value = [*map(int, fields[:len(own)])], None
         bsize, sets, assoc, size = numbers[:4]
+        more = tuple(numbers[COLUMNS:])
+        if more and sum(more[:-1]) != numbers[5]:
+            raise BadTable(f"{name}: line {number}: misses are not the sum of those by kind")
         if size != bsize * sets * assoc:
             raise BadTable(f"{name}: line {number}: size is not bsize * sets * assoc")
         if (bsize, sets, assoc) in seen:
@@ -131,7 +148,7 @@ def read_table(lines, name, measure="misses"):
                 empty += 1
                 continue
             value = number_of(field, measure, f"{name}: line {number}")
-        rows.append(Row(*numbers, value, measure in COUNTS))
+        rows.append(Row(*numbers[:COLUMNS], value, measure in COUNTS, more))
     if not rows:
         what = f"any {measure}" if empty else "a row"
         raise BadTable(f"{name}: a table without {what}")
