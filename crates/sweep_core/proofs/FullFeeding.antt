@@ -7,7 +7,6 @@ use Rattle.std.proofs.lemmas.List.{length-map}
 use Rattle.std.specs.List.{AllByRecursion as Each}
 use Rattle.std.proofs.Math.ListN.{set}
 use Rattle.std.proofs.lemmas.List.Edits.{map_over_more}
-use Rattle.trace_core.specs.declared.events.Event.{Event}
 use Rattle.trace_core.specs.declared.events.Ref.{Ref}
 use Rattle.cache_core.proofs.Lists.{cases}
 use Rattle.profile_core.specs.profile.Fronts.{is_refined}
@@ -16,7 +15,7 @@ use Rattle.full_profile.specs.Batches.{after_full_batch, unsettled, after_unless
 use Rattle.full_profile.specs.Batches.{is_settled}
 use Rattle.full_profile.proofs.BatchLemmas.{enough, enough_left, geometry_batch}
 use Rattle.sweep_core.specs.declared.full.profiles.FullPair.{FullPair}
-use Rattle.sweep_core.specs.internal.Full.{full_pair_fed, full_pairs_fed, AreFedFull, WereFedAlike}
+use Rattle.sweep_core.specs.internal.Full.{full_pair_fed, WereFedAlike}
 use Rattle.sweep_core.proofs.Passes.{unreached}
 
 -- a profile leaves no more than it is given
@@ -50,8 +49,12 @@ pub as_many : {at given : ℕ} {refs left : List Ref} {old now : List FullPair} 
     IsFedUpTo at given refs left old now → length now ≡ length old
 as_many {at} {given} {refs} {left} {old} {now} h =
     ap length h.fed ∙ length-append (map (full_pair_fed refs) (take at old)) (drop at old)
-    ∙ omega (arith, length-map (take at old) (full_pair_fed refs), length-take at old,
-    length-drop at old)
+    ∙ omega (
+      arith,
+      length-map (take at old) (full_pair_fed refs),
+      length-take at old,
+      length-drop at old,
+    )
 
 pub any_default : (xs : List FullPair) (i : ℕ) (d e : FullPair) → i < length xs →
     get_or xs i d ≡ get_or xs i e

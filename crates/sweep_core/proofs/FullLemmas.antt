@@ -1,8 +1,8 @@
 -- The profiles of a full sweep: references that wait, settled ones that are counted later, and
 -- events.
-use Rattle.std.proofs.Common.{◌≡◌, ℕ, zero, suc, ◌+◌, ◌-◌, ◌<◌, ◌≤◌, ◌/◌, ◌^◌, Bool, true, false, cond}
+use Rattle.std.proofs.Common.{◌≡◌, ℕ, ◌+◌, ◌-◌, ◌<◌, ◌≤◌, ◌/◌, ◌^◌, true, false, cond}
 use Rattle.std.proofs.Common.{List, [], ◌∷◌, ◌++◌, map, take, length, get_or, fold, refl, sym, ap}
-use Rattle.std.proofs.Common.{◌∙◌, subst, arith, length-append, Option, None, Some, append-nil}
+use Rattle.std.proofs.Common.{◌∙◌, subst, arith, length-append, Option, None, Some}
 use Rattle.std.specs.Prelude.{filter, min}
 use Rattle.std.specs.List.{flat_map, AllByRecursion as Each}
 use Rattle.std.proofs.Math.Nat.{div-div-eq-div-mul}
@@ -19,26 +19,26 @@ use Rattle.trace_core.specs.declared.events.Event.TheVariants as event
 use Rattle.trace_core.specs.declared.events.Item.{Item}
 use Rattle.trace_core.specs.declared.events.Kind.{Kind}
 use Rattle.trace_core.specs.declared.events.Ref.{Ref}
-use Rattle.trace_core.specs.Events.{events_of, is_kept, references, is_write, at}
+use Rattle.trace_core.specs.Events.{events_of, is_kept, references, at}
 use Rattle.trace_core.proofs.EntryEvents.{events_more, one_event, two_events}
 use Rattle.cache_core.specs.Geometry.{GeometryValue, block_of}
 use Rattle.cache_core.proofs.Lists.{cases}
 use Rattle.profile_core.specs.profile.State.{fed_of}
 use Rattle.profile_core.specs.internal.profile.StackProfile.{most_references}
-use Rattle.full_profile.specs.State.{FullState, empty_full, full_after, after_full_event}
+use Rattle.full_profile.specs.State.{FullState, after_full_event}
 use Rattle.full_profile.specs.State.{after_full_reference, after_full_flush, after_end}
 use Rattle.full_profile.specs.Batches.{after_unless_settled, after_full_batch, with_settled, WasFed}
 use Rattle.full_profile.specs.Batches.{LagsBehind}
-use Rattle.full_profile.specs.Batches.{is_settled, after_settled}
+use Rattle.full_profile.specs.Batches.{after_settled}
 use Rattle.full_profile.proofs.BatchLemmas.{fed_batch, fed_flush, fit_fed}
 use Rattle.full_profile.proofs.BatchLemmas.{settled_again, geometry_unless, as_events}
 use Rattle.full_profile.proofs.laws.Later.{settled_none, caught_more, flush_settled, lags_new}
 use Rattle.sweep_core.specs.internal.Pass.{kept_events}
-use Rattle.sweep_core.proofs.Lists.{Each-weaker, Each-map}
+use Rattle.sweep_core.proofs.Lists.{Each-weaker}
 use Rattle.sweep_core.specs.declared.full.profiles.FullPair.{FullPair}
 use Rattle.sweep_core.specs.internal.Full.{full_pair_fed, full_pairs_fed, full_pair_caught, full_pairs_caught}
-use Rattle.sweep_core.specs.internal.Full.{full_pair_ended, full_pairs_ended, full_pair_flushed, full_pair_after}
-use Rattle.sweep_core.specs.internal.Full.{full_pairs_after, full_pairs_after_all, full_pair_after_all}
+use Rattle.sweep_core.specs.internal.Full.{full_pairs_ended, full_pair_flushed, full_pair_after}
+use Rattle.sweep_core.specs.internal.Full.{full_pairs_after, full_pairs_after_all}
 use Rattle.sweep_core.specs.internal.Full.{FedFullAtMost, IsNewPair, AreFedFull, WereFedAlike, FullWaiting}
 use Rattle.sweep_core.specs.internal.Full.{is_repeated, repeats_last, with_waiting_ref, AreNoFinerFull}
 use Rattle.sweep_core.specs.internal.Full.{finest_full_bits}

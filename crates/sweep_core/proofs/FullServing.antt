@@ -1,5 +1,5 @@
 -- A walk over the rows of the profiles of a full sweep.
-use Rattle.std.proofs.Common.{◌≡◌, ℕ, zero, suc, ◌-◌, ◌≤◌, Bool, Option, None, Some, List, [], ◌∷◌}
+use Rattle.std.proofs.Common.{◌≡◌, ℕ, zero, suc, ◌-◌, ◌≤◌, Bool, Option, Some, List, [], ◌∷◌}
 use Rattle.std.proofs.Common.{◌++◌, map, refl, sym, ap, ◌∙◌, arith, subst}
 use Rattle.std.specs.Prelude.{nat_lt}
 use Rattle.std.specs.Bool.{then_some}

@@ -8,9 +8,8 @@ use Rattle.std.proofs.lemmas.Simd.{map-map}
 use Rattle.trace_core.specs.declared.events.Event.{Event}
 use Rattle.cache_core.specs.Geometry.{GeometryValue, IsGeometry, geometry_value}
 use Rattle.cache_core.specs.Powers.{log2}
-use Rattle.profile_core.specs.profile.State.{after_event}
 use Rattle.full_profile.specs.declared.counts.FullCounts.{FullCounts}
-use Rattle.full_profile.specs.State.{FullState, after_full_event, after_end, full_after, empty_full}
+use Rattle.full_profile.specs.State.{after_full_event, after_end, empty_full}
 use Rattle.full_profile.specs.State.{full_counts_at}
 use Rattle.full_profile.specs.LookBack.{full_counts}
 use Rattle.full_profile.proofs.laws.Runs.{plain_from}
@@ -19,7 +18,7 @@ use Rattle.sweep_core.specs.declared.space.Config.{Config}
 use Rattle.sweep_core.specs.declared.request.Request.{Request}
 use Rattle.sweep_core.specs.declared.profiles.PairProfile.{PairProfile}
 use Rattle.sweep_core.specs.SweepText.{configs_of, rows_of}
-use Rattle.sweep_core.specs.Work.{pair_of, work, depth, geometry_of_pair}
+use Rattle.sweep_core.specs.Work.{pair_of, geometry_of_pair}
 use Rattle.sweep_core.specs.internal.Pass.{SweepStandsFor, WasFed, pair_after_events, profiles_after}
 use Rattle.sweep_core.specs.internal.Runs.{rows_of_profile, run_of, Serves, ServesRows}
 use Rattle.sweep_core.proofs.Lists.{Each-weaker}
@@ -28,7 +27,7 @@ use Rattle.sweep_core.proofs.Serving.{swept-serve}
 use Rattle.sweep_core.proofs.Standing.{work-is, fed-after, geometry-kept}
 use Rattle.sweep_core.specs.declared.full.profiles.FullPair.{FullPair}
 use Rattle.sweep_core.specs.internal.FullRuns.{plain_pair, full_counted_profiles, ServesFull}
-use Rattle.sweep_core.specs.internal.Full.{full_pair_after, full_pairs_after, full_pair_after_all, IsFedFor}
+use Rattle.sweep_core.specs.internal.Full.{full_pairs_after, IsFedFor}
 use Rattle.sweep_core.specs.internal.Full.{FullStandsFor, IsNewPair}
 use Rattle.sweep_core.specs.FullText.{full_row_counts}
 use Rattle.sweep_core.specs.FullRows.{full_counted_rows, FullCountedSweep, full_counted_sweep}

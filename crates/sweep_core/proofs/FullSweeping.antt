@@ -1,5 +1,5 @@
 -- What a full sweep has read, fed and written when it ends.
-use Rattle.std.proofs.Common.{◌≡◌, ℕ, List, [], ◌∷◌, ◌++◌, Some, None, Result, Err, map, refl}
+use Rattle.std.proofs.Common.{◌≡◌, ℕ, List, [], ◌++◌, Result, Err, map, refl}
 use Rattle.std.proofs.Common.{sym, ap, ◌∙◌, subst}
 use Rattle.std.specs.Prelude.{flat_map, sum_by, OnOk}
 use Rattle.std.proofs.lemmas.Option.{IfSome_then}
@@ -13,14 +13,14 @@ use Rattle.trace_core.specs.declared.state.ReaderState.TheVariants as state
 use Rattle.trace_core.specs.Device.{SourceView, SinkView}
 use Rattle.trace_core.specs.Events.{events_of}
 use Rattle.trace_core.specs.Reader.{Progress}
-use Rattle.trace_core.specs.Reading.{events, first_fault}
+use Rattle.trace_core.specs.Reading.{events}
 use Rattle.trace_core.specs.Task.{Performs, Finished}
 use Rattle.trace_core.proofs.Tasks.{ReadWhole, if_known}
 use Rattle.trace_core.proofs.Performing.{Stopped-at, Performs-trace}
 use Rattle.trace_core.proofs.Written.{Wrote-none}
 use Rattle.sweep_core.specs.declared.request.Request.{Request}
 use Rattle.sweep_core.specs.declared.full.profiles.FullPair.{FullPair}
-use Rattle.sweep_core.specs.SweepText.{configs_of, rows_of}
+use Rattle.sweep_core.specs.SweepText.{rows_of}
 use Rattle.sweep_core.specs.FullText.{full_header_of, full_csv_rows, full_table_text}
 use Rattle.sweep_core.specs.FullText.{full_sweep_text, full_sweep_task}
 use Rattle.sweep_core.specs.FullRows.{FullCountedSweep, full_counted_sweep, ReadsFullCounts}

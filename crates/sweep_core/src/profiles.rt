@@ -56,7 +56,11 @@ pub(crate) fn make_profiles(
 
 /// Takes the next pair that has a row, from the pair with the index `pair` on, and returns its
 /// rows. Afterwards `pair` is the index to go on from, and `most` how many rows may still follow.
-pub(crate) fn take_pair(request: &Request, pair: &mut u32, most: &mut Option<u64>) -> Option<PairRows>
+pub(crate) fn take_pair(
+    request: &Request,
+    pair: &mut u32,
+    most: &mut Option<u64>,
+) -> Option<PairRows>
     ensures rows { MatchOption result (rows_left request.now pair.old most.old ≡ [])
         (λ rows. BeginsWith request.now.space.powers (rows_left request.now pair.old most.old)
         (rows.first, rows.count) (rows_left request.now pair.new most.new)) }

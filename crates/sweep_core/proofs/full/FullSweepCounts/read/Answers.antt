@@ -1,16 +1,15 @@
 -- The profiles were fed what was read, and have counted it.
-use Rattle.std.proofs.Common.{◌≡◌, sym, subst, arith, ap, ◌∙◌}
+use Rattle.std.proofs.Common.{◌≡◌, sym, subst, arith}
 use Rattle.std.specs.List.{AllByRecursion as Each}
 use Rattle.std.specs.Vec.{with_items}
 use Rattle.std.proofs.lemmas.List.{take_at}
 use Rattle.trace_core.specs.declared.state.ReaderState.{ReaderState}
 use Rattle.trace_core.proofs.Runs.{Reached-from}
 use Rattle.sweep_core.specs.Rows.{ReadsTo, events_read}
-use Rattle.sweep_core.specs.FullRows.{full_counted_sweep}
 use Rattle.sweep_core.specs.internal.Full.{IsNewPair}
 use Rattle.sweep_core.specs.internal.FullRuns.{ServesFull}
 use Rattle.sweep_core.proofs.Sweeping.{faultless-known}
-use Rattle.sweep_core.proofs.FullStanding.{full-serve, full-counted-is, fresh-full}
+use Rattle.sweep_core.proofs.FullStanding.{full-serve, fresh-full}
 use Rattle.sweep_core.proofs.FullSweeping.{FullEnded, ended-after, full-counts-known, counted-ended}
 use Rattle.sweep_core.proofs.full.FullSweepCounts.read.Given as given
 use Rattle.sweep_core.proofs.full.FullSweepCounts.read.Goals as goal

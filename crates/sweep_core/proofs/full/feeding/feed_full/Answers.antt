@@ -1,5 +1,5 @@
 -- The profile at the index is fed what it is given: all, or what the one before has left.
-use Rattle.std.proofs.Common.{◌≡◌, ◌≤◌, ◌<◌, ◌+◌, ◌-◌, ◌++◌, ◌∙◌, sym, ap, ap₂, subst, arith, take, drop}
+use Rattle.std.proofs.Common.{◌≡◌, ◌<◌, ◌-◌, ◌++◌, ◌∙◌, sym, ap, ap₂, arith, take, drop}
 use Rattle.std.proofs.Common.{get_or, length, length-append, length-take, length-drop, List}
 use Rattle.std.proofs.lemmas.List.{take_all, take-append-le}
 use Rattle.trace_core.specs.declared.events.Ref.{Ref}
@@ -29,8 +29,15 @@ loop-at-preserved c =
           ap length (w.left-is ∙ w.copy_from_slice.ensures.after) in
           all_fed h c.requires.alike (omega (arith, c.loop-at-test.true, ap length h.fed)) x
           fed.result (fed.new.refs ++ rest)
-          (omega (arith, length-append fed.new.refs rest, fed.ensures.length, ap length all, long,
-          length-drop c.if-at-eq0.given c.if-at-eq0.left, w.given-is))
+          (omega (
+            arith,
+            length-append fed.new.refs rest,
+            fed.ensures.length,
+            ap length all,
+            long,
+            length-drop c.if-at-eq0.given c.if-at-eq0.left,
+            w.given-is,
+          ))
           (omega (arith, fed.ensures.within, fed.ensures.length, ap length all))
           fed.new.self (fed.ensures.step ∙ ap (after_full_batch _) all)
           (left_is ∙ ap (unsettled _) all)
@@ -42,11 +49,21 @@ loop-at-preserved c =
           let e = w.index-all-at.result in
           let refined = sym w.is_refined_by.ensures ∙ w.if-not-is_refined_by.false in
           rest_fed h c.requires.alike inside x fed.result (fed.new.refs ++ rest)
-          (omega (arith, length-append fed.new.refs rest, fed.ensures.length, long,
-          length-take c.if-at-eq0.given c.if-at-eq0.left,
-          length-drop c.if-at-eq0.given c.if-at-eq0.left))
-          (omega (arith, fed.ensures.within, fed.ensures.length, long,
-          length-take c.if-at-eq0.given c.if-at-eq0.left))
+          (omega (
+            arith,
+            length-append fed.new.refs rest,
+            fed.ensures.length,
+            long,
+            length-take c.if-at-eq0.given c.if-at-eq0.left,
+            length-drop c.if-at-eq0.given c.if-at-eq0.left,
+          ))
+          (omega (
+            arith,
+            fed.ensures.within,
+            fed.ensures.length,
+            long,
+            length-take c.if-at-eq0.given c.if-at-eq0.left,
+          ))
           (omega (arith, w.if-at-eq0.false)) e
           (ap (λ y. is_refined (get_or c.loop-at.profiles (c.loop-at.at - 1) e).profile.plain.geometry
           y.profile.plain.geometry)

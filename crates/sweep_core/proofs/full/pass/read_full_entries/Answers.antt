@@ -1,6 +1,5 @@
 -- Each entry that is read is fed, and the pass ends as the reader does.
-use Rattle.std.proofs.Common.{◌≡◌, map, ◌∷◌, ◌++◌, [], length-append, sym, ap, ◌∙◌, subst, arith, refl}
-use Rattle.std.specs.List.{flat_map}
+use Rattle.std.proofs.Common.{◌≡◌, map, ◌∷◌, [], length-append, sym, ap, ◌∙◌, subst, arith, refl}
 use Rattle.trace_core.specs.Events.{events_of}
 use Rattle.trace_core.specs.Task.{entries_of}
 use Rattle.trace_core.proofs.WholeTraces.{holds-less, reads-end, reads-fault, reads-more}

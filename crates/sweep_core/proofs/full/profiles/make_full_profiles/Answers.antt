@@ -1,8 +1,6 @@
 -- A profile is made for the next pair, until no row is left.
-use Rattle.std.proofs.Common.{◌≡◌, ◌++◌, ◌∙◌, [], ◌∷◌, refl, sym, ap, subst, map}
-use Rattle.std.specs.List.{AllByRecursion as Each}
+use Rattle.std.proofs.Common.{[], refl, sym, ap, subst}
 use Rattle.std.proofs.lemmas.List.{map-append}
-use Rattle.full_profile.specs.State.{empty_full}
 use Rattle.sweep_core.specs.Table.{first_rows}
 use Rattle.sweep_core.specs.internal.FullRuns.{plain_pair}
 use Rattle.sweep_core.proofs.Lists.{Each-append}
@@ -16,9 +14,12 @@ use Rattle.sweep_core.proofs.full.profiles.make_full_profiles.Goals as goal
 
 pub loop-rows-init : goal.loop-rows-init
 loop-rows-init c =
-    rw c.new-made.ensures.items ((subst (λ rows. Making c.args.request.now []
-    (first_rows c.args.request.now.rows rows))
-    (sym c.first_pair-pair.ensures.rows) (making-start c.args.request.now)), tt)
+    rw c.new-made.ensures.items (
+      (subst (λ rows. Making c.args.request.now []
+          (first_rows c.args.request.now.rows rows))
+          (sym c.first_pair-pair.ensures.rows) (making-start c.args.request.now)),
+      tt,
+    )
 
 pub loop-rows-smaller : goal.loop-rows-smaller
 loop-rows-smaller c = begins-shorter c.in-Some.ensures.rows
