@@ -18,7 +18,8 @@ use Rattle.profile_core.specs.internal.profile.State.{after_reference, after_flu
 use Rattle.full_profile.specs.declared.counts.FullCounts.{FullCounts}
 
 -- The misses of one kind of access that caches of some associativities have: `behind` counts the
--- blocks that were found at each stack distance from 1 on, and `missed` those not found in the list.
+-- blocks that were found at each stack distance from 1 on, and `missed` those not found in the
+-- list.
 pub record KindState : Type 0 where
   pub behind : List ℕ
   pub missed : ℕ
@@ -86,8 +87,8 @@ with_miss block blocks kind =
     then record kind { behind = one_more_at kind.behind (index_of block blocks) }
     else record kind { missed = kind.missed + 1 }
 
--- The copybacks that a reference shows. The caches that miss a block of the list have evicted it; and
--- where it is not in a full list, all caches have evicted the last one of it.
+-- The copybacks that a reference shows. The caches that miss a block of the list have evicted it;
+-- and where it is not in a full list, all caches have evicted the last one of it.
 abbrev pub after_evictions : ℕ → ℕ → List ℕ → List ℕ → FullState → FullState
 after_evictions depth block blocks cleans v =
     if is_in block blocks

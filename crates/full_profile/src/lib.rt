@@ -1,5 +1,5 @@
-//! The whole report of LRU caches with write-allocate and write-back, of every associativity up to a
-//! depth, in one pass: hits, misses by kind of access, evictions, and copybacks.
+//! The whole report of LRU caches with write-allocate and write-back, of every associativity up to
+//! a depth, in one pass: hits, misses by kind of access, evictions, and copybacks.
 #![tactic(auto)]
 
 mod copies;
