@@ -1,5 +1,6 @@
 //! Copybacks, counted for all associativities at once.
-ghost use Rattle.std.specs.Prelude.{◌≡◌, ◌+◌, ◌-◌, ◌*◌, ◌^◌, ◌<◌, ◌≤◌, IfOk, length, sum, take, drop};
+ghost use Rattle.std.specs.Prelude.{◌≡◌, ◌+◌, ◌-◌, ◌*◌, ◌^◌, ◌<◌, ◌≤◌, IfOk, length, sum, take};
+ghost use Rattle.std.specs.Prelude.{drop};
 ghost use Rattle.full_profile.specs.internal.Copies.{no_copies, with_copy, with_copies_of};
 ghost use Rattle.full_profile.specs.internal.Copies.{up_to_of};
 

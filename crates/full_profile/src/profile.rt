@@ -1,5 +1,5 @@
-//! A full profile: one pass over references that counts all that caches of every associativity up to
-//! a depth do.
+//! A full profile: one pass over references that counts all that caches of every associativity up
+//! to a depth do.
 mod full_sums;
 mod numbers;
 mod stack_profile;
@@ -64,9 +64,9 @@ impl FullProfile {
         self.kept.geometry().b()
     }
 
-    /// Whether a reference that is settled in this profile is always settled in `finer` too, if both
-    /// are fed the same. It is so if `finer` has the same block size and at least as many sets, or
-    /// if this profile has one set and `finer`'s blocks are at least as large.
+    /// Whether a reference that is settled in this profile is always settled in `finer` too, if
+    /// both are fed the same. It is so if `finer` has the same block size and at least as many
+    /// sets, or if this profile has one set and `finer`'s blocks are at least as large.
     pub fn is_refined_by(&self, finer: &FullProfile) -> bool
         ensures { result ≡ is_refined self.now.plain.geometry finer.now.plain.geometry }
     {
@@ -114,9 +114,9 @@ impl FullProfile {
         self.kept.empty(Emptying::Flush);
     }
 
-    /// Counts the copybacks of the blocks that caches have evicted since the references that brought
-    /// them: after the last event, before `counts_next`. The lists are empty then. What a cache
-    /// still holds is not copied back.
+    /// Counts the copybacks of the blocks that caches have evicted since the references that
+    /// brought them: after the last event, before `counts_next`. The lists are empty then. What a
+    /// cache still holds is not copied back.
     pub fn end(&mut self)
         ensures { self.new ≡ after_end self.old }
     {
@@ -147,9 +147,9 @@ impl FullProfile {
     }
 
     /// The counts of an LRU cache of `e` lines per set, over all references fed, once `end` was
-    /// called. `begin_sums` of this profile began the sums. They are raised to `e` lines per set, so
-    /// `e` may only rise from call to call, and nothing may be fed in between. A call adds only the
-    /// numbers of the histograms between the two associativities.
+    /// called. `begin_sums` of this profile began the sums. They are raised to `e` lines per set,
+    /// so `e` may only rise from call to call, and nothing may be fed in between. A call adds only
+    /// the numbers of the histograms between the two associativities.
     pub fn counts_next(&self, sums: &mut FullSums, e: u64) -> FullCounts
         requires some { 1 ≤ e }
         requires within { e ≤ self.now.plain.geometry.e }

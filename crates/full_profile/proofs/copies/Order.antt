@@ -1,5 +1,5 @@
--- A copyback begins at fewer ways than it ends, so up to each number of ways as many begin as end, or
--- more.
+-- A copyback begins at fewer ways than it ends, so up to each number of ways as many begin as end,
+-- or more.
 use Rattle.std.proofs.Common.{◌≡◌, ℕ, zero, suc, ◌+◌, ◌<◌, ◌≤◌, Bool, true, false, cond, ltb}
 use Rattle.std.proofs.Common.{List, [], ◌∷◌, length, take, get_or, sum, refl, ◌∙◌, ap}
 use Rattle.std.proofs.Common.{arith, length-set, inl, inr}

@@ -1,6 +1,8 @@
 -- Parts of n numbers of an array, as rows are: what is read of one, and one of them written anew.
-use Rattle.std.proofs.Common.{◌≡◌, ℕ, ◌+◌, ◌*◌, ◌-◌, ◌<◌, ◌≤◌, List, [], length, take, drop, inl, inr}
-use Rattle.std.proofs.Common.{get_or, set, sym, ◌∙◌, ap, arith, length-drop, get_or-take, length-set}
+use Rattle.std.proofs.Common.{◌≡◌, ℕ, ◌+◌, ◌*◌, ◌-◌, ◌<◌, ◌≤◌, List, [], length, take, drop, inl}
+use Rattle.std.proofs.Common.{inr}
+use Rattle.std.proofs.Common.{get_or, set, sym, ◌∙◌, ap, arith, length-drop, get_or-take}
+use Rattle.std.proofs.Common.{length-set}
 use Rattle.std.proofs.Common.{get_or-drop, get_or-set_same, get_or-set_other, Vec}
 use Rattle.std.proofs.Math.Nat.{mul-le-mul_right}
 use Rattle.std.proofs.lemmas.Bool.{cases_lt, cases_eq}

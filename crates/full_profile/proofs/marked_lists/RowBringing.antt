@@ -63,7 +63,8 @@ pub row_grown : (y n i last : ℕ) (row now : List ℕ) → n < length row →
     ≡ take (length row) (y ∷ remove (take n row) i)
 row_grown y n i last row now lt at is last_is =
     let size : length (take n row) ≡ n = length-take-le n row (omega (arith, lt)) in
-    let whole : remove (take n row) i ≡ take n row = remove_end (take n row) i (omega (arith, at)) in
+    let whole : remove (take n row) i ≡ take n row = remove_end (take n row) i (omega (arith, at))
+    in
     let before : now ≡ take n (y ∷ take n row) =
     is ∙ ap (λ j. take j (y ∷ remove (take n row) i)) size ∙ ap (λ l. take n (y ∷ l)) whole in
     let out : last ≡ get_or (y ∷ take n row) n 0 =

@@ -14,7 +14,8 @@ use Rattle.profile_core.specs.profile.RecencyList.{is_in}
 use Rattle.full_profile.specs.declared.marked_lists.row.Shifted.TheVariants.{Found, Out}
 use Rattle.full_profile.specs.internal.Rows.{shifted_of}
 
--- a list as it stands when i numbers of xs were passed, with y in front: the number at i, and a step
+-- a list as it stands when i numbers of xs were passed, with y in front: the number at i, and a
+-- step
 passed_at : (y : ℕ) (xs : List ℕ) (i : ℕ) → i < length xs →
     get_or (take i (y ∷ xs) ++ drop i xs) i 0 ≡ get_or xs i 0
 passed_at y [] i lt = absurd (omega arith)

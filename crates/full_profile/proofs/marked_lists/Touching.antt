@@ -1,6 +1,8 @@
 -- How long a list is that gets a block in front, and which sets have a block then.
-use Rattle.std.proofs.Common.{◌≡◌, ℕ, zero, suc, ◌+◌, ◌-◌, ◌*◌, ◌<◌, ◌≤◌, ◌^◌, Bool, true, false, cond}
-use Rattle.std.proofs.Common.{eqb, ltb, min, List, [], ◌∷◌, length, take, drop, map, get_or, set, refl}
+use Rattle.std.proofs.Common.{◌≡◌, ℕ, zero, suc, ◌+◌, ◌-◌, ◌*◌, ◌<◌, ◌≤◌, ◌^◌, Bool, true, false}
+use Rattle.std.proofs.Common.{cond}
+use Rattle.std.proofs.Common.{eqb, ltb, min, List, [], ◌∷◌, length, take, drop, map, get_or, set}
+use Rattle.std.proofs.Common.{refl}
 use Rattle.std.proofs.Common.{sym, ◌∙◌, ap, subst, arith, inl, inr, length-set, length-take}
 use Rattle.std.proofs.Common.{length-append, length-drop, get_or-set_same, get_or-set_other, eq-eqb}
 use Rattle.std.specs.Prelude.{replicate, Some}

@@ -1,16 +1,18 @@
 -- A batch of references that is fed one after the other.
 use Rattle.std.proofs.Common.{◌≡◌, ℕ, ◌+◌, ◌<◌, ◌≤◌, Bool, true, false, cond, List, [], ◌∷◌, ◌++◌}
-use Rattle.std.proofs.Common.{length, take, drop, get_or, set, refl, sym, ap, ◌∙◌, arith, length-set}
+use Rattle.std.proofs.Common.{length, take, drop, get_or, set, refl, sym, ap, ◌∙◌, arith}
+use Rattle.std.proofs.Common.{length-set}
 use Rattle.std.proofs.lemmas.Grind.{take_at_read}
 use Rattle.std.proofs.lemmas.List.{drop-set-lt, drop-drop, append-nil, get_or-drop, take_more_set}
 use Rattle.std.proofs.lemmas.List.Sums.{fold-append}
 use Rattle.trace_core.specs.declared.events.Ref.{Ref}
 use Rattle.profile_core.specs.profile.State.{fed_of}
 use Rattle.full_profile.specs.State.{FullState}
-use Rattle.full_profile.specs.Batches.{is_settled, after_unless_settled, after_full_batch, unsettled}
+use Rattle.full_profile.specs.Batches.{is_settled, after_unless_settled, after_full_batch}
+use Rattle.full_profile.specs.Batches.{unsettled}
 
--- the references up to a place were fed to profile v, which is w now, and those that are not settled
--- stand before the others
+-- the references up to a place were fed to profile v, which is w now, and those that are not
+-- settled stand before the others
 pub record IsFed (at fed : ℕ) (v w : FullState) (old now : List Ref) : Type 0 where
   pub step : w ≡ after_full_batch v (take at old)
   pub kept : take fed now ≡ unsettled v (take at old)
@@ -44,7 +46,8 @@ none_fed v refs = record {
 
 module _ {at fed : ℕ} {v w : FullState} {old now : List Ref} (f : IsFed at fed v w old now)
     (inside : at < length old) (d : Ref) (after : FullState)
-    (next : after ≡ after_unless_settled w (get_or now at d)) (more : fed_of after.plain ≤ fed_of w.plain + 1) where
+    (next : after ≡ after_unless_settled w (get_or now at d)) (more : fed_of after.plain ≤ fed_of
+    w.plain + 1) where
   abbrev r : Ref
   r = get_or now at d
 

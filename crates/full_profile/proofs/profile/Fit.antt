@@ -1,5 +1,6 @@
 -- A full profile's invariant, after each step.
-use Rattle.std.proofs.Common.{◌≡◌, ℕ, zero, suc, ◌+◌, ◌-◌, ◌<◌, ◌≤◌, ◌^◌, Bool, true, false, cond, eqb}
+use Rattle.std.proofs.Common.{◌≡◌, ℕ, zero, suc, ◌+◌, ◌-◌, ◌<◌, ◌≤◌, ◌^◌, Bool, true, false, cond}
+use Rattle.std.proofs.Common.{eqb}
 use Rattle.std.proofs.Common.{List, [], ◌∷◌, length, take, get_or, set, sum, refl, sym, ◌∙◌}
 use Rattle.std.proofs.Common.{ap, subst, arith, inl, inr, length-set}
 use Rattle.std.proofs.Common.{get_or-set_same, get_or-set_other}
@@ -174,7 +175,8 @@ module _ {v : FullState} (f : IsFullFit v) (fit : IsFit v.plain) (access : Acces
       let y = with_miss x xs (kind_of v access) in
       let lt : i < length v.kinds = omega (arith, kind_within access, f.kind_count) in
       elim (cases_eq (kind_number a) i) [
-        | inl same ↦ subst P (sym (ap (λ j. get_or (set v.kinds i y) j (empty_kind v.plain.geometry))
+        | inl same ↦ subst P (sym (ap (λ j. get_or (set v.kinds i y) j (empty_kind
+            v.plain.geometry))
             same ∙ get_or-set_same v.kinds i y (empty_kind v.plain.geometry) lt)) after
         | inr other ↦ subst P (sym (get_or-set_other v.kinds i (kind_number a) y
             (empty_kind v.plain.geometry) other)) (before a)
@@ -194,7 +196,8 @@ module _ {v : FullState} (f : IsFullFit v) (fit : IsFit v.plain) (access : Acces
 
   pub fit_after : IsFullFit (after_reference_in_lists v access x xs ms)
   fit_after = subst IsFullFit (sym (reference_is v access x xs ms)) (record {
-    set_count = length-set v.cleans k clean_new ∙ f.set_count ∙ sym (length-set v.plain.lists k new);
+    set_count = length-set v.cleans k clean_new ∙ f.set_count ∙ sym (length-set v.plain.lists k
+        new);
     same_lengths = λ i. elim (cases_eq i k) [
       | inl same ↦ ap (λ j. length (get_or (set v.cleans k clean_new) j [])) same
           ∙ ap length (get_or-set_same v.cleans k clean_new [] among_cleans) ∙ new_alike

@@ -1,6 +1,7 @@
 -- Lists and numbers that stand for a profile, after each step of the code.
 use Rattle.std.proofs.Common.{◌≡◌, ℕ, ◌+◌, ◌-◌, ◌<◌, ◌≤◌, ◌^◌, Bool, true, false, cond, eqb}
-use Rattle.std.proofs.Common.{List, [], ◌∷◌, length, get_or, set, sum, refl, sym, ◌∙◌, ap, subst, arith}
+use Rattle.std.proofs.Common.{List, [], ◌∷◌, length, get_or, set, sum, refl, sym, ◌∙◌, ap, subst}
+use Rattle.std.proofs.Common.{arith}
 use Rattle.std.specs.List.{sum_by}
 use Rattle.std.proofs.Math.Nat.{mul-le-mul_right}
 use Rattle.std.proofs.lemmas.Bool.{eqb-true}
@@ -246,7 +247,8 @@ module _ {g : GeometryValue} {m : Marked} {behind missed : List ℕ} {probes : �
         (get_or ms (index_of x xs) 0) (get_or ms (m.depth - 1) 0) (length xs) found).2
 
     pub new_outside : {held : ℕ} → New held ≡ touch_of m.depth x xs ms → is_in x xs ≡ false
-    new_outside {held} found = (new_parts (is_in x xs) (eqb (length xs) m.depth) held (index_of x xs)
+    new_outside {held} found = (new_parts (is_in x xs) (eqb (length xs) m.depth) held (index_of x
+        xs)
         (get_or ms (index_of x xs) 0) (get_or ms (m.depth - 1) 0) (length xs) found).0
 
     pub new_copied : {held : ℕ} → New held ≡ touch_of m.depth x xs ms →

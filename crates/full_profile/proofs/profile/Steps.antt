@@ -98,7 +98,8 @@ evict_if false true a u a' u' v = copy_is a' u' v
 evict_if false false a u a' u' v = refl
 
 abbrev pub copies_after : ℕ → ℕ → List ℕ → List ℕ → CopiesValue → CopiesValue
-copies_after d x xs ms c = cond (is_in x xs) (with_copy (get_or ms (index_of x xs) 0) (index_of x xs) c)
+copies_after d x xs ms c = cond (is_in x xs) (with_copy (get_or ms (index_of x xs) 0) (index_of x
+    xs) c)
     (cond (eqb (length xs) d) (with_copy (get_or ms (d - 1) 0) d c) c)
 
 -- the misses of each kind

@@ -12,10 +12,12 @@ use Rattle.full_profile.proofs.marked_lists.row.bring_in_row.Goals as goal
 use Rattle.full_profile.proofs.marked_lists.row.bring_in_row.Goals.{After-shift_past}
 use Rattle.full_profile.proofs.marked_lists.row.bring_in_row.Goals.{then-written, else-written}
 
-blocks_size : (c : After-shift_past) → length (take c.args.len.now c.args.blocks.now) ≡ c.args.len.now
+blocks_size : (c : After-shift_past) → length (take c.args.len.now c.args.blocks.now) ≡
+    c.args.len.now
 blocks_size c = length-take-le c.args.len.now c.args.blocks.now c.requires.fits
 
-cleans_size : (c : After-shift_past) → length (take c.args.len.now c.args.cleans.now) ≡ c.args.len.now
+cleans_size : (c : After-shift_past) → length (take c.args.len.now c.args.cleans.now) ≡
+    c.args.len.now
 cleans_size c = length-take-le c.args.len.now c.args.cleans.now
     (omega (arith, c.requires.fits, c.requires.beside))
 
@@ -51,7 +53,11 @@ returns-then-not-written-clause-blocks c =
     row_kept c.args.block c.args.len.now (length c.args.blocks.now)
     (index_of c.args.block (take c.args.len.now c.args.blocks.now))
     (take c.args.len.now c.args.blocks.now)
-    (drop c.args.len.now c.args.blocks.now) c.shift_past.new.blocks (blocks_size at) (omega (arith, h.within, blocks_size at))
+    (drop c.args.len.now c.args.blocks.now) c.shift_past.new.blocks (blocks_size at) (omega (
+      arith,
+      h.within,
+      blocks_size at,
+    ))
     c.requires.fits c.shift_past.ensures.blocks
 
 pub returns-else-not-written-clause-blocks : goal.returns-else-not-written-clause-blocks
@@ -63,7 +69,11 @@ returns-else-not-written-clause-blocks c =
     row_kept c.args.block c.args.len.now (length c.args.blocks.now)
     (index_of c.args.block (take c.args.len.now c.args.blocks.now))
     (take c.args.len.now c.args.blocks.now)
-    (drop c.args.len.now c.args.blocks.now) c.shift_past.new.blocks (blocks_size at) (omega (arith, h.within, blocks_size at))
+    (drop c.args.len.now c.args.blocks.now) c.shift_past.new.blocks (blocks_size at) (omega (
+      arith,
+      h.within,
+      blocks_size at,
+    ))
     c.requires.fits c.shift_past.ensures.blocks
 
 pub returns-then-not-written-clause-cleans : goal.returns-then-not-written-clause-cleans
@@ -77,7 +87,11 @@ returns-then-not-written-clause-cleans c =
     row_first c.if-written.clean_if_new c.max.result c.args.len.now (length c.args.blocks.now)
     (index_of c.args.block (take c.args.len.now c.args.blocks.now))
     (take c.args.len.now c.args.cleans.now)
-    (drop c.args.len.now c.args.cleans.now) c.shift_past.new.cleans (cleans_size at) (omega (arith, h.within, blocks_size at))
+    (drop c.args.len.now c.args.cleans.now) c.shift_past.new.cleans (cleans_size at) (omega (
+      arith,
+      h.within,
+      blocks_size at,
+    ))
     c.requires.fits c.shift_past.ensures.cleans
     ∙ ap (λ m. take (length c.args.blocks.now) (m ∷ remove ms (index_of c.args.block xs)))
     (c.max.ensures ∙ clean_read (length c.args.blocks.now) c.args.block c.in-Found.distance
@@ -96,7 +110,11 @@ returns-else-not-written-clause-cleans c =
     row_kept c.if-written.clean_if_new c.args.len.now (length c.args.blocks.now)
     (index_of c.args.block (take c.args.len.now c.args.blocks.now))
     (take c.args.len.now c.args.cleans.now)
-    (drop c.args.len.now c.args.cleans.now) c.shift_past.new.cleans (cleans_size at) (omega (arith, h.within, blocks_size at))
+    (drop c.args.len.now c.args.cleans.now) c.shift_past.new.cleans (cleans_size at) (omega (
+      arith,
+      h.within,
+      blocks_size at,
+    ))
     c.requires.fits c.shift_past.ensures.cleans
     ∙ ap (λ m. take (length c.args.blocks.now) (m ∷ remove ms (index_of c.args.block xs)))
     (first_is at ∙ ap (λ b. cond b 0 (length c.args.blocks.now)) written
@@ -111,7 +129,8 @@ returns-then-held-blocks-clause-blocks c =
     row_grown c.args.block c.args.len.now
     (index_of c.args.block (take c.args.len.now c.args.blocks.now))
     c.in-Out.last c.args.blocks.now c.shift_past.new.blocks
-    (omega (arith, c.if-held-blocks.true, row_long at)) h.index_is c.shift_past.ensures.blocks h.last_is
+    (omega (arith, c.if-held-blocks.true, row_long at)) h.index_is c.shift_past.ensures.blocks
+    h.last_is
 
 pub returns-then-held-blocks-clause-cleans : goal.returns-then-held-blocks-clause-cleans
 returns-then-held-blocks-clause-cleans c =
@@ -123,7 +142,12 @@ returns-then-held-blocks-clause-cleans c =
     c.in-Out.ensures.shifted in
     row_grown c.if-written.clean_if_new c.args.len.now
     (index_of c.args.block (take c.args.len.now c.args.blocks.now))
-    c.in-Out.clean c.args.cleans.now c.shift_past.new.cleans (omega (arith, c.if-held-blocks.true, row_long at, c.requires.beside))
+    c.in-Out.clean c.args.cleans.now c.shift_past.new.cleans (omega (
+      arith,
+      c.if-held-blocks.true,
+      row_long at,
+      c.requires.beside,
+    ))
     (cleans_size at ∙ sym (blocks_size at) ∙ h.index_is) c.shift_past.ensures.cleans h.clean_is
     ∙ ap (λ d. take d (c.if-written.clean_if_new ∷ remove ms (index_of c.args.block xs)))
     c.requires.beside
@@ -141,7 +165,8 @@ returns-else-held-blocks-clause-blocks c =
     row_full c.args.block c.args.len.now
     (index_of c.args.block (take c.args.len.now c.args.blocks.now))
     (take c.args.len.now c.args.blocks.now)
-    (drop c.args.len.now c.args.blocks.now) c.shift_past.new.blocks (blocks_size at) h.index_is c.shift_past.ensures.blocks
+    (drop c.args.len.now c.args.blocks.now) c.shift_past.new.blocks (blocks_size at) h.index_is
+    c.shift_past.ensures.blocks
     ∙ ap (λ d. take d (c.args.block ∷ remove xs (index_of c.args.block xs)))
     {x = c.args.len.now} {y = length c.args.blocks.now}
     (omega (arith, c.if-held-blocks.false, c.requires.fits))
@@ -157,7 +182,8 @@ returns-else-held-blocks-clause-cleans c =
     row_full c.if-written.clean_if_new c.args.len.now
     (index_of c.args.block (take c.args.len.now c.args.blocks.now))
     (take c.args.len.now c.args.cleans.now)
-    (drop c.args.len.now c.args.cleans.now) c.shift_past.new.cleans (cleans_size at) (cleans_size at ∙ sym (blocks_size at) ∙ h.index_is)
+    (drop c.args.len.now c.args.cleans.now) c.shift_past.new.cleans (cleans_size at) (cleans_size
+    at ∙ sym (blocks_size at) ∙ h.index_is)
     c.shift_past.ensures.cleans
     ∙ ap (λ d. take d (c.if-written.clean_if_new ∷ remove ms (index_of c.args.block xs)))
     {x = c.args.len.now} {y = length c.args.blocks.now}

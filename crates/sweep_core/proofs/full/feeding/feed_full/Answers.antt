@@ -7,7 +7,7 @@ use Rattle.profile_core.specs.profile.Fronts.{is_refined}
 use Rattle.full_profile.specs.Batches.{after_full_batch, unsettled}
 use Rattle.sweep_core.proofs.FullFeeding.{all_fed, rest_fed, any_default, as_many}
 use Rattle.sweep_core.proofs.full.feeding.feed_full.Goals as goal
-use Rattle.sweep_core.proofs.full.feeding.feed_full.Goals.{After-left-in-loop-at-1, then-at-eq0}
+use Rattle.sweep_core.proofs.full.feeding.feed_full.Goals.{then-at-eq0}
 use Rattle.sweep_core.proofs.full.feeding.feed_full.Goals.{else-at-eq0+else-not-is_refined_by}
 
 pub loop-at-preserved : goal.loop-at-preserved

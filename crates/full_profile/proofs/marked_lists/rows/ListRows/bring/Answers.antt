@@ -89,7 +89,8 @@ module _ (c : After-bring_in_row) where
       c.deref_mut.ensures.value c.deref_mut.ensures.len c.bring_in_row.auto.blocks
 
   cleans_put : (with_items c.self.inside.cleans (put_mid start
-      (start + c.self.inside.depth - start) c.deref_mut-2.result.now c.bring_in_row.new.cleans)).items
+      (start + c.self.inside.depth - start) c.deref_mut-2.result.now
+      c.bring_in_row.new.cleans)).items
       ≡ put_mid start c.self.inside.depth c.self.inside.cleans.items c.bring_in_row.new.cleans
   cleans_put = part_back c.self.inside.cleans start c.self.inside.depth c.bring_in_row.new.cleans
       c.deref_mut-2.ensures.value c.deref_mut-2.ensures.len c.bring_in_row.auto.cleans

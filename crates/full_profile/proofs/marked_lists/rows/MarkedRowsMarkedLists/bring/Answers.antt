@@ -2,7 +2,8 @@
 use Rattle.std.proofs.Common.{◌<◌, length, ap, arith}
 use Rattle.full_profile.proofs.marked_lists.Touching.{held_small, one_grown, none_grown}
 use Rattle.full_profile.proofs.marked_lists.rows.MarkedRowsMarkedLists.bring.Goals as goal
-use Rattle.full_profile.proofs.marked_lists.rows.MarkedRowsMarkedLists.bring.Goals.{After-bring-touch}
+use
+    Rattle.full_profile.proofs.marked_lists.rows.MarkedRowsMarkedLists.bring.Goals.{After-bring-touch}
 
 is_set : (c : After-bring-touch) → c.args.set < length c.self.inside.rows.blocks
 is_set c = omega (arith, c.requires, ap (λ m. length m.blocks) c.self.view_is)

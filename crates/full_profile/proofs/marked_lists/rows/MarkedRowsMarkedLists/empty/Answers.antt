@@ -3,7 +3,8 @@ use Rattle.std.proofs.Common.{◌≡◌, ◌∙◌, length, ap}
 use Rattle.full_profile.specs.internal.Marked.{emptied}
 use Rattle.full_profile.proofs.marked_lists.Touching.{none_touched}
 use Rattle.full_profile.proofs.marked_lists.rows.MarkedRowsMarkedLists.empty.Goals as goal
-use Rattle.full_profile.proofs.marked_lists.rows.MarkedRowsMarkedLists.empty.Goals.{in-Some, in-None}
+use Rattle.full_profile.proofs.marked_lists.rows.MarkedRowsMarkedLists.empty.Goals.{in-Some}
+use Rattle.full_profile.proofs.marked_lists.rows.MarkedRowsMarkedLists.empty.Goals.{in-None}
 use Rattle.full_profile.proofs.marked_lists.rows.MarkedRowsMarkedLists.empty.Goals.{After-clear}
 
 rows_are : (c : After-clear) → c.match-listed.self-inside.rows ≡ emptied c.self.inside.rows

@@ -14,21 +14,24 @@ use Rattle.full_profile.specs.internal.Sound.{IsFullFit}
 use Rattle.full_profile.proofs.profile.Sounds.{plain_fit}
 use Rattle.full_profile.proofs.profile.Fronts.{written_after, written_sound, unsettled_write}
 use Rattle.full_profile.proofs.profile.Fronts.{settled_reference}
-use Rattle.full_profile.proofs.profile.stack_profile.FullStackProfile.feed_unless_settled.Goals as goal
-use Rattle.full_profile.proofs.profile.stack_profile.FullStackProfile.feed_unless_settled.Goals.{After-set_of-set}
-use Rattle.full_profile.proofs.profile.stack_profile.FullStackProfile.feed_unless_settled.Given.{Over}
+use Rattle.full_profile.proofs.profile.stack_profile.FullStackProfile.feed_unless_settled.Goals as
+    goal
+use
+    Rattle.full_profile.proofs.profile.stack_profile.FullStackProfile.feed_unless_settled.Goals.{After-set_of-set}
+use Rattle.full_profile.proofs.profile.stack_profile.FullStackProfile.feed_unless_settled.Given as
+    given
 
-fit_now : (g : Over) (c : After-set_of-set g) → IsFit c.args.self.now.plain
+fit_now : (g : given.Over) (c : After-set_of-set g) → IsFit c.args.self.now.plain
 fit_now g c = subst (λ (w : FullState). IsFit w.plain) c.self.view_is (plain_fit c.self.invariant)
 
-settled_counts : (g : Over) (c : After-set_of-set g) →
+settled_counts : (g : given.Over) (c : After-set_of-set g) →
     is_settled c.args.self.now c.args.r ≡ true →
     after_full_reference c.args.self.now c.args.r ≡ after_settled 1 c.args.self.now
 settled_counts g c settled = settled_reference (subst IsFullFit c.self.view_is c.self.invariant.fit)
     (fit_now g c) c.args.r settled
 
 -- the set of the block
-of_set : (g : Over) (c : After-set_of-set g) →
+of_set : (g : given.Over) (c : After-set_of-set g) →
     c.set_of-set.result ≡ set_of_block c.self.inside.geometry c.block_of-block.result
 of_set g c = c.set_of-set.ensures.value ∙
     ap (set_of_block c.self.inside.geometry) (sym c.block_of-block.ensures.value)

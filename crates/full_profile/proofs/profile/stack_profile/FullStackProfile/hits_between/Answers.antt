@@ -5,7 +5,8 @@ use Rattle.profile_core.proofs.HitSums.{part-le}
 use Rattle.full_profile.specs.State.{FullState}
 use Rattle.full_profile.proofs.profile.Counts.{behind_few, hits_split}
 use Rattle.full_profile.proofs.profile.stack_profile.FullStackProfile.hits_between.Goals as goal
-use Rattle.full_profile.proofs.profile.stack_profile.FullStackProfile.hits_between.Goals.{After-total}
+use
+    Rattle.full_profile.proofs.profile.stack_profile.FullStackProfile.hits_between.Goals.{After-total}
 use Rattle.full_profile.proofs.profile.stack_profile.FullStackProfile.hits_between.Given.{Over}
 
 -- the hits at a distance below `to`, and the others

@@ -8,7 +8,8 @@ use Rattle.full_profile.proofs.profile.stack_profile.FullStackProfile.kind.Goals
 use Rattle.full_profile.proofs.profile.stack_profile.FullStackProfile.kind.Goals.{After-index}
 use Rattle.full_profile.proofs.profile.stack_profile.FullStackProfile.kind.Given.{Over}
 
-read : (g : Over) (c : After-index g) → c.index.result.now ≡ kind_of (profile_of c.self.inside.geometry
+read : (g : Over) (c : After-index g) → c.index.result.now ≡ kind_of (profile_of
+    c.self.inside.geometry
     (g.L.MarkedLists.view c.self.inside.lists) c.self.inside.numbers) c.args.access
 read g c = kind_at c.self.invariant c.args.access (c.index.ensures
     ∙ ap (λ i. get_or c.self.inside.numbers.kinds.items i c.index.result.now) c.kind_index.ensures)

@@ -1,4 +1,5 @@
--- Sums that are raised: the numbers between two associativities are added, or taken from the misses.
+-- Sums that are raised: the numbers between two associativities are added, or taken from the
+-- misses.
 use Rattle.std.proofs.Common.{◌≡◌, ◌∙◌, ◌-◌, ◌≤◌, ◌^◌, sum, take, drop, ap, sym, arith}
 use Rattle.profile_core.proofs.HitSums.{part-le}
 use Rattle.profile_core.specs.profile.State.{fed_of}
@@ -7,7 +8,8 @@ use Rattle.full_profile.specs.Sums.{FullSumsState, full_sums_at}
 use Rattle.full_profile.proofs.profile.Sounds.{above_few, up_to_few}
 use Rattle.full_profile.proofs.profile.Counts.{missed_few, more_le, raised}
 use Rattle.full_profile.proofs.profile.stack_profile.FullStackProfile.raise.Goals as goal
-use Rattle.full_profile.proofs.profile.stack_profile.FullStackProfile.raise.Goals.{After-ends_between-above}
+use
+    Rattle.full_profile.proofs.profile.stack_profile.FullStackProfile.raise.Goals.{After-ends_between-above}
 use Rattle.full_profile.proofs.profile.stack_profile.FullStackProfile.raise.Given.{Over}
 
 -- the sums as they were
