@@ -1,6 +1,7 @@
 -- What a profile was fed, and what it need not be fed.
 use Rattle.std.proofs.Common.{◌≡◌, ℕ, zero, suc, ◌+◌, ◌-◌, ◌≤◌, ◌<◌, ◌^◌, ◌||◌, true}
-use Rattle.std.proofs.Common.{cond, not, List, [], ◌∷◌, ◌++◌, refl, sym, ap, ap₂, ◌∙◌, arith, length}
+use Rattle.std.proofs.Common.{cond, not, List, [], ◌∷◌, ◌++◌, refl, sym, ap, ap₂, ◌∙◌, arith}
+use Rattle.std.proofs.Common.{length}
 use Rattle.std.proofs.Common.{get_or, eqb, map, subst, take, ⊎_elim, get_or-set_same}
 use Rattle.std.proofs.lemmas.Bool.{and_parts, and_from, or_cases, or_left, or_right, eqb-true}
 use Rattle.std.proofs.lemmas.Bool.{eq-eqb, cond-true, both_ways}
@@ -14,7 +15,8 @@ use Rattle.cache_core.proofs.Lists.{cases}
 use Rattle.profile_core.specs.profile.RecencyList.{is_front}
 use Rattle.profile_core.specs.profile.Fronts.{is_front_of, is_refined}
 use Rattle.full_profile.specs.State.{FullState, after_full_reference, after_full_flush, cleans_of}
-use Rattle.full_profile.specs.Batches.{is_settled, after_unless_settled, after_full_batch, unsettled}
+use Rattle.full_profile.specs.Batches.{is_settled, after_unless_settled, after_full_batch}
+use Rattle.full_profile.specs.Batches.{unsettled}
 use Rattle.full_profile.specs.Batches.{IsFitFull, LagsBehind, WasFed}
 use Rattle.full_profile.proofs.laws.Fit.{fit_after}
 use Rattle.full_profile.proofs.laws.Settled.{settled_is_refined}

@@ -36,11 +36,14 @@ use Rattle.full_profile.proofs.laws.Later.{settled_none, caught_more, flush_sett
 use Rattle.sweep_core.specs.internal.Pass.{kept_events}
 use Rattle.sweep_core.proofs.Lists.{Each-weaker}
 use Rattle.sweep_core.specs.declared.full.profiles.FullPair.{FullPair}
-use Rattle.sweep_core.specs.internal.Full.{full_pair_fed, full_pairs_fed, full_pair_caught, full_pairs_caught}
+use Rattle.sweep_core.specs.internal.Full.{full_pair_fed, full_pairs_fed, full_pair_caught}
+use Rattle.sweep_core.specs.internal.Full.{full_pairs_caught}
 use Rattle.sweep_core.specs.internal.Full.{full_pairs_ended, full_pair_flushed, full_pair_after}
 use Rattle.sweep_core.specs.internal.Full.{full_pairs_after, full_pairs_after_all}
-use Rattle.sweep_core.specs.internal.Full.{FedFullAtMost, IsNewPair, AreFedFull, WereFedAlike, FullWaiting}
-use Rattle.sweep_core.specs.internal.Full.{is_repeated, repeats_last, with_waiting_ref, AreNoFinerFull}
+use Rattle.sweep_core.specs.internal.Full.{FedFullAtMost, IsNewPair, AreFedFull, WereFedAlike}
+use Rattle.sweep_core.specs.internal.Full.{FullWaiting}
+use Rattle.sweep_core.specs.internal.Full.{is_repeated, repeats_last, with_waiting_ref}
+use Rattle.sweep_core.specs.internal.Full.{AreNoFinerFull}
 use Rattle.sweep_core.specs.internal.Full.{finest_full_bits}
 
 -- two changes of each pair are equal where they are so for what holds of each
@@ -121,7 +124,8 @@ fed-more kind old xs ys es e so_far fed =
 
 -- what is known of each profile, by what it was fed
 pub fed-each : (n : ℕ) (es : List Event) (refs : List Ref) (xs : List FullPair) →
-    AreFedFull n es xs → AreFedFull (n + length refs) (es ++ as_events refs) (full_pairs_fed refs xs)
+    AreFedFull n es xs →
+    AreFedFull (n + length refs) (es ++ as_events refs) (full_pairs_fed refs xs)
 fed-each n es refs [] h = tt
 fed-each n es refs (x ∷ xs) h = (fed_batch refs h.0, fed-each n es refs xs h.1)
 

@@ -1,5 +1,6 @@
 -- The profiles of a full sweep have the counts of their rows.
-use Rattle.std.proofs.Common.{◌≡◌, ℕ, ◌+◌, ◌≤◌, List, [], ◌∷◌, ◌++◌, map, fold, refl, sym, ap, ap₂, ◌∙◌}
+use Rattle.std.proofs.Common.{◌≡◌, ℕ, ◌+◌, ◌≤◌, List, [], ◌∷◌, ◌++◌, map, fold, refl, sym, ap, ap₂}
+use Rattle.std.proofs.Common.{◌∙◌}
 use Rattle.std.proofs.Common.{subst, arith, Bool}
 use Rattle.std.specs.Prelude.{flat_map, sum_by}
 use Rattle.std.specs.List.{AllByRecursion as Each}
@@ -19,7 +20,8 @@ use Rattle.sweep_core.specs.declared.request.Request.{Request}
 use Rattle.sweep_core.specs.declared.profiles.PairProfile.{PairProfile}
 use Rattle.sweep_core.specs.SweepText.{configs_of, rows_of}
 use Rattle.sweep_core.specs.Work.{pair_of, geometry_of_pair}
-use Rattle.sweep_core.specs.internal.Pass.{SweepStandsFor, WasFed, pair_after_events, profiles_after}
+use Rattle.sweep_core.specs.internal.Pass.{SweepStandsFor, WasFed, pair_after_events}
+use Rattle.sweep_core.specs.internal.Pass.{profiles_after}
 use Rattle.sweep_core.specs.internal.Runs.{rows_of_profile, run_of, Serves, ServesRows}
 use Rattle.sweep_core.proofs.Lists.{Each-weaker}
 use Rattle.sweep_core.proofs.Runs.{run-pair}

@@ -42,8 +42,8 @@ pub rows-begin : (rows : List (Config × FullCounts)) (v : SinkView) → WroteBe
 unfolding full_csv_rows
 rows-begin rows v = record { front = []; whole = refl; wrote = Wrote-none v }
 
-module _ {rows left rest : List (Config × FullCounts)} {row : Config × FullCounts} {a b d : SinkView}
-    (w : WroteBefore rows a b left) (is : left ≡ row ∷ rest) where
+module _ {rows left rest : List (Config × FullCounts)} {row : Config × FullCounts}
+    {a b d : SinkView} (w : WroteBefore rows a b left) (is : left ≡ row ∷ rest) where
   -- one more was written
   pub rows-more : Wrote b d (full_row_of row.0 row.1) → WroteBefore rows a d rest
   rows-more more = record {

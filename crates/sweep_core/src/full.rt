@@ -1,5 +1,5 @@
-//! The full sweep: a sweep whose rows tell misses by kind of access and copybacks too, of LRU caches
-//! with write-allocate and write-back.
+//! The full sweep: a sweep whose rows tell misses by kind of access and copybacks too, of LRU
+//! caches with write-allocate and write-back.
 mod batch;
 mod feeding;
 mod pass;

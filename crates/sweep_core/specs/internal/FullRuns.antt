@@ -1,5 +1,6 @@
 -- The rows of the profiles of a full sweep.
-use Rattle.std.specs.Prelude.{◌≡◌, ℕ, ◌≤◌, Bool, List, ◌++◌, Option, None, Some, IfSome, map, flat_map}
+use Rattle.std.specs.Prelude.{◌≡◌, ℕ, ◌≤◌, Bool, List, ◌++◌, Option, None, Some, IfSome, map}
+use Rattle.std.specs.Prelude.{flat_map}
 use Rattle.std.specs.List.{AllByRecursion}
 use Rattle.full_profile.specs.declared.counts.FullCounts.{FullCounts}
 use Rattle.full_profile.specs.State.{FullState, full_counts_at}

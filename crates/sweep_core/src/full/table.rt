@@ -12,8 +12,8 @@ use crate::space::Config;
 use trace_core::{DeviceFault, Sink, write_all};
 
 /// The first line of a full sweep that begins at the first configuration.
-const FULL_HEADER: &[u8] =
-    b"bsize,sets,assoc,size,hits,misses,evictions,fetch-misses,read-misses,write-misses,copybacks\n";
+const FULL_HEADER: &[u8] = b"bsize,sets,assoc,size,hits,misses,evictions,\
+    fetch-misses,read-misses,write-misses,copybacks\n";
 
 /// Writes the header, unless `after` is given, and the rows, and flushes.
 pub(crate) fn write_full_table<K: Sink>(

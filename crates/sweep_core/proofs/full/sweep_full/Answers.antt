@@ -6,11 +6,13 @@ use Rattle.trace_core.proofs.Performing.{Performs-write}
 use Rattle.sweep_core.proofs.FullSweeping.{full-stopped, full-whole, full-works}
 use Rattle.sweep_core.proofs.full.sweep_full.Goals as goal
 
-pub returns-in_err-write_full_table-clause-performs : goal.returns-in_err-write_full_table-clause-performs
+pub returns-in_err-write_full_table-clause-performs :
+    goal.returns-in_err-write_full_table-clause-performs
 returns-in_err-write_full_table-clause-performs g c =
     let read = c.in_ok-counts.ensures.reads in
     Performs-write (err_is c.from_residual-in_err-write_full_table.ensures.1)
-    (WriteFailed-late (full-whole c.args.request.now read.0 read.1) c.in_err-write_full_table.ensures)
+    (WriteFailed-late (full-whole c.args.request.now read.0 read.1)
+    c.in_err-write_full_table.ensures)
 
 pub returns-clause-performs : goal.returns-clause-performs
 returns-clause-performs g c =

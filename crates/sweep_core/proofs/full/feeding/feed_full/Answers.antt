@@ -65,7 +65,8 @@ loop-at-preserved c =
             length-take c.if-at-eq0.given c.if-at-eq0.left,
           ))
           (omega (arith, w.if-at-eq0.false)) e
-          (ap (λ y. is_refined (get_or c.loop-at.profiles (c.loop-at.at - 1) e).profile.plain.geometry
+          (ap (λ y. is_refined
+          (get_or c.loop-at.profiles (c.loop-at.at - 1) e).profile.plain.geometry
           y.profile.plain.geometry)
           (any_default c.loop-at.profiles c.loop-at.at x w.index-all-at-else-at-eq0.result
           (omega (arith, c.loop-at-test.true, as_many h))) ∙ refined)

@@ -4,5 +4,6 @@ use Rattle.std.specs.Prelude.{sum_by}
 use Rattle.sweep_core.proofs.full.profiles.total_full_probes.Given as goal
 
 abbrev pub invariant-loop-pair : goal.invariant-loop-pair
-invariant-loop-pair l = (l.total ≡ sum_by (λ x. x.profile.plain.probes) (take l.pair-index l.profiles)) ×
+invariant-loop-pair l =
+    (l.total ≡ sum_by (λ x. x.profile.plain.probes) (take l.pair-index l.profiles)) ×
     (l.total ≤ l.pair-index * 2 ^ 64)
