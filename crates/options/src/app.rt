@@ -12,8 +12,8 @@ use crate::help;
 use crate::table::Presence::{Flag, Optional, Required};
 use crate::table::Spelling::{Long, Short};
 use crate::table::{
-    AFTER, ASSOC, BLOCK_BITS, BSIZE, CommandOption, FILE, FORMAT, FULL, INFORMAT, KIND, LACKEY_FILE,
-    LINES, POW2, ROWS, SEED, SET_BITS, SETS, SIZE, VERBOSE,
+    AFTER, ASSOC, BLOCK_BITS, BSIZE, CommandOption, FILE, FORMAT, FULL, INFORMAT, KIND,
+    LACKEY_FILE, LINES, POW2, ROWS, SEED, SET_BITS, SETS, SIZE, VERBOSE,
 };
 use cache_core::CacheName;
 use clap::{Arg, ArgAction, Command};
