@@ -1,4 +1,5 @@
 mod Lasts
+pub mod Blocks
 pub mod Choosing
 pub mod Moving
 pub mod Touching

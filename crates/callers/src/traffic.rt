@@ -1,15 +1,43 @@
 //! The cache that moves the fewest bytes of those that fit into a size, from a full sweep.
-ghost use Rattle.std.specs.Prelude.{◌≡◌, ◌≤◌, IfSome, MatchOption, true, nat_lt};
+ghost use Rattle.std.specs.Prelude.{◌≡◌, ◌≤◌, IfOk, IfSome, MatchOption, true, nat_lt};
 ghost use Rattle.std.specs.List.{AllByRecursion};
+ghost use Rattle.trace_core.specs.Reading.{events};
 ghost use Rattle.sweep_core.specs.Space.{largest_block};
+ghost use Rattle.sweep_core.specs.FullRows.{full_counted_rows};
+ghost use Rattle.sweep_core.specs.SweepText.{rows_of};
 ghost use Rattle.callers.specs.Traffic.{traffic_of, HasLeastTrafficIfAny};
 
 use full_profile::FullCounts;
-use sweep_core::{Config, FullSweepCounts};
+use std::alloc::Global;
+use sweep_core::laws::{configs_are_geometries, log2_is, table_is};
+use sweep_core::{Config, FullSweepCounts, Request, SweepFault};
+use trace_core::{MAX_LINES, Source};
 
-/// The row of the caches of at most `size` bytes that moves the fewest bytes, if one fits: the
-/// first of the table where several move as few. Traffic is a block for each miss and for each
-/// copyback.
+/// The row of the caches of a request, of at most `size` bytes each, that moves the fewest bytes
+/// over a trace, if one fits. The trace is read once, whatever the number of caches.
+pub fn least_traffic_of_trace<S: Source>(
+    alloc: Global,
+    request: &Request,
+    source: &mut S,
+    size: u64,
+) -> Result<Option<(Config, FullCounts)>, SweepFault>
+    requires some { 1 ≤ request.now.max_lines }
+    requires lines { request.now.max_lines ≤ MAX_LINES }
+    ensures { IfOk result (λ found. IfSome (S.view source.old).remaining (λ text.
+        HasLeastTrafficIfAny size (full_counted_rows
+        (events request.now.format request.now.kind text) (rows_of request.now)) found)) }
+{
+    table_is();
+    configs_are_geometries();
+    log2_is();
+    // Its contract says that the space is within the limits.
+    let _ = request.space.configs(request.after);
+    let counts = FullSweepCounts::read(alloc, request, source)?;
+    Ok(least_traffic(&counts, size))
+}
+
+/// The row of the caches of at most `size` bytes that moves the fewest bytes, if one fits. A cache
+/// moves a block for each miss and for each copyback.
 pub fn least_traffic(counts: &FullSweepCounts, size: u64) -> Option<(Config, FullCounts)>
     requires { AllByRecursion (λ row. row.0.bsize ≤ largest_block) counts.now.rows }
     ensures { HasLeastTrafficIfAny size counts.now.rows result }
