@@ -16,8 +16,7 @@ use Rattle.sweep_core.specs.declared.space.Config.{Config}
 use Rattle.callers.specs.Smallest.{IsSmallestIfAny}
 
 -- what is true of each row so far and of the next
-one_more : (P Q : Config × Counts → Type 0) (rows : List (Config × Counts)) (row : Config ×
-    Counts) → ((r : Config × Counts) → P r → Q r)
+pub one_more : {A : Type 0} (P Q : A → Type 0) (rows : List A) (row : A) → ((r : A) → P r → Q r)
     → Each P rows → Q row → Each Q (rows ++ row ∷ [])
 one_more P Q [] row weaker each new = (new, tt)
 one_more P Q (r ∷ rows) row weaker each new =

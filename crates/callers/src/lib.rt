@@ -14,4 +14,5 @@ pub mod simulations;
 pub mod smallest;
 pub mod spaces;
 pub mod sweeps;
+pub mod traffic;
 pub mod words;
