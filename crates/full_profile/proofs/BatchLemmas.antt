@@ -17,7 +17,7 @@ use Rattle.profile_core.specs.profile.Fronts.{is_front_of, is_refined}
 use Rattle.full_profile.specs.State.{FullState, after_full_reference, after_full_flush, cleans_of}
 use Rattle.full_profile.specs.Batches.{is_settled, after_unless_settled, after_full_batch}
 use Rattle.full_profile.specs.Batches.{unsettled}
-use Rattle.full_profile.specs.Batches.{IsFitFull, LagsBehind, WasFed}
+use Rattle.full_profile.specs.Batches.{IsFitFull, LagsBehind, IsLagging}
 use Rattle.full_profile.proofs.laws.Fit.{fit_after}
 use Rattle.full_profile.proofs.laws.Settled.{settled_is_refined}
 use Rattle.full_profile.proofs.laws.Later.{fit_lagging, lags_more, lags_batch, lags_flush}
@@ -35,7 +35,7 @@ geometry_batch v [] = refl
 geometry_batch v (r ∷ refs) =
     geometry_batch (after_unless_settled v r) refs ∙ geometry_unless v r
 
-pub fit_fed : {n : ℕ} {es : List Event} {v : FullState} → WasFed n es v → IsFitFull v
+pub fit_fed : {n : ℕ} {es : List Event} {v : FullState} → IsLagging n es v → IsFitFull v
 fit_fed {n} {es} {v} h = fit_lagging (n - _) v
     (subst IsFitFull (sym h.lags.caught) (fit_after v.plain.geometry es h.geometry))
 
@@ -44,27 +44,27 @@ abbrev pub as_events : List Ref → List Event
 as_events refs = map event.Reference refs
 
 with_geometry : {n : ℕ} {es : List Event} {g : GeometryValue} {v : FullState} → IsGeometry g →
-    v.plain.geometry ≡ g → LagsBehind n g es v → WasFed n es v
+    v.plain.geometry ≡ g → LagsBehind n g es v → IsLagging n es v
 with_geometry {n} {es} {g} {v} is same h = record {
   geometry = subst IsGeometry (sym same) is;
   lags = subst (λ k. LagsBehind n k es v) (sym same) h;
 }
 
 -- one reference more
-pub fed_reference : {n : ℕ} {es : List Event} {v : FullState} → WasFed n es v → (r : Ref) →
-    WasFed (n + 1) (es ++ event.Reference r ∷ []) (after_unless_settled v r)
+pub fed_reference : {n : ℕ} {es : List Event} {v : FullState} → IsLagging n es v → (r : Ref) →
+    IsLagging (n + 1) (es ++ event.Reference r ∷ []) (after_unless_settled v r)
 fed_reference {n} {es} {v} h r = with_geometry h.geometry (geometry_unless v r)
     (lags_more v.plain.geometry h.geometry n es v r h.lags)
 
 -- many references more
-pub fed_batch : (refs : List Ref) {n : ℕ} {es : List Event} {v : FullState} → WasFed n es v →
-    WasFed (n + length refs) (es ++ as_events refs) (after_full_batch v refs)
+pub fed_batch : (refs : List Ref) {n : ℕ} {es : List Event} {v : FullState} → IsLagging n es v →
+    IsLagging (n + length refs) (es ++ as_events refs) (after_full_batch v refs)
 fed_batch refs {n} {es} {v} h = with_geometry h.geometry (geometry_batch v refs)
     (lags_batch v.plain.geometry h.geometry n es v refs h.lags)
 
 -- a flush
-pub fed_flush : {n : ℕ} {es : List Event} {v : FullState} → WasFed n es v →
-    WasFed n (es ++ event.Flush ∷ []) (after_full_flush v)
+pub fed_flush : {n : ℕ} {es : List Event} {v : FullState} → IsLagging n es v →
+    IsLagging n (es ++ event.Flush ∷ []) (after_full_flush v)
 fed_flush {n} {es} {v} h = record {
   geometry = h.geometry;
   lags = lags_flush v.plain.geometry n es v h.lags;
@@ -72,7 +72,7 @@ fed_flush {n} {es} {v} h = record {
 
 -- A profile that refines another one, which was fed the same, may be given only what the other one
 -- has not settled.
-settled_there : {n : ℕ} {es : List Event} {v w : FullState} → WasFed n es v → WasFed n es w →
+settled_there : {n : ℕ} {es : List Event} {v w : FullState} → IsLagging n es v → IsLagging n es w →
     is_refined v.plain.geometry w.plain.geometry ≡ true → (r : Ref) → is_settled v r ≡ true →
     is_settled w r ≡ true
 settled_there {n} {es} {v} {w} hv hw refined r is =
@@ -80,15 +80,15 @@ settled_there {n} {es} {v} {w} hv hw refined r is =
     settled_is_refined v.plain.geometry w.plain.geometry es r hv.geometry hw.geometry refined
     (sym (ap (λ u. is_settled u r) hv.lags.caught) ∙ is)
 
-pub enough : (refs : List Ref) {n : ℕ} {es : List Event} {v w : FullState} → WasFed n es v →
-    WasFed n es w → is_refined v.plain.geometry w.plain.geometry ≡ true →
+pub enough : (refs : List Ref) {n : ℕ} {es : List Event} {v w : FullState} → IsLagging n es v →
+    IsLagging n es w → is_refined v.plain.geometry w.plain.geometry ≡ true →
     after_full_batch w (unsettled v refs) ≡ after_full_batch w refs
 enough refs {n} {es} {v} {w} hv hw refined = unsettled_suffice v.plain.geometry w.plain.geometry
     hv.geometry hw.geometry refined n es v w refs hv.lags hw.lags
 
 -- and leaves the same
 pub enough_left : (refs : List Ref) {n : ℕ} {es : List Event} {v w : FullState} →
-    WasFed n es v → WasFed n es w → is_refined v.plain.geometry w.plain.geometry ≡ true →
+    IsLagging n es v → IsLagging n es w → is_refined v.plain.geometry w.plain.geometry ≡ true →
     unsettled w (unsettled v refs) ≡ unsettled w refs
 enough_left [] hv hw refined = refl
 enough_left (r ∷ refs) {n} {es} {v} {w} hv hw refined =

@@ -67,6 +67,6 @@ pub record IsFitFull (v : FullState) : Type 0 where
   pub up_to_count : length v.copied_up_to ≡ v.plain.geometry.e + 1
 
 -- a profile that was fed n references of some events, except some of those that were settled
-pub record WasFed (n : ℕ) (es : List Event) (v : FullState) : Type 0 where
+pub record IsLagging (n : ℕ) (es : List Event) (v : FullState) : Type 0 where
   pub geometry : IsGeometry v.plain.geometry
   pub lags : LagsBehind n v.plain.geometry es v

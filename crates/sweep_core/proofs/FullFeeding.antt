@@ -11,7 +11,7 @@ use Rattle.trace_core.specs.declared.events.Ref.{Ref}
 use Rattle.cache_core.proofs.Lists.{cases}
 use Rattle.profile_core.specs.profile.Fronts.{is_refined}
 use Rattle.full_profile.specs.State.{FullState}
-use Rattle.full_profile.specs.Batches.{after_full_batch, unsettled, after_unless_settled, WasFed}
+use Rattle.full_profile.specs.Batches.{after_full_batch, unsettled, after_unless_settled, IsLagging}
 use Rattle.full_profile.specs.Batches.{is_settled}
 use Rattle.full_profile.proofs.BatchLemmas.{enough, enough_left, geometry_batch}
 use Rattle.sweep_core.specs.declared.full.profiles.FullPair.{FullPair}
@@ -136,12 +136,12 @@ module _ {at given : ℕ} {refs left : List Ref} {old now : List FullPair}
           ∙ sym (ap (λ z. z.profile.plain.geometry) there))
           (sym (ap (λ z. z.profile.plain.geometry) here)) ∙ refined
 
-      was_y : WasFed alike.count alike.events y.profile
-      was_y = each_at (λ z. WasFed alike.count alike.events z.profile) old (at - 1) e before
+      was_y : IsLagging alike.count alike.events y.profile
+      was_y = each_at (λ z. IsLagging alike.count alike.events z.profile) old (at - 1) e before
           alike.fed
 
-      was_x : WasFed alike.count alike.events x.profile
-      was_x = each_at (λ z. WasFed alike.count alike.events z.profile) old at d inside alike.fed
+      was_x : IsLagging alike.count alike.events x.profile
+      was_x = each_at (λ z. IsLagging alike.count alike.events z.profile) old at d inside alike.fed
 
       pub rest_fed : (p : FullState) →
           p ≡ after_full_batch (get_or now at d).profile (take given left) →

@@ -27,7 +27,7 @@ use Rattle.profile_core.specs.profile.State.{fed_of}
 use Rattle.profile_core.specs.internal.profile.StackProfile.{most_references}
 use Rattle.full_profile.specs.State.{FullState, after_full_event}
 use Rattle.full_profile.specs.State.{after_full_reference, after_full_flush, after_end}
-use Rattle.full_profile.specs.Batches.{after_unless_settled, after_full_batch, with_settled, WasFed}
+use Rattle.full_profile.specs.Batches.{after_unless_settled, after_full_batch, with_settled, IsLagging}
 use Rattle.full_profile.specs.Batches.{LagsBehind}
 use Rattle.full_profile.specs.Batches.{after_settled}
 use Rattle.full_profile.proofs.BatchLemmas.{fed_batch, fed_flush, fit_fed}
@@ -141,14 +141,14 @@ more-each n m es xs same h = subst (λ k. AreFedFull k es xs) same h
 at-most : (n m : ℕ) (es : List Event) (xs : List FullPair) → n ≤ m → AreFedFull n es xs →
     FedFullAtMost m xs
 at-most n m es xs le h =
-    Each-weaker (λ x. WasFed n es x.profile) (λ x. fed_of x.profile.plain ≤ m)
+    Each-weaker (λ x. IsLagging n es x.profile) (λ x. fed_of x.profile.plain ≤ m)
     (λ x fed. omega (arith, fed.lags.few, le)) xs h
 
 -- references that wait
 pub waiting-few : (n : ℕ) (refs : List Ref) (xs : List FullPair) → FullWaiting n refs xs →
     n ≤ most_references → Each (λ x. fed_of x.profile.plain + length refs ≤ most_references) xs
 waiting-few n refs xs h most =
-    Each-weaker (λ x. WasFed h.before h.events x.profile)
+    Each-weaker (λ x. IsLagging h.before h.events x.profile)
     (λ x. fed_of x.profile.plain + length refs ≤ most_references)
     (λ x fed. omega (arith, fed.lags.few, h.within, most)) xs h.fed
 
@@ -182,7 +182,7 @@ waiting-flushed n xs ys h is = record {
 }
 
 -- nothing was fed yet
-new-fed : (x : FullPair) → IsNewPair x → WasFed 0 [] x.profile
+new-fed : (x : FullPair) → IsNewPair x → IsLagging 0 [] x.profile
 new-fed x h =
     let g : GeometryValue = x.profile.plain.geometry in
     record { geometry = h.geometry; lags = subst (LagsBehind 0 g []) (sym h.is) (lags_new g) }
@@ -205,7 +205,7 @@ caught-none xs = same-all (full_pair_caught 0) (λ x. ap (λ v. record x { profi
     (omega arith) ∙ settled_none x.profile)) xs
 
 -- A profile may count more references than it was fed.
-more-caught : (n m : ℕ) (es : List Event) (v : FullState) → n ≤ m → WasFed n es v →
+more-caught : (n m : ℕ) (es : List Event) (v : FullState) → n ≤ m → IsLagging n es v →
     fed_of v.plain ≤ m
 more-caught n m es v le h = omega (arith, h.lags.few, le)
 
@@ -266,7 +266,7 @@ same-block m n a c le same =
     wide a ∙ ap (λ k. k / 2 ^ (n - m)) same ∙ sym (wide c)
 
 -- the second of two references changes nothing if it repeats the first
-again : (n bits : ℕ) (es : List Event) (v : FullState) (a r : Ref) → WasFed n es v →
+again : (n bits : ℕ) (es : List Event) (v : FullState) (a r : Ref) → IsLagging n es v →
     bits ≤ v.plain.geometry.b → is_repeated bits a r ≡ true →
     after_full_batch v (a ∷ r ∷ []) ≡ after_full_batch v (a ∷ [])
 again n bits es v a r h le is =

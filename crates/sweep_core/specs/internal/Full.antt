@@ -16,7 +16,7 @@ use Rattle.cache_core.specs.Geometry.{IsGeometry}
 use Rattle.profile_core.specs.profile.State.{fed_of}
 use Rattle.full_profile.specs.State.{empty_full, after_full_event, after_full_flush, after_end}
 use Rattle.full_profile.specs.State.{full_after}
-use Rattle.full_profile.specs.Batches.{after_full_batch, with_settled, WasFed}
+use Rattle.full_profile.specs.Batches.{after_full_batch, with_settled, IsLagging}
 use Rattle.sweep_core.specs.declared.space.Config.{Config}
 use Rattle.sweep_core.specs.declared.request.Request.{Request}
 use Rattle.sweep_core.specs.declared.full.profiles.FullPair.{FullPair}
@@ -76,7 +76,7 @@ pub record IsNewPair (x : FullPair) : Type 0 where
 
 -- profiles that were fed n references of the same events, except some that were settled
 abbrev pub AreFedFull : ℕ → List Event → List FullPair → Type 0
-AreFedFull n es xs = AllByRecursion (λ x. WasFed n es x.profile) xs
+AreFedFull n es xs = AllByRecursion (λ x. IsLagging n es x.profile) xs
 
 -- profiles that were fed the same
 pub record WereFedAlike (xs : List FullPair) : Type 0 where
