@@ -7,7 +7,7 @@ ghost use Rattle.std.specs.Prelude.{sum, sum_by};
 ghost use Rattle.trace_core.specs.Events.{is_write};
 ghost use Rattle.profile_core.specs.profile.RecencyList.{is_front};
 ghost use Rattle.full_profile.specs.internal.Copies.{with_all_copies, up_to_of, CanTake};
-ghost use Rattle.full_profile.specs.internal.Marked.{Marked, blocks_in, cleans_in, touch_of};
+ghost use Rattle.full_profile.specs.internal.Marked.{Marked, blocks_in, cleans_in, marked_touch_of};
 ghost use Rattle.full_profile.specs.internal.Marked.{after_access, after_write_in_front, emptied};
 
 use crate::copies::{Copies, Emptying};
@@ -73,7 +73,7 @@ pub trait MarkedLists: Drop {
     /// Brings a block to the front of a set's list by an access, and returns where it stood.
     fn bring(&mut self, set: usize, block: u64, access: Access) -> MarkedTouch
         requires { set < length (view self.old).blocks }
-        ensures found { result ≡ touch_of (view self.old).depth block
+        ensures found { result ≡ marked_touch_of (view self.old).depth block
             (blocks_in (view self.old) set) (cleans_in (view self.old) set) }
         ensures moved { view self.new ≡ after_access (view self.old) set block access };
 

@@ -14,8 +14,8 @@ use Rattle.profile_core.specs.profile.RecencyList.{index_of, is_in}
 use Rattle.full_profile.specs.State.{clean_in_front}
 use Rattle.full_profile.specs.declared.marked_lists.row.Shifted.TheVariants.{Found, Out}
 use Rattle.full_profile.specs.declared.marked_lists.MarkedTouch.TheVariants.{Full}
-use Rattle.full_profile.specs.internal.Marked.{touch_of}
-use Rattle.full_profile.specs.internal.Rows.{shifted_of}
+use Rattle.full_profile.specs.internal.Marked.{marked_touch_of}
+use Rattle.full_profile.specs.internal.Rows.{marked_shift_of}
 use Rattle.full_profile.proofs.marked_lists.Shifting.{length-remove, remove_end, index-le}
 
 -- the list is as long as before
@@ -95,7 +95,7 @@ pub record IsHere (distance clean block : ℕ) (blocks cleans : List ℕ) : Type
   pub within : index_of block blocks < length blocks
 
 pub here : (distance clean block first : ℕ) (blocks cleans : List ℕ) →
-    Found distance clean ≡ shifted_of block blocks first cleans →
+    Found distance clean ≡ marked_shift_of block blocks first cleans →
     IsHere distance clean block blocks cleans
 here distance clean block first blocks cleans found =
     let parts = found_parts (is_in block blocks) distance clean (index_of block blocks)
@@ -119,7 +119,7 @@ absent_at : (b : Bool) (p n : ℕ) → b ≡ false → b ≡ ltb p n → p ≤ n
 absent_at b p n out e le = grind (arith, nat_tests)
 
 pub nowhere : (last clean block first : ℕ) (blocks cleans : List ℕ) →
-    Out last clean ≡ shifted_of block blocks first cleans →
+    Out last clean ≡ marked_shift_of block blocks first cleans →
     IsNowhere last clean block first blocks cleans
 nowhere last clean block first blocks cleans out =
     let parts = out_parts (is_in block blocks) last clean (index_of block blocks)
@@ -153,7 +153,7 @@ clean_new d block first access blocks cleans out is = grind arith
 -- the row is full
 pub touch_full : (d block clean first last : ℕ) (blocks cleans : List ℕ) → 1 ≤ d →
     length blocks ≡ d → IsNowhere last clean block first blocks cleans →
-    Full clean ≡ touch_of d block blocks cleans
+    Full clean ≡ marked_touch_of d block blocks cleans
 touch_full d block clean first last blocks cleans some full h =
     let behind : get_or (first ∷ cleans) (index_of block blocks) 0 ≡ get_or cleans (d - 1) 0 =
     ap (λ j. get_or (first ∷ cleans) j 0) {x = index_of block blocks} {y = suc (d - 1)}

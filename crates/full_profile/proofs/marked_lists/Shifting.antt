@@ -12,7 +12,7 @@ use Rattle.std.proofs.Common.{not, length-append, length-take, length-drop, eq-e
 use Rattle.cache_core.proofs.Lists.{list_any_is}
 use Rattle.profile_core.specs.profile.RecencyList.{is_in}
 use Rattle.full_profile.specs.declared.marked_lists.row.Shifted.TheVariants.{Found, Out}
-use Rattle.full_profile.specs.internal.Rows.{shifted_of}
+use Rattle.full_profile.specs.internal.Rows.{marked_shift_of}
 
 -- a list as it stands when i numbers of xs were passed, with y in front: the number at i, and a
 -- step
@@ -140,7 +140,7 @@ module _ {block clean i carried carried_clean : ℕ} {blocks cleans now now_clea
       index_is = index_found block i blocks lt p.others
           (sym block_is ∙ eqb-true other block is)
 
-      pub passed_found : Found i other_clean ≡ shifted_of block blocks clean cleans
+      pub passed_found : Found i other_clean ≡ marked_shift_of block blocks clean cleans
       passed_found =
           let at : other_clean ≡ get_or cleans i 0 =
           other_clean_is ∙ next_is p.clean_carried clean_lt in
@@ -160,7 +160,7 @@ module _ {block clean i carried carried_clean : ℕ} {blocks cleans now now_clea
     nowhere : index_of block blocks ≡ length blocks
     nowhere = index_end block blocks (λ k lt. p.others k (omega (arith, end, lt)))
 
-    pub passed_all : Out carried carried_clean ≡ shifted_of block blocks clean cleans
+    pub passed_all : Out carried carried_clean ≡ marked_shift_of block blocks clean cleans
     passed_all =
         let first : carried ≡ get_or (block ∷ blocks) (length blocks) 0 =
         p.block_carried.carried_is ∙ ap (λ j. get_or (block ∷ blocks) j 0) end in

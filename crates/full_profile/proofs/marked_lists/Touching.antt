@@ -21,7 +21,7 @@ use Rattle.full_profile.specs.State.{clean_in_front}
 use Rattle.full_profile.specs.declared.marked_lists.MarkedTouch.{MarkedTouch}
 use Rattle.full_profile.specs.declared.marked_lists.MarkedTouch.TheVariants.{Behind, New, Full}
 use Rattle.full_profile.specs.internal.Marked.{Marked, AreAlike, AreTouched, blocks_in, cleans_in}
-use Rattle.full_profile.specs.internal.Marked.{touch_of, after_access, cleans_after}
+use Rattle.full_profile.specs.internal.Marked.{marked_touch_of, after_access, cleans_after}
 use Rattle.full_profile.proofs.marked_lists.Shifting.{length-remove, remove_end, index-le}
 use Rattle.full_profile.proofs.marked_lists.Emptying.{lengths_set, length-lengths, length_at}
 
@@ -141,7 +141,7 @@ module _ {m : Marked} {touched : TouchedValue} (t : AreTouched m touched) (k : �
   }
 
   -- with one block more
-  module _ {held : ℕ} (found : New held ≡ touch_of m.depth x xs ms) where
+  module _ {held : ℕ} (found : New held ≡ marked_touch_of m.depth x xs ms) where
     abbrev parts : (is_in x xs ≡ false) × (eqb (length xs) m.depth ≡ false) × (held ≡ length xs)
     parts = new_parts (is_in x xs) (eqb (length xs) m.depth) held (index_of x xs)
         (get_or ms (index_of x xs) 0) (get_or ms (m.depth - 1) 0) (length xs) found
@@ -166,7 +166,7 @@ module _ {m : Marked} {touched : TouchedValue} (t : AreTouched m touched) (k : �
         (parts.2 ∙ sym (length_at m.blocks k)) t.covers))))
 
   -- or with as many
-  kept : (touch : MarkedTouch) → touch ≡ touch_of m.depth x xs ms →
+  kept : (touch : MarkedTouch) → touch ≡ marked_touch_of m.depth x xs ms →
       ((h : ℕ) → touch ≡ New h → ⊥) → (b : Bool) → is_in x xs ≡ b → length new ≡ length xs
   kept touch found other true inside = size_found m.depth x xs inside (t.short k)
   kept touch found other false out =
@@ -176,7 +176,8 @@ module _ {m : Marked} {touched : TouchedValue} (t : AreTouched m touched) (k : �
       omega (arith, size_new m.depth x xs out, eqb-true (length xs) m.depth full)
 
   pub none_grown : (now : Marked) (touch : MarkedTouch) → now ≡ after_access m k x access →
-      touch ≡ touch_of m.depth x xs ms → ((h : ℕ) → touch ≡ New h → ⊥) → AreTouched now touched
+      touch ≡ marked_touch_of m.depth x xs ms → ((h : ℕ) → touch ≡ New h → ⊥) → AreTouched now
+      touched
   none_grown now touch now_is found other =
       let same : length new ≡ get_or (map length m.blocks) k 0 =
       kept touch found other (is_in x xs) refl ∙ sym (length_at m.blocks k) in

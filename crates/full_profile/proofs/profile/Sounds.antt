@@ -29,7 +29,8 @@ use Rattle.full_profile.specs.declared.marked_lists.MarkedTouch.TheVariants.{Beh
 use Rattle.full_profile.specs.internal.Copies.{CopiesValue, CanTake, with_copy}
 use Rattle.full_profile.specs.internal.Copies.{with_all_copies, up_to_of, no_copies}
 use Rattle.full_profile.specs.declared.copies.Emptying.{Emptying}
-use Rattle.full_profile.specs.internal.Marked.{Marked, blocks_in, cleans_in, touch_of, after_access}
+use Rattle.full_profile.specs.internal.Marked.{Marked, blocks_in, cleans_in, marked_touch_of}
+use Rattle.full_profile.specs.internal.Marked.{after_access}
 use Rattle.full_profile.specs.internal.Marked.{cleans_after, emptied, empty_marked}
 use Rattle.full_profile.specs.internal.Sound.{IsFullSound, IsFullFit, full_state_of, plain_lists}
 use Rattle.full_profile.proofs.copies.Order.{ends_few}
@@ -184,74 +185,76 @@ module _ {g : GeometryValue} {m : Marked} {behind missed : List ℕ} {probes : �
     kind_read {s} read = get_or_read kinds (kind_number access) s
         (omega (arith, kind_within access, h.fit.kind_count)) read (empty_kind g)
 
-    module _ {distance clean : ℕ} (found : Behind distance clean ≡ touch_of m.depth x xs ms) where
-      parts : (is_in x xs ≡ true) × (distance ≡ index_of x xs) ×
-          (clean ≡ get_or ms (index_of x xs) 0)
-      parts = behind_parts (is_in x xs) (eqb (length xs) m.depth) distance clean (index_of x xs)
-          (get_or ms (index_of x xs) 0) (get_or ms (m.depth - 1) 0) (length xs) found
+    module _ {distance clean : ℕ} (found : Behind distance clean ≡ marked_touch_of m.depth x xs ms)
+      where
+        parts : (is_in x xs ≡ true) × (distance ≡ index_of x xs) ×
+            (clean ≡ get_or ms (index_of x xs) 0)
+        parts = behind_parts (is_in x xs) (eqb (length xs) m.depth) distance clean (index_of x xs)
+            (get_or ms (index_of x xs) 0) (get_or ms (m.depth - 1) 0) (length xs) found
 
-      pub found_at : FoundAt x distance xs
-      found_at = record {
-        inside = parts.0;
-        distance_is = sym parts.1;
-        within = omega (arith, parts.1, inside_lt x xs parts.0);
-      }
-
-      pub found_within : distance < g.e
-      found_within = omega (arith, found_at.within, h.plain.short k)
-
-      module _ {n probes' : ℕ} {s t : KindState} {kinds' : List KindState} {copies' : CopiesValue}
-          (read : n ≡ get_or behind distance n) (more : probes' ≡ probes + (distance + 1))
-          (kind : s ≡ get_or kinds (kind_number access) s)
-          (miss : t ≡ record s { behind = one_more_at s.behind distance })
-          (put : kinds' ≡ set kinds (kind_number access) t)
-          (copied : copies' ≡ with_copy clean distance copies) where
-        kinds_found : kinds' ≡ set kinds (kind_number access)
-            (with_miss x xs (kind_of state access))
-        kinds_found = put ∙ ap (set kinds (kind_number access)) (miss
-            ∙ ap (λ (u : KindState). record u { behind = one_more_at u.behind distance })
-            (kind_read kind)
-            ∙ ap (λ i. record (kind_of state access) {
-              behind = one_more_at (kind_of state access).behind i;
-            }) parts.1
-            ∙ sym (ap (λ b. cond b (record (kind_of state access) {
-              behind = one_more_at (kind_of state access).behind (index_of x xs);
-            }) (record (kind_of state access) {
-              missed = (kind_of state access).missed + 1;
-            })) parts.0))
-
-        copies_found : copies' ≡ copies_after g.e x xs ms copies
-        copies_found = copied ∙ ap (λ c. with_copy c distance copies) parts.2
-            ∙ ap (λ u. with_copy (get_or ms (index_of x xs) 0) u copies) parts.1
-            ∙ sym (ap (λ b. cond b (with_copy (get_or ms (index_of x xs) 0) (index_of x xs) copies)
-            (cond (eqb (length xs) g.e) (with_copy (get_or ms (g.e - 1) 0) g.e copies) copies))
-            parts.0)
-
-        pub behind_after : full_state_of g m' (set behind distance (n + 1)) missed probes' kinds'
-            copies' ≡ after_reference_in_lists state access x xs ms
-        behind_after = step_is (set behind distance (n + 1)) missed probes' kinds' copies'
-            (found_after is_moved found_at read more) kinds_found copies_found
-
-        pub behind_sound : IsFullSound g m' (set behind distance (n + 1)) missed probes' kinds'
-            copies'
-        behind_sound = record {
-          limits = h.limits;
-          plain = found_sound is_moved found_at read more;
-          fit = step_fit (set behind distance (n + 1)) missed probes' kinds' copies' behind_after;
+        pub found_at : FoundAt x distance xs
+        found_at = record {
+          inside = parts.0;
+          distance_is = sym parts.1;
+          within = omega (arith, parts.1, inside_lt x xs parts.0);
         }
+
+        pub found_within : distance < g.e
+        found_within = omega (arith, found_at.within, h.plain.short k)
+
+        module _ {n probes' : ℕ} {s t : KindState} {kinds' : List KindState} {copies' : CopiesValue}
+            (read : n ≡ get_or behind distance n) (more : probes' ≡ probes + (distance + 1))
+            (kind : s ≡ get_or kinds (kind_number access) s)
+            (miss : t ≡ record s { behind = one_more_at s.behind distance })
+            (put : kinds' ≡ set kinds (kind_number access) t)
+            (copied : copies' ≡ with_copy clean distance copies) where
+          kinds_found : kinds' ≡ set kinds (kind_number access)
+              (with_miss x xs (kind_of state access))
+          kinds_found = put ∙ ap (set kinds (kind_number access)) (miss
+              ∙ ap (λ (u : KindState). record u { behind = one_more_at u.behind distance })
+              (kind_read kind)
+              ∙ ap (λ i. record (kind_of state access) {
+                behind = one_more_at (kind_of state access).behind i;
+              }) parts.1
+              ∙ sym (ap (λ b. cond b (record (kind_of state access) {
+                behind = one_more_at (kind_of state access).behind (index_of x xs);
+              }) (record (kind_of state access) {
+                missed = (kind_of state access).missed + 1;
+              })) parts.0))
+
+          copies_found : copies' ≡ copies_after g.e x xs ms copies
+          copies_found = copied ∙ ap (λ c. with_copy c distance copies) parts.2
+              ∙ ap (λ u. with_copy (get_or ms (index_of x xs) 0) u copies) parts.1
+              ∙ sym (ap (λ b. cond b (with_copy (get_or ms (index_of x xs) 0) (index_of x xs)
+              copies)
+              (cond (eqb (length xs) g.e) (with_copy (get_or ms (g.e - 1) 0) g.e copies) copies))
+              parts.0)
+
+          pub behind_after : full_state_of g m' (set behind distance (n + 1)) missed probes' kinds'
+              copies' ≡ after_reference_in_lists state access x xs ms
+          behind_after = step_is (set behind distance (n + 1)) missed probes' kinds' copies'
+              (found_after is_moved found_at read more) kinds_found copies_found
+
+          pub behind_sound : IsFullSound g m' (set behind distance (n + 1)) missed probes' kinds'
+              copies'
+          behind_sound = record {
+            limits = h.limits;
+            plain = found_sound is_moved found_at read more;
+            fit = step_fit (set behind distance (n + 1)) missed probes' kinds' copies' behind_after;
+          }
 
     -- not found
     -- where it is new in a list with room, and where the list is full
-    pub new_len : {held : ℕ} → New held ≡ touch_of m.depth x xs ms → held ≡ length xs
+    pub new_len : {held : ℕ} → New held ≡ marked_touch_of m.depth x xs ms → held ≡ length xs
     new_len {held} found = (new_parts (is_in x xs) (eqb (length xs) m.depth) held (index_of x xs)
         (get_or ms (index_of x xs) 0) (get_or ms (m.depth - 1) 0) (length xs) found).2
 
-    pub new_outside : {held : ℕ} → New held ≡ touch_of m.depth x xs ms → is_in x xs ≡ false
+    pub new_outside : {held : ℕ} → New held ≡ marked_touch_of m.depth x xs ms → is_in x xs ≡ false
     new_outside {held} found = (new_parts (is_in x xs) (eqb (length xs) m.depth) held (index_of x
         xs)
         (get_or ms (index_of x xs) 0) (get_or ms (m.depth - 1) 0) (length xs) found).0
 
-    pub new_copied : {held : ℕ} → New held ≡ touch_of m.depth x xs ms →
+    pub new_copied : {held : ℕ} → New held ≡ marked_touch_of m.depth x xs ms →
         copies ≡ cond (eqb (length xs) g.e) (with_copy (get_or ms (g.e - 1) 0) g.e copies) copies
     new_copied {held} found = sym (ap (λ d. cond (eqb (length xs) d)
         (with_copy (get_or ms (g.e - 1) 0) g.e copies) copies) (sym h.plain.depth)
@@ -259,10 +262,10 @@ module _ {g : GeometryValue} {m : Marked} {behind missed : List ℕ} {probes : �
         (new_parts (is_in x xs) (eqb (length xs) m.depth) held (index_of x xs)
         (get_or ms (index_of x xs) 0) (get_or ms (m.depth - 1) 0) (length xs) found).1)
 
-    pub new_within : {held : ℕ} → New held ≡ touch_of m.depth x xs ms → held ≤ g.e
+    pub new_within : {held : ℕ} → New held ≡ marked_touch_of m.depth x xs ms → held ≤ g.e
     new_within {held} found = omega (arith, new_len found, h.plain.short k)
 
-    module _ {clean : ℕ} (found : Full clean ≡ touch_of m.depth x xs ms) where
+    module _ {clean : ℕ} (found : Full clean ≡ marked_touch_of m.depth x xs ms) where
       parts_full : (is_in x xs ≡ false) × (eqb (length xs) m.depth ≡ true) ×
           (clean ≡ get_or ms (m.depth - 1) 0)
       parts_full = full_parts (is_in x xs) (eqb (length xs) m.depth) clean (index_of x xs)

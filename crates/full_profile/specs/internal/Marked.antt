@@ -53,8 +53,8 @@ after_access m set block access = record m {
 }
 
 -- where an access finds its block
-abbrev pub touch_of : ℕ → ℕ → List ℕ → List ℕ → MarkedTouch
-touch_of depth block blocks cleans =
+abbrev pub marked_touch_of : ℕ → ℕ → List ℕ → List ℕ → MarkedTouch
+marked_touch_of depth block blocks cleans =
     if is_in block blocks
     then Behind (index_of block blocks) (slice_index cleans (index_of block blocks))
     else if length blocks == depth then Full (slice_index cleans (depth - 1)) else New

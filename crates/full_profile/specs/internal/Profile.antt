@@ -5,8 +5,8 @@ use Rattle.full_profile.specs.State.{FullState}
 use Rattle.full_profile.specs.internal.Marked.{Marked}
 use Rattle.full_profile.specs.internal.Sound.{full_state_of, IsFullSound}
 
-abbrev pub profile_of : GeometryValue → Marked → Numbers → FullState
-profile_of g m n =
+abbrev pub full_profile_of : GeometryValue → Marked → Numbers → FullState
+full_profile_of g m n =
     full_state_of g m n.behind.items n.misses_by_occupancy.items n.probes n.kinds.items n.copies
 
 -- lists and numbers that stand for a profile

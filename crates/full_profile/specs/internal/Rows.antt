@@ -26,8 +26,8 @@ pub record AreRows (depth : ℕ) (blocks cleans lens : List ℕ) : Type 0 where
 
 -- How far a list is shifted to put a block in front, with a clean depth: up to the block, or to the
 -- end, where the last block falls out. In an empty list that is the block itself.
-abbrev pub shifted_of : ℕ → List ℕ → ℕ → List ℕ → Shifted
-shifted_of block blocks clean cleans =
+abbrev pub marked_shift_of : ℕ → List ℕ → ℕ → List ℕ → Shifted
+marked_shift_of block blocks clean cleans =
     if is_in block blocks
     then Found (index_of block blocks) (slice_index cleans (index_of block blocks))
     else Out (slice_index (block ∷ blocks) (length blocks))

@@ -4,8 +4,8 @@ ghost use Rattle.std.specs.Prelude.{◌≡◌, ◌+◌, ◌-◌, ◌^◌, ◌<�
 ghost use Rattle.std.specs.Prelude.{if◌then◌else◌, slice_index};
 ghost use Rattle.std.specs.List.{remove};
 ghost use Rattle.profile_core.specs.profile.RecencyList.{index_of, move_to_front};
-ghost use Rattle.full_profile.specs.internal.Marked.{touch_of, cleans_after};
-ghost use Rattle.full_profile.specs.internal.Rows.{shifted_of};
+ghost use Rattle.full_profile.specs.internal.Marked.{marked_touch_of, cleans_after};
+ghost use Rattle.full_profile.specs.internal.Rows.{marked_shift_of};
 
 use crate::marked_lists::{MarkedTouch, writes};
 use std::mem;
@@ -33,7 +33,7 @@ pub fn bring_in_row(
     requires some { 1 ≤ length blocks.old }
     requires beside { length cleans.old ≡ length blocks.old }
     requires fits { len.old ≤ length blocks.old }
-    ensures found { result ≡ touch_of (length blocks.old) block
+    ensures found { result ≡ marked_touch_of (length blocks.old) block
         (take len.old blocks.old) (take len.old cleans.old) }
     ensures some { 0 < len.new }
     ensures fits { len.new ≤ length blocks.old }
@@ -75,7 +75,7 @@ pub fn bring_in_row(
 #[inline(always)]
 fn shift_past(blocks: &mut [u64], cleans: &mut [u32], block: u64, clean: u32) -> Shifted
     requires { length cleans.old ≡ length blocks.old }
-    ensures shifted { result ≡ shifted_of block blocks.old clean cleans.old }
+    ensures shifted { result ≡ marked_shift_of block blocks.old clean cleans.old }
     ensures blocks { blocks.new
         ≡ take (length blocks.old) (move_to_front block blocks.old) }
     ensures cleans { cleans.new ≡ take (length cleans.old)

@@ -4,7 +4,8 @@ ghost use Rattle.std.specs.Prelude.{◌≡◌, ◌+◌, ◌*◌, ◌^◌, ◌<�
 ghost use Rattle.std.specs.Prelude.{slice_index, sum, sum_by, ℕ};
 ghost use Rattle.cache_core.specs.Touched.{ListsFilled};
 ghost use Rattle.full_profile.specs.internal.Copies.{with_copies_of, with_all_copies, up_to_of};
-ghost use Rattle.full_profile.specs.internal.Marked.{blocks_in, cleans_in, empty_marked, touch_of};
+ghost use Rattle.full_profile.specs.internal.Marked.{blocks_in, cleans_in, empty_marked};
+ghost use Rattle.full_profile.specs.internal.Marked.{marked_touch_of};
 ghost use Rattle.full_profile.specs.internal.Marked.{after_access, after_write_in_front, emptied};
 ghost use Rattle.full_profile.specs.internal.Marked.{without_list, AreAlike};
 ghost use Rattle.full_profile.specs.internal.Copies.{CanTake};
@@ -107,7 +108,8 @@ impl ListRows {
     fn bring(&mut self, set: usize, block: u64, access: Access) -> MarkedTouch
         requires { set < length self.old.blocks }
         ensures found { result
-            ≡ touch_of self.old.depth block (blocks_in self.old set) (cleans_in self.old set) }
+            ≡ marked_touch_of self.old.depth block (blocks_in self.old set) (cleans_in self.old
+            set) }
         ensures moved { self.new ≡ after_access self.old set block access }
     {
         let start = set * self.depth;

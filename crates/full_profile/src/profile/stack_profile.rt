@@ -39,11 +39,11 @@ pub struct FullStackProfile<L: MarkedLists> {
 
 impl<L: MarkedLists> Model for FullStackProfile<L> {
     ghost use Rattle.full_profile.specs.State.{FullState};
-    ghost use Rattle.full_profile.specs.internal.Profile.{profile_of, AreFullSound};
+    ghost use Rattle.full_profile.specs.internal.Profile.{full_profile_of, AreFullSound};
 
     ghost Value = { FullState };
 
-    ghost view = { λ p. profile_of p.geometry (L.view p.lists) p.numbers };
+    ghost view = { λ p. full_profile_of p.geometry (L.view p.lists) p.numbers };
 
     ghost invariant = { λ p. AreFullSound p.geometry (L.view p.lists) p.numbers };
 }

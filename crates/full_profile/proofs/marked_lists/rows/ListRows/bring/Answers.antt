@@ -5,7 +5,8 @@ use Rattle.std.specs.Vec.{with_items}
 use Rattle.std.proofs.lemmas.List.{get_or_read}
 use borrow.Rule.Slice.PartMut.{put_mid}
 use Rattle.profile_core.specs.profile.RecencyList.{move_to_front}
-use Rattle.full_profile.specs.internal.Marked.{Marked, blocks_in, cleans_in, touch_of, cleans_after}
+use Rattle.full_profile.specs.internal.Marked.{Marked, blocks_in, cleans_in, marked_touch_of}
+use Rattle.full_profile.specs.internal.Marked.{cleans_after}
 use Rattle.std.proofs.Common.{set}
 use Rattle.full_profile.specs.internal.Rows.{AreRows}
 use Rattle.full_profile.proofs.marked_lists.Parts.{part_lent, part_long, part_back, part_kept}
@@ -162,11 +163,11 @@ pub returns-clause-found : goal.returns-clause-found
 returns-clause-found c =
     let at = (goal.at.returns-clause-found c).After-bring_in_row in
     c.bring_in_row.ensures.found
-    ∙ ap (λ d. touch_of d c.args.block (take c.index_mut.result.now (lent at))
+    ∙ ap (λ d. marked_touch_of d c.args.block (take c.index_mut.result.now (lent at))
     (take c.index_mut.result.now (clean_lent at))) (depth_read at)
-    ∙ ap (λ xs. touch_of c.args.self.now.depth c.args.block xs
+    ∙ ap (λ xs. marked_touch_of c.args.self.now.depth c.args.block xs
     (take c.index_mut.result.now (clean_lent at))) (blocks_read at)
-    ∙ ap (λ ms. touch_of c.args.self.now.depth c.args.block
+    ∙ ap (λ ms. marked_touch_of c.args.self.now.depth c.args.block
     (blocks_in c.args.self.now c.args.set) ms) (cleans_read at)
 
 pub returns-clause-moved : goal.returns-clause-moved

@@ -9,7 +9,7 @@ use Rattle.profile_core.proofs.profile.Fronts.{reference_fed}
 use Rattle.full_profile.specs.State.{FullState, cleans_of, after_reference_in_lists}
 use Rattle.full_profile.specs.State.{after_full_reference}
 use Rattle.full_profile.specs.Batches.{is_settled, after_settled}
-use Rattle.full_profile.specs.internal.Profile.{profile_of}
+use Rattle.full_profile.specs.internal.Profile.{full_profile_of}
 use Rattle.full_profile.specs.internal.Sound.{IsFullFit}
 use Rattle.full_profile.proofs.profile.Sounds.{plain_fit}
 use Rattle.full_profile.proofs.profile.Fronts.{written_after, written_sound, unsettled_write}
@@ -62,7 +62,7 @@ pub returns-clause-step : goal.returns-clause-step
 returns-clause-step g c =
     let at = (goal.at.returns-clause-step g c).After-set_of-set in
     let geometry = c.self.inside.geometry in
-    let state = profile_of geometry (g.L.MarkedLists.view c.self.inside.lists)
+    let state = full_profile_of geometry (g.L.MarkedLists.view c.self.inside.lists)
     c.self.inside.numbers in
     let written = sym c.writes.ensures ∙ c.if-not-writes.false in
     let clean = get_or (cleans_of state (set_of geometry c.args.r.addr)) 0 0 in

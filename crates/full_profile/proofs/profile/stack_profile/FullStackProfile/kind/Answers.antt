@@ -1,14 +1,14 @@
 -- The counts of a kind of access, at its place.
 use Rattle.std.proofs.Common.{◌≡◌, ◌∙◌, ◌+◌, get_or, length, sum, ap, arith}
 use Rattle.full_profile.specs.State.{FullState, kind_of}
-use Rattle.full_profile.specs.internal.Profile.{profile_of}
+use Rattle.full_profile.specs.internal.Profile.{full_profile_of}
 use Rattle.full_profile.proofs.profile.Sounds.{kind_few}
 use Rattle.full_profile.proofs.profile.Counts.{kind_at}
 use Rattle.full_profile.proofs.profile.stack_profile.FullStackProfile.kind.Goals as goal
 use Rattle.full_profile.proofs.profile.stack_profile.FullStackProfile.kind.Goals.{After-index}
 use Rattle.full_profile.proofs.profile.stack_profile.FullStackProfile.kind.Given.{Over}
 
-read : (g : Over) (c : After-index g) → c.index.result.now ≡ kind_of (profile_of
+read : (g : Over) (c : After-index g) → c.index.result.now ≡ kind_of (full_profile_of
     c.self.inside.geometry
     (g.L.MarkedLists.view c.self.inside.lists) c.self.inside.numbers) c.args.access
 read g c = kind_at c.self.invariant c.args.access (c.index.ensures
