@@ -237,6 +237,26 @@ fact("tests/README.md", r"([\d,]+) cases in minutes",
 fact("docs/proofs.md", r"with words of up to ([\d,]+) letters",
      lambda: [said("tests/refusals", r"for letters in \([\d_]+, ([\d_]+)\)").replace("_", ",")])
 
+# ---- how many lines definitions have
+
+
+def lines_of_definitions():
+    """Those that callers cite, and those in internal, without explanations and imports; by hundreds
+    and thousands."""
+    public = internal = 0
+    for path in (common.TOP / "crates").glob("*/specs/**/*.antt"):
+        lines = [line for line in path.read_text().split("\n")
+                 if line.strip() and not line.strip().startswith(("--", "use "))]
+        if "internal" in path.parts:
+            internal += len(lines)
+        else:
+            public += len(lines)
+    return [f"{round(public, -2):,}", f"{round(internal, -2):,}"]
+
+
+fact("docs/definitions.md", rf"They are some {NUMBER} lines, and {NUMBER} more in "
+     "`specs/internal/`, without explanations and imports", lines_of_definitions)
+
 # ---- what the same page shows
 
 
