@@ -66,7 +66,8 @@ fact("docs/manual.md", r"The size has 1 to (\d+) decimal digits", lambda: [digit
 fact("docs/manual.md", r"lackey: not 1 to (\d+) decimal digits", lambda: [digits(10)])
 fact("docs/manual.md", r"is buffered in pieces of (\d+) KiB", lambda: [buffer()])
 fact("docs/architecture.md", r"By hand: texts that say (\d+) KiB", lambda: [buffer()])
-fact("docs/architecture.md", r"By hand: (\d+) in `tools/three-c` and `tools/by-line`, (\d+) in",
+fact("docs/architecture.md", r"By hand: (\d+) in `tools/three-c`, `tools/by-line` and "
+     r"`tools/lib/optimal\.c`, `MOST_LINES` of `tools/lib/machine\.py`, (\d+) in",
      lambda: [f"{geometry('MAX_WAYS')}", *bits()])
 fact("crates/trace_core/CALLING.md", r"takes a buffer of (\d+) KiB", lambda: [buffer()])
 fact("crates/trace_core/CALLING.md", r"a line longer than (\d+) bytes",
@@ -236,6 +237,26 @@ fact("tests/README.md", r"([\d,]+) cases in minutes",
 fact("docs/proofs.md", r"with words of up to ([\d,]+) letters",
      lambda: [said("tests/refusals", r"for letters in \([\d_]+, ([\d_]+)\)").replace("_", ",")])
 
+# ---- how many lines definitions have
+
+
+def lines_of_definitions():
+    """Those that callers cite, and those in internal, without explanations and imports; by hundreds
+    and thousands."""
+    public = internal = 0
+    for path in (common.TOP / "crates").glob("*/specs/**/*.antt"):
+        lines = [line for line in path.read_text().split("\n")
+                 if line.strip() and not line.strip().startswith(("--", "use "))]
+        if "internal" in path.parts:
+            internal += len(lines)
+        else:
+            public += len(lines)
+    return [f"{round(public, -2):,}", f"{round(internal, -2):,}"]
+
+
+fact("docs/definitions.md", rf"They are some {NUMBER} lines, and {NUMBER} more in "
+     "`specs/internal/`, without explanations and imports", lines_of_definitions)
+
 # ---- what the same page shows
 
 
@@ -276,8 +297,23 @@ def sizes():
 
 fact("docs/cookbook.md", rf"Here {NUMBER} KiB with {NUMBER} ways, and {NUMBER} MiB with {NUMBER} "
      "ways", sizes)
-fact("docs/cookbook.md", rf"for 53,248 sets of 11 ways, which are {NUMBER} MiB, {NUMBER} sets of "
-     rf"{NUMBER}\.", lambda: [f"{53248 * 11 * 64 / 2**20:.1f}", f"{2**16:,}", "9"])
+
+
+def last_level():
+    """The MiB of a last level that is shown: block size, sets and ways."""
+    bsize, sets, ways = shown("docs/cookbook.md", r"third\.din --bsize (\d+) --sets (\d+) --assoc "
+                              r"(\d+)\n")
+    return [f"{int(bsize) * int(sets) * int(ways) / 2**20:g}"]
+
+
+fact("docs/cookbook.md", rf"A last level of {NUMBER} MiB behind two levels", last_level)
+fact("docs/cookbook.md", r"for a cache in which pages have (\d+) colours",
+     lambda: shown("docs/cookbook.md", r"mix\(address >> 12\) % (\d+) \* 64 "))
+fact("docs/cookbook.md", r"LRU caches of any number of sets, here (\d+)\.",
+     lambda: shown("docs/cookbook.md", r"any-index examples/sort\.din --bsize 16 --sets (\d+) "))
+fact("docs/cookbook.md", r"For (\d+) sets, in a cache of (\d+):",
+     lambda: [*shown("docs/cookbook.md", r"renumber\.py 16 (\d+) < "),
+              *shown("docs/cookbook.md", r"renumber\.py .* -l1-usets (\d+) ")])
 fact("docs/manual.md", r"`--rows 100` gives the header and (\d+) rows",
      lambda: shown("docs/manual.md", r"`--rows (\d+)` gives"))
 fact("docs/manual.md", r"`32-64k` begins at (\d+)\.",

@@ -140,8 +140,11 @@ def bytes_of_pairs(limits, told):
 
 
 def bytes_of_full_pairs(limits, told):
-    """In the full table each list of fewer than 256 ways is in rows."""
-    for sets, ways in ((1, 1), (2**20, 1), (1024, 2), (4096, 12), (8192, 32), (4096, 255)):
+    """In the full table each list is in rows."""
+    for sets, ways in (
+        (1, 1), (2**20, 1), (1024, 2), (4096, 12), (8192, 32), (4096, 255), (1, 256), (4096, 256),
+        (1, WAYS), (64, WAYS),
+    ):
         name = f"a full sweep with S = {sets} and A = {ways}"
         limits.takes(name, full_pair(sets, ways), full_pair(16, 1), told)
 
