@@ -201,7 +201,9 @@ class Optimal(reading_base.Reading, base.ToolTest):
     def test_wrong_arguments(self):
         for words, told in ((["-"], "a trace and the options"), (["--bsize", "1"], "a trace and"),
                             (["-", "-t", "x"], "the trace is the first argument"),
-                            (["-", "--bsize", "3"], "error: ")):
+                            (["-", "--bsize", "3"], "error: "),
+                            (["-", "--full", "--bsize", "16", "--sets", "1", "--assoc", "1",
+                              "--size", "16"], "--full: the optimum has no misses by kind")):
             self.refused(self.run_tool("optimal", *words), 2, told)
 
     def test_no_room_in_memory(self):
