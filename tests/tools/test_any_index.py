@@ -157,4 +157,4 @@ class AnyIndex(reading_base.Reading, base.ToolTest):
         self.write("rows.csv", self.good(self.read("-", stdin=SORT)))
         row, = self.good(self.run_tool("best", "rows.csv")).splitlines()[1:]
         self.assertEqual(row.split(",")[:3], ["16", "12", "4"])
-        self.assertIn("plot", self.good(self.run_tool("plot", "--script", "rows.csv", "-")))
+        self.assertIn("Miss ratio", self.good(self.run_tool("plot", "rows.csv", "-")))

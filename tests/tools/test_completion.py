@@ -22,7 +22,8 @@ OPTIONS = {
     "cachesim csim": "-s -E -b -t -v -h --help",
     "cachesim din": f"{DIN} -t",
     "cachesim log": f"{DIN} -t",
-    "cachesim-best": "-h --help --up-to --within --below --rows --front --measure --miss-cost",
+    "cachesim-best": "-h --help --up-to --within --below --rows --front --measure --traffic "
+    "--miss-cost",
     "cachesim-trace": "-h --help -o --output --program-output --from --to --during --kind --skip "
     "--count --with --libraries --any-version --map --heap --threads",
     "cachesim-to-din": "-h --help",

@@ -196,12 +196,14 @@ class Optimal(reading_base.Reading, base.ToolTest):
         self.write("rows.csv", self.good(self.read("-", stdin=SORT)))
         best = self.good(self.run_tool("best", "rows.csv"))
         self.assertEqual(best.splitlines()[0], f"{table.HEADER},percent")
-        self.assertIn("plot", self.good(self.run_tool("plot", "--script", "rows.csv", "-")))
+        self.assertIn("Miss ratio", self.good(self.run_tool("plot", "rows.csv", "-")))
 
     def test_wrong_arguments(self):
         for words, told in ((["-"], "a trace and the options"), (["--bsize", "1"], "a trace and"),
                             (["-", "-t", "x"], "the trace is the first argument"),
-                            (["-", "--bsize", "3"], "error: ")):
+                            (["-", "--bsize", "3"], "error: "),
+                            (["-", "--full", "--bsize", "16", "--sets", "1", "--assoc", "1",
+                              "--size", "16"], "--full: the optimum has no misses by kind")):
             self.refused(self.run_tool("optimal", *words), 2, told)
 
     def test_no_room_in_memory(self):
