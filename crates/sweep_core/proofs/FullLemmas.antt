@@ -27,7 +27,8 @@ use Rattle.profile_core.specs.profile.State.{fed_of}
 use Rattle.profile_core.specs.internal.profile.StackProfile.{most_references}
 use Rattle.full_profile.specs.State.{FullState, after_full_event}
 use Rattle.full_profile.specs.State.{after_full_reference, after_full_flush, after_end}
-use Rattle.full_profile.specs.Batches.{after_unless_settled, after_full_batch, with_settled, IsLagging}
+use Rattle.full_profile.specs.Batches.{after_unless_settled, after_full_batch, with_settled}
+use Rattle.full_profile.specs.Batches.{IsLagging}
 use Rattle.full_profile.specs.Batches.{LagsBehind}
 use Rattle.full_profile.specs.Batches.{after_settled}
 use Rattle.full_profile.proofs.BatchLemmas.{fed_batch, fed_flush, fit_fed}
