@@ -5,6 +5,7 @@ import collections
 import functools
 import itertools
 import os
+import re
 
 from parts.mistakes import MISTAKES, NUMBERED, RARE, USUAL
 from parts.simulator import Cache, Habits, accesses_in, counts, read, takes_all
@@ -16,6 +17,20 @@ OUTCOMES = {"": ("hit", "miss", "eviction"), " that hits": ("hit",),
             " that misses": ("miss", "eviction"), " that evicts": ("eviction",),
             " that fills a free line": ("miss",)}
 COUNTS = "hit", "miss", "eviction"
+SIZES = {"lines per set": lambda s, lines, b: lines, "sets": lambda s, lines, b: 1 << s,
+         "lines": lambda s, lines, b: lines << s}
+LARGE = 8  # lines or sets: programs that evict the wrong block are wrong with fewer
+OVERRUN = "memory of malloc is written past its end"
+# what glibc says as it ends a program
+MESSAGES = {
+    "corrupted (size|top size|unsorted)|invalid next size|corrupted double-linked": OVERRUN,
+    r"double free or corruption \((out|!prev)\)": OVERRUN,
+    "malloc.*(assertion|Assertion)|invalid size|mismatching next": OVERRUN,
+    "stack smashing detected": "an array in a function is written past its end",
+    r"double free detected|double free or corruption \((fasttop|top)\)": "memory is freed twice",
+    r"free\(\): invalid pointer|munmap_chunk": "free gets an address that malloc did not return",
+}
+NAMES = "hits", "misses", "evictions"
 LEAST = ("-s", 0), ("-E", 1), ("-b", 0)
 NOTHING = ("all counts are 0: no line of a trace is taken for an access, or what counts them is "
            "not what is printed")
@@ -136,33 +151,61 @@ def reason(runs, crashed):
     return f"{results} of a program in which {', or of one in which '.join(found)}"
 
 
+def of_results(kept):
+    """What .csim_results has where the summary is right and it is not. Kept are what was wanted,
+    what was got and what the file has, in each wrong case."""
+    if any(wanted != got for wanted, got, _ in kept):
+        return ""
+    if not any(numbers for _, _, numbers in kept):
+        return ".csim_results has other words than three numbers, which printSummary writes"
+    orders = [order for order in itertools.permutations(range(3))
+              if all(numbers == tuple(wanted[at] for at in order) for wanted, _, numbers in kept)]
+    if len(orders) != 1:
+        return ".csim_results has other numbers than the summary, which is right"
+    order = ", ".join(NAMES[at] for at in orders[0])
+    return f".csim_results has {order} in this order, and not {', '.join(NAMES)}"
+
+
 def place(runs, seen, crashed):
     """Where a mistake must be that is not known."""
+    fine = [case for case, wanted, got in runs if wanted == got]
+    wrong = [case for case, wanted, got in runs if wanted != got]
+    crashing = [case for case, _ in crashed]
     if crashed:
-        is_else_right = all(wanted == got for _, wanted, got in runs)
-        fine = [case for case, _, _ in runs]
-        return too_large(fine, crashed) or too_small(fine, crashed) if is_else_right else ""
+        text = said_by_glibc([fault for _, fault in crashed])
+        if text or wrong:
+            return text or too_large(fine, wrong + crashing, "crashes or is wrong", LARGE)
+        return too_large(fine, crashing, "crashes") or too_small(fine, crashing)
+    if len(seen) >= ENOUGH:
+        large = too_large(fine, wrong, "is wrong", LARGE)
+        if large:
+            return large
     if is_of_victims(runs):
         return ("the wrong block is evicted, since all is right where a set has one line or "
                 "nothing is evicted: uses are noted, or the one longest ago is found, wrongly")
     return ended_early(seen) or (miscounted(seen) if len(seen) >= ENOUGH else "")
 
 
-def too_large(fine, crashed):
-    """What the cases that crash have more of than all others."""
-    length, names = (lambda case: os.path.getsize(case.trace)), {case.name for case in crashed}
-    if len(names) == 1 and fine and length(crashed[0]) > max(map(length, fine)):
-        return f"it crashes on {crashed[0].name} only, the longest: an array may be too short"
+def said_by_glibc(faults):
+    """What the last message of a program that crashes tells, where all that tell something agree."""
+    told = {text for fault in faults for words, text in MESSAGES.items() if re.search(words, fault)}
+    return f"it crashes: {told.pop()}" if len(told) == 1 else ""
+
+
+def too_large(fine, bad, what, least=1):
+    """What the cases in which a program is bad have more of than all others."""
+    length, names = (lambda case: os.path.getsize(case.trace)), {case.name for case in bad}
+    if (what == "crashes" and len(names) == 1 and fine
+            and length(bad[0]) > max(map(length, fine))):
+        return f"it crashes on {bad[0].name} only, the longest: an array may be too short"
     more = []
-    for name, size in (("lines per set", lambda s, lines, b: lines),
-                       ("sets", lambda s, lines, b: 1 << s),
-                       ("lines", lambda s, lines, b: lines << s)):
+    for name, size in SIZES.items():
         sizes = [{size(*map(int, case.cache.split(","))) for case in cases}
-                 for cases in (crashed, fine)]
+                 for cases in (bad, fine)]
         common = sizes[1] - sizes[0]
-        if common and min(sizes[0]) > max(common):
+        if common and min(sizes[0]) > max(common) and min(sizes[0]) >= least:
             more.append(f"{min(sizes[0]):,} {name}")
-    where = f"it crashes only where there are {' or '.join(more)} or more"
+    where = f"it {what} only where there are {' or '.join(more)} or more"
     return f"{where}: an array may be too short" if more else ""
 
 
