@@ -24,7 +24,7 @@ OVERRUN = "memory of malloc is written past its end"
 # what glibc says as it ends a program
 MESSAGES = {
     "corrupted (size|top size|unsorted)|invalid next size|corrupted double-linked": OVERRUN,
-    r"double free or corruption \((out|!prev)\)": OVERRUN,
+    r"double free or corruption \(out\)": OVERRUN,
     "malloc.*(assertion|Assertion)|invalid size|mismatching next": OVERRUN,
     "stack smashing detected": "an array in a function is written past its end",
     r"double free detected|double free or corruption \((fasttop|top)\)": "memory is freed twice",

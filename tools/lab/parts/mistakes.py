@@ -121,6 +121,8 @@ NUMBERED = {
                          lambda run, bits: run.highest >> bits),
     "index_bits": Numbered("numbers of sets have only {} bits", range(1, 20), (8, 10, 12),
                            lambda run, bits: run.cache[0] > bits),
+    "most_set_bits": Numbered("-s counts as {} where it is more", range(1, 20), (4, 8, 10),
+                              lambda run, bits: run.cache[0] > bits),
     "ways": Numbered("a set uses at most {} of its lines", range(1, 65), (1, *ROOM),
                      lambda run, lines: run.cache[1] > lines),
     "apart": Numbered("the array has {} lines for a set, and more run into the next set",
@@ -136,6 +138,8 @@ NUMBERED = {
                       "taken for a line, with what it lacks from the one before",
                       range(8, 25), (16, 20), lambda run, room: run.longest > room - 8),
 }
+# not beside another mistake
+ALONE = "most_set_bits", "split", "stale"
 BITS = "the first block with a clear reference bit is evicted, and"
 LATE, OTHERS, ALL = ("where there is none all bits are cleared",
                      "the others are cleared once all are set", "all are cleared once all are set")
@@ -145,7 +149,7 @@ THEN = ", and a miss does once its block is in"
 LAST = "; of equal ones the last is evicted"
 # the usual ones of those with a number: their names, and how a program differs from a right one
 USUAL = {each.text.format(number): {habit: number}
-         for habit, each in NUMBERED.items() for number in each.usual}
+         for habit, each in NUMBERED.items() for number in each.usual if habit not in ALONE}
 # the same of mistakes that are usual
 MISTAKES = {
     "a hit does not count as a use of its block (FIFO)": {"evicts": "came"},

@@ -27,6 +27,7 @@ RIGHT = dict(
     address_bits=64,
     tag_bits=64,
     index_bits=64,  # of a set's number
+    most_set_bits=64,
     clock_bits=64,
     has_signed_clock=False,
     has_own_clock=False,  # each set
@@ -141,6 +142,7 @@ class Cache:
 
     def __init__(self, cache, habits):
         self.set_bits, lines, self.block_bits = habits.cache_of(*cache)
+        self.set_bits = min(self.set_bits, habits.most_set_bits)
         self.ways, self.habits, self.lines = min(lines, habits.ways), habits, cache[1]
         self.sets, self.clocks, self.hands = {}, collections.Counter(), {}
         self.hits = self.misses = self.evictions = self.filled = 0
