@@ -187,7 +187,7 @@ def place(runs, seen, crashed):
 
 
 def said_by_glibc(faults):
-    """What the last message of a program that crashes tells, where all that tell something agree."""
+    """What the last messages of a program that crashes tell, if they tell one thing."""
     told = {text for fault in faults for words, text in MESSAGES.items() if re.search(words, fault)}
     return f"it crashes: {told.pop()}" if len(told) == 1 else ""
 

@@ -31,8 +31,8 @@ HARMLESS = (
     (student.APART, "memory of malloc is used past its end: the size may be that of a pointer, or "
                     "that of too few lines or sets"),
 )
-DIFFERS = ("its numbers differ from run to run: it draws some by rand() after srand(), or reads memory "
-           "before it writes there")
+DIFFERS = ("its numbers differ from run to run: it draws some by rand() after srand(), or reads "
+           "memory before it writes there")
 LAB_LINE = re.compile(rb"(I +| [LSM] )[0-9a-fA-F]+,[0-9]+\n?")
 
 

@@ -53,7 +53,8 @@ def ends(address, size, b):
 
 def blocks(address, size, b):
     """An address in each block that an access touches."""
-    return [max(address, block << b) for block in range(address >> b, (address + size - 1 >> b) + 1)]
+    last = address + size - 1 >> b
+    return [max(address, block << b) for block in range(address >> b, last + 1)]
 
 
 def each_byte(address, size, b):
@@ -270,15 +271,15 @@ RARE = {
         "cache_of": lambda s, lines, b: (digit(s), lines, b)},
     "of the number behind -E only the last digit is taken": {
         "cache_of": lambda s, lines, b: (s, digit(lines, -1), b)},
-    **{f"{what} counts{said}": {"spread": spread(places, order)}
-       for what, places in (("each block that an access touches", blocks),
-                            ("each byte of an access", each_byte),
-                            ("where an access ends in another block, that also", ends),
-                            ("where an access ends in another block, the next one also", next_too),
-                            ("where the byte behind an access is in another block, that also",
-                             past))
+    **{f"{what}{said}": {"spread": spread(places, order)}
+       for what, places in (("each block that an access touches counts", blocks),
+                            ("each byte of an access counts", each_byte),
+                            ("the block of an access's last byte counts too", ends),
+                            ("the block behind an access's own counts too where it ends there",
+                             next_too),
+                            ("the block of the byte behind an access counts too", past))
        for order, said in (("each", ""), ("loads", ", for M first all loads"),
-                           ("once", ", for M once but for the first"))
+                           ("once", ", for M as one access"))
        if (places, order) != (ends, "once")},  # which is known
     "an access that crosses into another block counts as a miss more": {"spread": crossing_counts},
     "each line with I counts as a hit": fetch_as("hit"),

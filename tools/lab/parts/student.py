@@ -21,8 +21,8 @@ SYSTEM = "/usr /bin /sbin /lib /lib32 /lib64 /libx32 /etc/alternatives /etc/ld.s
 PATH = "/usr/local/bin:/usr/bin:/bin"
 # has glibc fill memory of malloc, so that who takes it for zeros is found
 FILLED = {"MALLOC_PERTURB_": "165"}
-# what is changed in a run: memory of malloc comes as it is, or each piece of it has pages of its own,
-# so that little is overwritten by who writes past the end of one
+# what is changed in a run: memory of malloc comes as it is, or each piece of it has pages of its
+# own, so that a write past the end of one harms no other
 UNFILLED = ["env", "MALLOC_PERTURB_=0"]
 APART = ["env", "GLIBC_TUNABLES=glibc.malloc.mmap_threshold=1"]
 
