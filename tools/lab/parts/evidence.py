@@ -7,7 +7,7 @@ import itertools
 import os
 import re
 
-from parts.mistakes import MISTAKES, NUMBERED, RARE, USUAL
+from parts.mistakes import MISTAKES, NUMBERED, RARE, RARE_NUMBERED, USUAL
 from parts.simulator import Cache, Habits, accesses_in, counts, read, takes_all
 
 LONG = 1000  # accesses: of longer traces two cases are looked at
@@ -116,11 +116,16 @@ def told(runs, pair):
 
 def single(runs):
     """The mistakes that give exactly the numbers of a program, as texts."""
-    found = [text for habit in NUMBERED for text in [numbered(runs, habit)] if text]
+    found = with_numbers(runs, (habit for habit in NUMBERED if habit not in RARE_NUMBERED))
     found += [name for name in MISTAKES if name not in USUAL and are_of(runs, MISTAKES[name])]
     if found or len(runs) < ENOUGH:
         return found
-    return [name for name in RARE if are_of(runs, RARE[name])]
+    return (with_numbers(runs, RARE_NUMBERED)
+            + [name for name in RARE if are_of(runs, RARE[name])])
+
+
+def with_numbers(runs, habits):
+    return [text for habit in habits for text in [numbered(runs, habit)] if text]
 
 
 def pairs(runs):
@@ -154,10 +159,10 @@ def reason(runs, crashed):
 def of_results(kept):
     """What .csim_results has where the summary is right and it is not. Kept are what was wanted,
     what was got and what the file has, in each wrong case."""
-    if any(wanted != got for wanted, got, _ in kept):
+    if any(wanted != got or got == numbers for wanted, got, numbers in kept):
         return ""
     if not any(numbers for _, _, numbers in kept):
-        return ".csim_results has other words than three numbers, which printSummary writes"
+        return ".csim_results has not three numbers alone, as printSummary writes them"
     orders = [order for order in itertools.permutations(range(3))
               if all(numbers == tuple(wanted[at] for at in order) for wanted, _, numbers in kept)]
     if len(orders) != 1:

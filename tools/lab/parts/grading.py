@@ -245,7 +245,8 @@ class Grading:
         crashed = [(case, judgement.said[0]) for case, _, judgement in self.wrong
                    if "signal" in judgement.way[0]]
         kept = [(wanted, judgement.got, judgement.kept) for _, wanted, judgement in self.wrong]
-        return evidence.of_results(kept) or evidence.reason(self.runs, crashed)
+        told = "" if crashed else evidence.of_results(kept)
+        return told or evidence.reason(self.runs, crashed)
 
     def tell_by_trace(self, cases):
         """How many cases are right on each of several traces, of those that are judged."""

@@ -31,14 +31,12 @@ def led(text, base):
     return int("".join(digits) or "0", base)
 
 
-def in_base(base, is_checked):
-    """Reads addresses by another base than 16; those with other digits too, or checks for them."""
+def in_base(base, checked):
+    """Reads addresses by another base than 16. Only so many of their digits, the first ones, are
+    checked: where they are of a higher base, the line is lost."""
+    digits = set("0123456789"[:base])
     return lambda all: [one._replace(address=led(one.digits, base)) for one in all
-                        if not is_checked or all_digits(one.digits, base)]
-
-
-def all_digits(text, base):
-    return set(text) <= set("0123456789"[:base])
+                        if set(one.digits[:checked]) <= digits]
 
 
 # the single accesses of a line
@@ -139,8 +137,8 @@ NUMBERED = {
                       "taken for a line, with what it lacks from the one before",
                       range(8, 25), (16, 20), lambda run, room: run.longest > room - 8),
 }
-# not beside another mistake
-ALONE = "most_set_bits", "split", "stale"
+# those that are looked for as RARE ones are
+RARE_NUMBERED = "most_set_bits", "split", "stale"
 BITS = "the first block with a clear reference bit is evicted, and"
 LATE, OTHERS, ALL = ("where there is none all bits are cleared",
                      "the others are cleared once all are set", "all are cleared once all are set")
@@ -150,7 +148,8 @@ THEN = ", and a miss does once its block is in"
 LAST = "; of equal ones the last is evicted"
 # the usual ones of those with a number: their names, and how a program differs from a right one
 USUAL = {each.text.format(number): {habit: number}
-         for habit, each in NUMBERED.items() for number in each.usual if habit not in ALONE}
+         for habit, each in NUMBERED.items() for number in each.usual
+         if habit not in RARE_NUMBERED}
 # the same of mistakes that are usual
 MISTAKES = {
     "a hit does not count as a use of its block (FIFO)": {"evicts": "came"},
@@ -292,9 +291,10 @@ RARE = {
     "each second line of the trace is lost, fetches not counted": {
         "taken": lambda all: [one for one in all if one.kind != "I"][::2]},
     "each line after one with an access is lost": {"taken": after_access_lost},
-    **{f"addresses are read as {name} numbers{those}": {"taken": in_base(base, is_checked)}
+    **{f"addresses are read as {name} numbers{those}": {"taken": in_base(base, checked)}
        for name, base in (("decimal", 10), ("octal", 8))
-       for those, is_checked in (("", False), (", and lines with other digits are lost", True))},
+       for those, checked in (("", 0), (", and lines whose first digit is another are lost", 1),
+                              (", and lines with other digits are lost", 16))},
     "only the first eviction from each set counts": {
         "counted": lambda cache, index: index not in cache.evicting},
     "an eviction counts only once all sets are full": {
@@ -313,6 +313,14 @@ RARE = {
     "a set has a line too few, and with -E 1 each miss counts as an eviction": {
         "cache_of": lambda s, lines, b: (s, max(1, lines - 1), b),
         "early": lambda cache, place: cache.lines == 1},
+    "a set has a line too few, and with -E 1 nothing hits": {
+        "cache_of": lambda s, lines, b: (s, max(1, lines - 1), b),
+        "unseen": lambda cache, place: cache.lines == 1},
+    "a hit in the last line of a set is overlooked": {
+        "unseen": lambda cache, place: place == cache.ways - 1},
+    "a hit in the first line of a set is overlooked": {"unseen": lambda cache, place: place == 0},
+    "a set's last free line counts as an eviction when it is filled, unless it is the only one": {
+        "early": lambda cache, place: 0 < place == cache.ways - 1},
     "-s and -E are exchanged": {"cache_of": lambda s, lines, b: (min(20, lines), max(1, s), b)},
     "-E and -b are exchanged": {"cache_of": lambda s, lines, b: (s, max(1, b), lines)},
     "there are twice as many sets": {"cache_of": lambda s, lines, b: (s + 1, lines, b)},

@@ -42,6 +42,7 @@ RIGHT = dict(
     crosses=False,  # an access touches the block of its last byte too
     spread=None,  # what an access touches, as kinds and addresses; "hit" and "miss" only count
     is_valid=True,  # whether a line's valid bit is looked at
+    unseen=lambda cache, place: False,  # whether a hit in the line at a place is overlooked
     ways=MANY,  # a set uses at most so many lines
     apart=MANY,  # the array has so many lines for a set; more run into the next
     # whether a set's free line counts as an eviction when it is filled
@@ -233,9 +234,10 @@ class Cache:
             self.filled += 1
             self.evictions += habits.early(self, place)
         used = 0 if habits.is_old else self.now(index)
-        lines[tag] = Line(used, self.misses, place, habits.fresh, tag)
-        lines[tag].uses = uses
-        self.mark(lines, lines[tag], habits.fresh)
+        made = Line(used, self.misses, place, habits.fresh, tag)
+        made.uses = uses
+        lines[("unseen", tag) if habits.unseen(self, place) else tag] = made
+        self.mark(lines, made, habits.fresh)
 
     def flush(self, lines):
         """Empties a set, or all. Returns the place of the next block there."""
