@@ -50,7 +50,7 @@ class Reasons(StudentTest):
     def test_each(self):
         cases = list(edits())
         self.assertGreaterEqual(len(cases), 40)
-        with concurrent.futures.ThreadPoolExecutor(2) as pool:
+        with concurrent.futures.ThreadPoolExecutor(1) as pool:
             told = pool.map(lambda case: self.grade(self.made(case[0], case[2])), cases)
             for (name, words, _), said in zip(cases, told):
                 with self.subTest(name):

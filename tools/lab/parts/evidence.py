@@ -8,7 +8,7 @@ import os
 import re
 
 from parts.mistakes import MISTAKES, NUMBERED, RARE, RARE_NUMBERED, USUAL
-from parts.simulator import Cache, Habits, accesses_in, counts, read, takes_all
+from parts.simulator import MANY, Cache, Habits, accesses_in, counts, read, takes_all
 
 LONG = 1000  # accesses: of longer traces two cases are looked at
 FEW = 3  # so many guesses are shown; where more fit, the cases say too little
@@ -19,7 +19,8 @@ OUTCOMES = {"": ("hit", "miss", "eviction"), " that hits": ("hit",),
 COUNTS = "hit", "miss", "eviction"
 SIZES = {"lines per set": lambda s, lines, b: lines, "sets": lambda s, lines, b: 1 << s,
          "lines": lambda s, lines, b: lines << s}
-LARGE = 8  # lines or sets: programs that evict the wrong block are wrong with fewer
+# of these: programs that evict the wrong block are wrong with fewer
+LEAST_LARGE = {"lines per set": 8, "sets": 32}
 OVERRUN = "memory of malloc is written past its end"
 # what glibc says as it ends a program
 MESSAGES = {
@@ -179,10 +180,10 @@ def place(runs, seen, crashed):
     if crashed:
         text = said_by_glibc([fault for _, fault in crashed])
         if text or wrong:
-            return text or too_large(fine, wrong + crashing, "crashes or is wrong", LARGE)
+            return text or too_large(fine, wrong + crashing, "crashes or is wrong")
         return too_large(fine, crashing, "crashes") or too_small(fine, crashing)
     if len(seen) >= ENOUGH:
-        large = too_large(fine, wrong, "is wrong", LARGE)
+        large = too_large(fine, wrong, "is wrong")
         if large:
             return large
     if is_of_victims(runs):
@@ -197,8 +198,10 @@ def said_by_glibc(faults):
     return f"it crashes: {told.pop()}" if len(told) == 1 else ""
 
 
-def too_large(fine, bad, what, least=1):
-    """What the cases in which a program is bad have more of than all others."""
+def too_large(fine, bad, what):
+    """What the cases in which a program is bad have more of than all others. Where it also is
+    wrong, that must be many, and mostly so: else a wrong block is more likely."""
+    least = LEAST_LARGE if "wrong" in what else dict.fromkeys(SIZES, 1)
     length, names = (lambda case: os.path.getsize(case.trace)), {case.name for case in bad}
     if (what == "crashes" and len(names) == 1 and fine
             and length(bad[0]) > max(map(length, fine))):
@@ -208,10 +211,18 @@ def too_large(fine, bad, what, least=1):
         sizes = [{size(*map(int, case.cache.split(","))) for case in cases}
                  for cases in (bad, fine)]
         common = sizes[1] - sizes[0]
-        if common and min(sizes[0]) > max(common) and min(sizes[0]) >= least:
+        if (common and min(sizes[0]) > max(common) and min(sizes[0]) >= least.get(name, MANY)
+                and ("wrong" not in what or is_mostly(bad, fine, size, min(sizes[0])))):
             more.append(f"{min(sizes[0]):,} {name}")
     where = f"it {what} only where there are {' or '.join(more)} or more"
     return f"{where}: an array may be too short" if more else ""
+
+
+def is_mostly(bad, fine, size, least):
+    """Whether most cases of this size or a larger one are bad."""
+    counts = [sum(size(*map(int, case.cache.split(","))) >= least for case in cases)
+              for cases in (bad, fine)]
+    return counts[0] > counts[1]
 
 
 def too_small(fine, crashed):

@@ -41,6 +41,7 @@ def in_base(base, checked):
 
 # the single accesses of a line
 KINDS = {"L": "L", "S": "S", "M": "LS"}
+MOST_BYTES = 4096  # of an access; a trace may have others
 
 
 def ends(address, size, b):
@@ -51,12 +52,12 @@ def ends(address, size, b):
 
 def blocks(address, size, b):
     """An address in each block that an access touches."""
-    last = address + size - 1 >> b
+    last = address + min(size, MOST_BYTES) - 1 >> b
     return [max(address, block << b) for block in range(address >> b, last + 1)]
 
 
 def each_byte(address, size, b):
-    return range(address, address + size)
+    return range(address, address + min(size, MOST_BYTES))
 
 
 def past(address, size, b):

@@ -220,6 +220,8 @@ class Cache:
     def bring(self, index, lines, tag):
         """Brings a block in, and evicts one where the set is full."""
         place, habits, uses = len(lines), self.habits, 1
+        if not self.ways:
+            return
         if place >= self.ways:
             self.evictions += habits.counted(self, index)
             self.evicting.add(index)
