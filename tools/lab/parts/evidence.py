@@ -26,7 +26,7 @@ OVERRUN = "memory of malloc is written past its end"
 MESSAGES = {
     "corrupted (size|top size|unsorted)|invalid next size|corrupted double-linked": OVERRUN,
     r"double free or corruption \(out\)": OVERRUN,
-    "malloc.*(assertion|Assertion)|invalid size|mismatching next": OVERRUN,
+    r"malloc\(\): (invalid size|mismatching next|unsorted)|malloc\.c.*assertion": OVERRUN,
     "stack smashing detected": "an array in a function is written past its end",
     r"double free detected|double free or corruption \((fasttop|top)\)": "memory is freed twice",
     r"free\(\): invalid pointer|munmap_chunk": "free gets an address that malloc did not return",
