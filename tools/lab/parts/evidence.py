@@ -180,12 +180,11 @@ def place(runs, seen, crashed):
     if crashed:
         text = said_by_glibc([fault for _, fault in crashed])
         if text or wrong:
-            return text or too_large(fine, wrong + crashing, "crashes or is wrong")
-        return too_large(fine, crashing, "crashes") or too_small(fine, crashing)
-    if len(seen) >= ENOUGH:
-        large = too_large(fine, wrong, "is wrong")
-        if large:
-            return large
+            return text or wrong_if_large(fine, wrong + crashing, "crashes or is wrong")
+        return too_large(fine, crashing) or too_small(fine, crashing)
+    large = wrong_if_large(fine, wrong, "is wrong") if len(seen) >= ENOUGH else ""
+    if large:
+        return large
     if is_of_victims(runs):
         return ("the wrong block is evicted, since all is right where a set has one line or "
                 "nothing is evicted: uses are noted, or the one longest ago is found, wrongly")
@@ -198,31 +197,41 @@ def said_by_glibc(faults):
     return f"it crashes: {told.pop()}" if len(told) == 1 else ""
 
 
-def too_large(fine, bad, what):
-    """What the cases in which a program is bad have more of than all others. Where it also is
-    wrong, that must be many, and mostly so: else a wrong block is more likely."""
-    least = LEAST_LARGE if "wrong" in what else dict.fromkeys(SIZES, 1)
-    length, names = (lambda case: os.path.getsize(case.trace)), {case.name for case in bad}
-    if (what == "crashes" and len(names) == 1 and fine
-            and length(bad[0]) > max(map(length, fine))):
-        return f"it crashes on {bad[0].name} only, the longest: an array may be too short"
-    more = []
-    for name, size in SIZES.items():
-        sizes = [{size(*map(int, case.cache.split(","))) for case in cases}
-                 for cases in (bad, fine)]
-        common = sizes[1] - sizes[0]
-        if (common and min(sizes[0]) > max(common) and min(sizes[0]) >= least.get(name, MANY)
-                and ("wrong" not in what or is_mostly(bad, fine, size, min(sizes[0])))):
-            more.append(f"{min(sizes[0]):,} {name}")
-    where = f"it {what} only where there are {' or '.join(more)} or more"
-    return f"{where}: an array may be too short" if more else ""
+def too_large(fine, crashed):
+    """What the cases that crash have more of than all others."""
+    length, names = (lambda case: os.path.getsize(case.trace)), {case.name for case in crashed}
+    if len(names) == 1 and fine and length(crashed[0]) > max(map(length, fine)):
+        return f"it crashes on {crashed[0].name} only, the longest: an array may be too short"
+    return too_short("crashes", more_of(fine, crashed))
 
 
-def is_mostly(bad, fine, size, least):
-    """Whether most cases of this size or a larger one are bad."""
-    counts = [sum(size(*map(int, case.cache.split(","))) >= least for case in cases)
-              for cases in (bad, fine)]
-    return counts[0] > counts[1]
+def wrong_if_large(fine, bad, what):
+    """The same of cases that crash or are wrong, where there are many lines or sets, and most cases
+    with as many are bad: else a wrong block is more likely."""
+    def count(cases, name, least):
+        return sum(size_of(case, name) >= least for case in cases)
+
+    return too_short(what, [(name, least) for name, least in more_of(fine, bad)
+                            if least >= LEAST_LARGE.get(name, MANY)
+                            and count(bad, name, least) > count(fine, name, least)])
+
+
+def size_of(case, name):
+    return SIZES[name](*map(int, case.cache.split(",")))
+
+
+def more_of(fine, bad):
+    """The sizes that bad cases have, and only fine ones have less of, with the least."""
+    for name in SIZES:
+        sizes = [{size_of(case, name) for case in cases} for cases in (bad, fine)]
+        others = sizes[1] - sizes[0]
+        if others and min(sizes[0]) > max(others):
+            yield name, min(sizes[0])
+
+
+def too_short(what, sizes):
+    more = " or ".join(f"{least:,} {name}" for name, least in sizes)
+    return f"it {what} only where there are {more} or more: an array may be too short" * bool(more)
 
 
 def too_small(fine, crashed):

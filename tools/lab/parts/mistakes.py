@@ -119,6 +119,9 @@ NUMBERED = {
                              lambda run, bits: run.highest >> bits),
     "tag_bits": Numbered("tags have only {} bits", range(1, 64), (8, 16, 32),
                          lambda run, bits: run.highest >> bits),
+    "tag_room": Numbered("a line keeps only {} bits of its tag, and longer ones are never found "
+                         "again", range(1, 64), (8, 15, 16, 31, 32),
+                         lambda run, bits: run.highest >> bits),
     "index_bits": Numbered("numbers of sets have only {} bits", range(1, 20), (8, 10, 12),
                            lambda run, bits: run.cache[0] > bits),
     "most_set_bits": Numbered("-s counts as {} where it is more", range(1, 20), (4, 8, 10),
@@ -139,7 +142,7 @@ NUMBERED = {
                       range(8, 25), (16, 20), lambda run, room: run.longest > room - 8),
 }
 # those that are looked for as RARE ones are
-RARE_NUMBERED = "most_set_bits", "split", "stale"
+RARE_NUMBERED = "tag_room", "most_set_bits", "split", "stale"
 BITS = "the first block with a clear reference bit is evicted, and"
 LATE, OTHERS, ALL = ("where there is none all bits are cleared",
                      "the others are cleared once all are set", "all are cleared once all are set")
@@ -287,6 +290,10 @@ RARE = {
     "a line with I counts as two accesses, as M": fetch_as("L", "S"),
     "S counts as two accesses, and M as one": {
         "taken": twice("S"), "stores": lambda went: 0},
+    "the byte behind an access decides on its block": {"taken": lambda all: [
+        one._replace(address=one.address + one.size) for one in all]},
+    "all blocks share one set, which has the lines of all": {
+        "cache_of": lambda s, lines, b: (0, lines << s, b)},
     "the line after one with I is lost": {"taken": after_fetch_lost},
     "each second line of the trace is lost": {"taken": lambda all: all[::2]},
     "each second line of the trace is lost, fetches not counted": {

@@ -26,6 +26,7 @@ RIGHT = dict(
     clears="",  # the reference bits of all, or of all "others", once all are set; or late
     address_bits=64,
     tag_bits=64,
+    tag_room=64,  # a tag of more bits is cut as it is kept, and never found again
     index_bits=64,  # of a set's number
     most_set_bits=64,
     clock_bits=64,
@@ -238,7 +239,8 @@ class Cache:
         used = 0 if habits.is_old else self.now(index)
         made = Line(used, self.misses, place, habits.fresh, tag)
         made.uses = uses
-        lines[("unseen", tag) if habits.unseen(self, place) else tag] = made
+        is_unseen = habits.unseen(self, place) or tag >> habits.tag_room
+        lines[("unseen", self.misses) if is_unseen else tag] = made
         self.mark(lines, made, habits.fresh)
 
     def flush(self, lines):
