@@ -119,9 +119,6 @@ NUMBERED = {
                              lambda run, bits: run.highest >> bits),
     "tag_bits": Numbered("tags have only {} bits", range(1, 64), (8, 16, 32),
                          lambda run, bits: run.highest >> bits),
-    "tag_room": Numbered("a line keeps only {} bits of its tag, and longer ones are never found "
-                         "again", range(1, 64), (8, 15, 16, 31, 32),
-                         lambda run, bits: run.highest >> bits),
     "index_bits": Numbered("numbers of sets have only {} bits", range(1, 20), (8, 10, 12),
                            lambda run, bits: run.cache[0] > bits),
     "most_set_bits": Numbered("-s counts as {} where it is more", range(1, 20), (4, 8, 10),
@@ -142,7 +139,7 @@ NUMBERED = {
                       range(8, 25), (16, 20), lambda run, room: run.longest > room - 8),
 }
 # those that are looked for as RARE ones are
-RARE_NUMBERED = "tag_room", "most_set_bits", "split", "stale"
+RARE_NUMBERED = "most_set_bits", "split", "stale"
 BITS = "the first block with a clear reference bit is evicted, and"
 LATE, OTHERS, ALL = ("where there is none all bits are cleared",
                      "the others are cleared once all are set", "all are cleared once all are set")
@@ -258,6 +255,9 @@ RARE = {
     "a miss counts as an eviction unless it is the first in its set (or it fills all free lines)": {
         "early": lambda cache, place: place > 0},
     "all accesses after the first hit count as hits (a flag is not reset)": {"sticks": True},
+    **{f"a line keeps its tag in {bits} bits, {sign}, and all bits are compared": {
+        "kept_tag": lambda tag, bits=bits, sign=sign: short(tag, bits, sign == "signed") % (1 << 64)}
+       for bits in (8, 16, 32) for sign in ("signed", "unsigned")},
     "tags are not compared": {"tag_of": lambda address, s, b: 0},
     "the mask of the set is (2 ^ s) - 1, where ^ is an exclusive or in C": {
         "set_of": lambda address, s, b: address >> b & (2 ^ s) - 1},

@@ -26,7 +26,7 @@ RIGHT = dict(
     clears="",  # the reference bits of all, or of all "others", once all are set; or late
     address_bits=64,
     tag_bits=64,
-    tag_room=64,  # a tag of more bits is cut as it is kept, and never found again
+    kept_tag=None,  # what a line keeps of its tag, which is compared with a whole one
     index_bits=64,  # of a set's number
     most_set_bits=64,
     clock_bits=64,
@@ -160,7 +160,7 @@ class Cache:
         tag = habits.tag_of(address, self.set_bits, self.block_bits) & (1 << habits.tag_bits) - 1
         index &= (1 << habits.index_bits) - 1
         lines = self.sets.setdefault(index, {})
-        line = lines.get(tag)
+        line = first_with(tag, lines) if habits.kept_tag else lines.get(tag)
         is_hit = (line or habits.sticks and self.hits
                   or not habits.is_valid and tag == 0 and len(lines) < self.ways)
         if habits.ticks in ("", "hits" if is_hit else "before"):
@@ -237,10 +237,11 @@ class Cache:
             self.filled += 1
             self.evictions += habits.early(self, place)
         used = 0 if habits.is_old else self.now(index)
-        made = Line(used, self.misses, place, habits.fresh, tag)
+        kept = habits.kept_tag(tag) if habits.kept_tag else tag
+        made = Line(used, self.misses, place, habits.fresh, kept)
         made.uses = uses
-        is_unseen = habits.unseen(self, place) or tag >> habits.tag_room
-        lines[("unseen", self.misses) if is_unseen else tag] = made
+        is_hidden = habits.unseen(self, place) or habits.kept_tag
+        lines[("hidden", self.misses) if is_hidden else tag] = made
         self.mark(lines, made, habits.fresh)
 
     def flush(self, lines):
@@ -296,6 +297,12 @@ class Cache:
             hand = (hand + 1) % self.ways
         self.hands[index] = (hand + 1) % self.ways
         return hand
+
+
+def first_with(tag, lines):
+    """The first line of a set that keeps a tag; several may."""
+    return min((line for line in lines.values() if line.tag == tag),
+               key=lambda line: line.place, default=None)
 
 
 class Overlapping(Cache):
