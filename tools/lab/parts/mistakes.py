@@ -256,8 +256,9 @@ RARE = {
         "early": lambda cache, place: place > 0},
     "all accesses after the first hit count as hits (a flag is not reset)": {"sticks": True},
     **{f"a line keeps its tag in {bits} bits, {sign}, and all bits are compared": {
-        "kept_tag": lambda tag, bits=bits, sign=sign: short(tag, bits, sign == "signed") % (1 << 64)}
-       for bits in (8, 16, 32) for sign in ("signed", "unsigned")},
+        "kept_tag": lambda tag, bits=bits, is_signed=is_signed: (
+            short(tag, bits, is_signed) % (1 << 64))}
+       for bits in (8, 16, 32) for sign, is_signed in (("signed", True), ("unsigned", False))},
     "tags are not compared": {"tag_of": lambda address, s, b: 0},
     "the mask of the set is (2 ^ s) - 1, where ^ is an exclusive or in C": {
         "set_of": lambda address, s, b: address >> b & (2 ^ s) - 1},
