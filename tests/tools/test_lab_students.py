@@ -136,7 +136,7 @@ class Students(StudentTest):
                  *({habit: each.usual[0]} for habit, each in mistakes.NUMBERED.items())]
         all_taken = [made for made in (simulator.Habits(**habits) for habits in known)
                      if simulator.takes_all(made)]
-        self.assertGreater(4 * len(all_taken), 3 * len(known))
+        self.assertGreater(3 * len(all_taken), 2 * len(known))
         for name in ("mixed", "order", "wide"):
             lines = simulator.read(self.folder / f"{name}.trace")
             data = "".join(one.kind for one in lines)

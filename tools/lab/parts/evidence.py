@@ -5,9 +5,10 @@ import collections
 import functools
 import itertools
 import os
+import re
 
-from parts.mistakes import MISTAKES, NUMBERED, RARE, USUAL
-from parts.simulator import Cache, Habits, accesses_in, counts, read, takes_all
+from parts.mistakes import MISTAKES, NUMBERED, RARE, RARE_NUMBERED, USUAL
+from parts.simulator import MANY, Cache, Habits, accesses_in, counts, read, takes_all
 
 LONG = 1000  # accesses: of longer traces two cases are looked at
 FEW = 3  # so many guesses are shown; where more fit, the cases say too little
@@ -16,6 +17,21 @@ OUTCOMES = {"": ("hit", "miss", "eviction"), " that hits": ("hit",),
             " that misses": ("miss", "eviction"), " that evicts": ("eviction",),
             " that fills a free line": ("miss",)}
 COUNTS = "hit", "miss", "eviction"
+SIZES = {"lines per set": lambda s, lines, b: lines, "sets": lambda s, lines, b: 1 << s,
+         "lines": lambda s, lines, b: lines << s}
+# of these: programs that evict the wrong block are wrong with fewer
+LEAST_LARGE = {"lines per set": 8, "sets": 32}
+OVERRUN = "memory of malloc is written past its end"
+# what glibc says as it ends a program
+MESSAGES = {
+    "corrupted (size|top size|unsorted)|invalid next size|corrupted double-linked": OVERRUN,
+    r"double free or corruption \(out\)": OVERRUN,
+    r"malloc\(\): (invalid size|mismatching next|unsorted)|malloc\.c.*assertion": OVERRUN,
+    "stack smashing detected": "an array in a function is written past its end",
+    r"double free detected|double free or corruption \((fasttop|top)\)": "memory is freed twice",
+    r"free\(\): invalid pointer|munmap_chunk": "free gets an address that malloc did not return",
+}
+NAMES = "hits", "misses", "evictions"
 LEAST = ("-s", 0), ("-E", 1), ("-b", 0)
 NOTHING = ("all counts are 0: no line of a trace is taken for an access, or what counts them is "
            "not what is printed")
@@ -101,11 +117,16 @@ def told(runs, pair):
 
 def single(runs):
     """The mistakes that give exactly the numbers of a program, as texts."""
-    found = [text for habit in NUMBERED for text in [numbered(runs, habit)] if text]
+    found = with_numbers(runs, (habit for habit in NUMBERED if habit not in RARE_NUMBERED))
     found += [name for name in MISTAKES if name not in USUAL and are_of(runs, MISTAKES[name])]
     if found or len(runs) < ENOUGH:
         return found
-    return [name for name in RARE if are_of(runs, RARE[name])]
+    return (with_numbers(runs, RARE_NUMBERED)
+            + [name for name in RARE if are_of(runs, RARE[name])])
+
+
+def with_numbers(runs, habits):
+    return [text for habit in habits for text in [numbered(runs, habit)] if text]
 
 
 def pairs(runs):
@@ -136,16 +157,44 @@ def reason(runs, crashed):
     return f"{results} of a program in which {', or of one in which '.join(found)}"
 
 
+def of_results(kept):
+    """What .csim_results has where the summary is right and it is not. Kept are what was wanted,
+    what was got and what the file has, in each wrong case."""
+    if any(wanted != got or got == numbers for wanted, got, numbers in kept):
+        return ""
+    if not any(numbers for _, _, numbers in kept):
+        return ".csim_results has not three numbers alone, as printSummary writes them"
+    orders = [order for order in itertools.permutations(range(3))
+              if all(numbers == tuple(wanted[at] for at in order) for wanted, _, numbers in kept)]
+    if len(orders) != 1:
+        return ".csim_results has other numbers than the summary, which is right"
+    order = ", ".join(NAMES[at] for at in orders[0])
+    return f".csim_results has {order} in this order, and not {', '.join(NAMES)}"
+
+
 def place(runs, seen, crashed):
     """Where a mistake must be that is not known."""
+    fine = [case for case, wanted, got in runs if wanted == got]
+    wrong = [case for case, wanted, got in runs if wanted != got]
+    crashing = [case for case, _ in crashed]
     if crashed:
-        is_else_right = all(wanted == got for _, wanted, got in runs)
-        fine = [case for case, _, _ in runs]
-        return too_large(fine, crashed) or too_small(fine, crashed) if is_else_right else ""
+        text = said_by_glibc([fault for _, fault in crashed])
+        if text or wrong:
+            return text or wrong_if_large(fine, wrong + crashing, "crashes or is wrong")
+        return too_large(fine, crashing) or too_small(fine, crashing)
+    large = wrong_if_large(fine, wrong, "is wrong") if len(seen) >= ENOUGH else ""
+    if large:
+        return large
     if is_of_victims(runs):
         return ("the wrong block is evicted, since all is right where a set has one line or "
                 "nothing is evicted: uses are noted, or the one longest ago is found, wrongly")
     return ended_early(seen) or (miscounted(seen) if len(seen) >= ENOUGH else "")
+
+
+def said_by_glibc(faults):
+    """What the last messages of a program that crashes tell, if they tell one thing."""
+    told = {text for fault in faults for words, text in MESSAGES.items() if re.search(words, fault)}
+    return f"it crashes: {told.pop()}" if len(told) == 1 else ""
 
 
 def too_large(fine, crashed):
@@ -153,17 +202,36 @@ def too_large(fine, crashed):
     length, names = (lambda case: os.path.getsize(case.trace)), {case.name for case in crashed}
     if len(names) == 1 and fine and length(crashed[0]) > max(map(length, fine)):
         return f"it crashes on {crashed[0].name} only, the longest: an array may be too short"
-    more = []
-    for name, size in (("lines per set", lambda s, lines, b: lines),
-                       ("sets", lambda s, lines, b: 1 << s),
-                       ("lines", lambda s, lines, b: lines << s)):
-        sizes = [{size(*map(int, case.cache.split(","))) for case in cases}
-                 for cases in (crashed, fine)]
-        common = sizes[1] - sizes[0]
-        if common and min(sizes[0]) > max(common):
-            more.append(f"{min(sizes[0]):,} {name}")
-    where = f"it crashes only where there are {' or '.join(more)} or more"
-    return f"{where}: an array may be too short" if more else ""
+    return too_short("crashes", more_of(fine, crashed))
+
+
+def wrong_if_large(fine, bad, what):
+    """The same of cases that crash or are wrong, where there are many lines or sets, and most cases
+    with as many are bad: else a wrong block is more likely."""
+    def count(cases, name, least):
+        return sum(size_of(case, name) >= least for case in cases)
+
+    return too_short(what, [(name, least) for name, least in more_of(fine, bad)
+                            if least >= LEAST_LARGE.get(name, MANY)
+                            and count(bad, name, least) > count(fine, name, least)])
+
+
+def size_of(case, name):
+    return SIZES[name](*map(int, case.cache.split(",")))
+
+
+def more_of(fine, bad):
+    """The sizes that bad cases have, and only fine ones have less of, with the least."""
+    for name in SIZES:
+        sizes = [{size_of(case, name) for case in cases} for cases in (bad, fine)]
+        others = sizes[1] - sizes[0]
+        if others and min(sizes[0]) > max(others):
+            yield name, min(sizes[0])
+
+
+def too_short(what, sizes):
+    more = " or ".join(f"{least:,} {name}" for name, least in sizes)
+    return f"it {what} only where there are {more} or more: an array may be too short" * bool(more)
 
 
 def too_small(fine, crashed):

@@ -25,6 +25,14 @@ LOST = (
     "lost; a terminal would show it, since each line is flushed there"
 )
 UNJUDGED = ("not judged",)  # the way of a case in which a program had no room for what it wrote
+# runs in which a mistake would do no harm
+HARMLESS = (
+    (student.UNFILLED, "memory of malloc is taken for zeros; calloc clears it"),
+    (student.APART, "memory of malloc is used past its end: the size may be that of a pointer, or "
+                    "that of too few lines or sets"),
+)
+DIFFERS = ("its numbers differ from run to run: it draws some by rand() after srand(), or reads "
+           "memory before it writes there")
 LAB_LINE = re.compile(rb"(I +| [LSM] )[0-9a-fA-F]+,[0-9]+\n?")
 
 
@@ -51,11 +59,11 @@ def reference(cachesim, case, *flags, output=subprocess.PIPE):
     return ran.stdout
 
 
-class Judgement(collections.namedtuple("Judgement", "said got points has_lost way",
-                                       defaults=(None, 0, False, ()))):
+class Judgement(collections.namedtuple("Judgement", "said got points has_lost way kept",
+                                       defaults=(None, 0, False, (), None))):
     """What is wrong with a run, nothing where it is right; its numbers; a point for each of them
-    that is right, where it ended well; whether output may be lost; and in which way it is wrong:
-    cases that have the same are alike."""
+    that is right, where it ended well; whether output may be lost; in which way it is wrong: cases
+    that have the same are alike; and the numbers in .csim_results, if it has any."""
 
     @property
     def word(self):
@@ -83,7 +91,7 @@ def judged(ran, wanted):
     points = 0 if ran.fault else sum(right)
     signs = tuple((have > want) - (have < want) for have, want in zip(got or (), wanted))
     way = (ran.fault.partition(";")[0], signs, kept != (got or wanted))
-    return Judgement(said, got, points, ran.is_killed and got != wanted, way)
+    return Judgement(said, got, points, ran.is_killed and got != wanted, way, kept)
 
 
 def first_wrong_line(cachesim, student, case, ended_well):
@@ -216,18 +224,29 @@ class Grading:
     def is_right(self, case, wanted, **given):
         return not judged(self.student.run(case, **given), wanted).said
 
+    def differs(self, case, found):
+        """Whether another run has other numbers."""
+        again = judged(self.student.run(case), found.got) if found.got else found
+        return None not in (again.got, found.got) and again.got != found.got
+
     def why(self):
-        """The mistake in words, where a run in which it would do no harm or all results tell it."""
-        first, wanted, found = self.wrong[0]
+        """The mistake in words, where another run or all results tell it."""
+        first, wanted, _ = self.wrong[0]
         if self.student.slow_runs == 0:
-            if self.is_right(first, wanted, is_filled=False):
-                return "memory of malloc is taken for zeros; calloc clears it"
+            if any(self.differs(case, found) for case, _, found in (self.wrong[-1], self.wrong[0])):
+                return DIFFERS
+            for changed, text in HARMLESS:
+                if self.is_right(first, wanted, changed=changed):
+                    return text
             turned = [run for run in self.wrong if run[0].is_turned][:1]
             if any(self.is_right(run[0]._replace(is_turned=False), run[1]) for run in turned):
                 return "the options are taken in one order only; getopt takes them in any"
         from parts import evidence
-        crashed = [case for case, _, judgement in self.wrong if "signal" in judgement.way[0]]
-        return evidence.reason(self.runs, crashed)
+        crashed = [(case, judgement.said[0]) for case, _, judgement in self.wrong
+                   if "signal" in judgement.way[0]]
+        kept = [(wanted, judgement.got, judgement.kept) for _, wanted, judgement in self.wrong]
+        told = "" if crashed else evidence.of_results(kept)
+        return told or evidence.reason(self.runs, crashed)
 
     def tell_by_trace(self, cases):
         """How many cases are right on each of several traces, of those that are judged."""

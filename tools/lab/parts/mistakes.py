@@ -1,6 +1,7 @@
 """Mistakes that programs for the cache lab often have. Each stands for a simulator that makes it;
 `reason` of evidence.py tells which of these count exactly as a student's program did."""
 
+import itertools
 from collections import namedtuple
 
 from parts.simulator import short
@@ -12,16 +13,103 @@ class Numbered(namedtuple("Numbered", "text numbers usual matters")):
     matters in a run: else it makes no difference there."""
 
 
-def counts_of(bits):
-    return lambda *numbers: tuple(short(number, bits) for number in numbers)
+def counts_of(bits, is_signed=False):
+    return lambda *numbers: tuple(short(number, bits, is_signed) for number in numbers)
 
 
 def twice(kind):
     return lambda all: [one for one in all for _ in range(1 + (one.kind == kind))]
 
 
-def digit(number):
-    return int(str(number)[0])
+def digit(number, at=0):
+    return int(str(number)[at])
+
+
+def led(text, base):
+    """The number that a text begins with, by a base; 0 where it begins with no digit."""
+    digits = itertools.takewhile("0123456789"[:base].__contains__, text)
+    return int("".join(digits) or "0", base)
+
+
+def in_base(base, checked):
+    """Reads addresses by another base than 16. Only so many of their digits, the first ones, are
+    checked: where they are of a higher base, the line is lost."""
+    digits = set("0123456789"[:base])
+    return lambda all: [one._replace(address=led(one.digits, base)) for one in all
+                        if set(one.digits[:checked]) <= digits]
+
+
+# the single accesses of a line
+KINDS = {"L": "L", "S": "S", "M": "LS"}
+MOST_BYTES = 4096  # of an access; a trace may have others
+
+
+def ends(address, size, b):
+    """The first byte of an access, and the last where that is in another block."""
+    last = address + size - 1
+    return [address, last] if address >> b != last >> b else [address]
+
+
+def blocks(address, size, b):
+    """An address in each block that an access touches."""
+    last = address + min(size, MOST_BYTES) - 1 >> b
+    return [max(address, block << b) for block in range(address >> b, last + 1)]
+
+
+def each_byte(address, size, b):
+    return range(address, address + min(size, MOST_BYTES))
+
+
+def past(address, size, b):
+    """The first byte of an access, and the one behind it where that is in another block."""
+    return [address, address + size] if address >> b != address + size >> b else [address]
+
+
+def next_too(address, size, b):
+    """The first byte of an access, and the same one of the next block where it ends in another."""
+    return [address, address + (1 << b)] if len(ends(address, size, b)) > 1 else [address]
+
+
+def spread(places, order):
+    """An access touches these places. For M a load and a store come "each" after the other, or
+    "loads" first, or the first place has both and others one of them, "once"."""
+    def touched(kind, address, size, b):
+        at, kinds = places(address, size, b), KINDS[kind]
+        if order == "each":
+            return [(one, place) for place in at for one in kinds]
+        if order == "loads":
+            return [(one, place) for one in kinds for place in at]
+        return [*((one, address) for one in kinds), *((kinds[0], place) for place in at[1:])]
+    return touched
+
+
+def crossing_counts(kind, address, size, b):
+    return [*zip(KINDS[kind], (address, address)),
+            *[("miss", 0)] * (len(ends(address, size, b)) - 1)]
+
+
+def fetch_as(*touched):
+    """What is counted for a line with I, here (kind, address)."""
+    return {"kinds": "LSMI", "spread": lambda kind, address, size, b: [
+        (one, address) for one in KINDS.get(kind, touched)]}
+
+
+def after_fetch_lost(all):
+    return [one for before, one in zip([None, *all], all) if not before or before.kind != "I"]
+
+
+def after_access_lost(all):
+    """Each line that is counted takes the next one with it."""
+    found, is_lost = [], False
+    for one in all:
+        if not is_lost:
+            found.append(one)
+        is_lost = not is_lost and one.kind != "I"
+    return found
+
+
+def permuted(*order):
+    return lambda *counts: tuple(counts[at] for at in order)
 
 
 ROOM = 8, 16, 32, 64
@@ -33,6 +121,8 @@ NUMBERED = {
                          lambda run, bits: run.highest >> bits),
     "index_bits": Numbered("numbers of sets have only {} bits", range(1, 20), (8, 10, 12),
                            lambda run, bits: run.cache[0] > bits),
+    "most_set_bits": Numbered("-s counts as {} where it is more", range(1, 20), (4, 8, 10),
+                              lambda run, bits: run.cache[0] > bits),
     "ways": Numbered("a set uses at most {} of its lines", range(1, 65), (1, *ROOM),
                      lambda run, lines: run.cache[1] > lines),
     "apart": Numbered("the array has {} lines for a set, and more run into the next set",
@@ -40,8 +130,16 @@ NUMBERED = {
     "held": Numbered("a line of the trace is read into {} bytes, and long addresses are cut",
                      range(8, 20), (12, 16), lambda run, room: run.longest > room - 4),
     "kept": Numbered("a line of the trace is read into {} bytes, and longer ones are lost",
-                     range(8, 25), (16,), lambda run, room: run.longest > room - 8),
+                     range(8, 25), (16, 20), lambda run, room: run.longest > room - 8),
+    "split": Numbered("a line of the trace is read into {} bytes, and the rest of a longer one is "
+                      "taken for a line", range(8, 25), (16, 20),
+                      lambda run, room: run.longest > room - 8),
+    "stale": Numbered("a line of the trace is read into {} bytes, and the rest of a longer one is "
+                      "taken for a line, with what it lacks from the one before",
+                      range(8, 25), (16, 20), lambda run, room: run.longest > room - 8),
 }
+# those that are looked for as RARE ones are
+RARE_NUMBERED = "most_set_bits", "split", "stale"
 BITS = "the first block with a clear reference bit is evicted, and"
 LATE, OTHERS, ALL = ("where there is none all bits are cleared",
                      "the others are cleared once all are set", "all are cleared once all are set")
@@ -51,7 +149,8 @@ THEN = ", and a miss does once its block is in"
 LAST = "; of equal ones the last is evicted"
 # the usual ones of those with a number: their names, and how a program differs from a right one
 USUAL = {each.text.format(number): {habit: number}
-         for habit, each in NUMBERED.items() for number in each.usual}
+         for habit, each in NUMBERED.items() for number in each.usual
+         if habit not in RARE_NUMBERED}
 # the same of mistakes that are usual
 MISTAKES = {
     "a hit does not count as a use of its block (FIFO)": {"evicts": "came"},
@@ -124,9 +223,10 @@ MISTAKES = {
     "an eviction counts as a hit too": {"report": lambda h, m, e: (h + e, m, e)},
     "evictions are not counted": {"report": lambda h, m, e: (h, m, 0)},
     "evictions are one too few": {"report": lambda h, m, e: (h, m, max(0, e - 1))},
-    "evictions are the misses less the lines of all sets": {"by_size": True},
+    "evictions are the misses less the lines of all sets": {
+        "by_size": lambda s, lines: lines << s},
     "a set's last free line counts as an eviction when it is filled": {
-        "early": lambda place, ways: place == ways - 1},
+        "early": lambda cache, place: place == cache.ways - 1},
     "all accesses count as misses": {"report": lambda h, m, e: (h, h + m, e)},
     "hits are one too many": {"report": lambda h, m, e: (h + 1, m, e)},
     "hits and misses are exchanged": {"report": lambda h, m, e: (m, h, e)},
@@ -140,9 +240,9 @@ RARE = {
     "a block that hits changes places with the one used last": {"hit": "swap"},
     "a hit makes its block younger by one only": {"hit": "later", "has_own_clock": True},
     "ages are signed and have only 8 bits": {
-        "evicts": "age", "has_own_clock": True, "age_of": lambda age: short(age, 8, True)},
+        "evicts": "age", "has_own_clock": True, "age_of": lambda age, ways: short(age, 8, True)},
     "ages have only 8 bits": {
-        "evicts": "age", "has_own_clock": True, "age_of": lambda age: short(age, 8)},
+        "evicts": "age", "has_own_clock": True, "age_of": lambda age, ways: short(age, 8)},
     **{f"{BITS} {when}; that of a new block is clear (NRU)": {
         "evicts": "clear", "clears": clears, "fresh": False}
        for clears, when in (("", LATE), ("others", OTHERS), ("all", ALL))},
@@ -153,8 +253,12 @@ RARE = {
        for evicts, equal in (("used", ""), ("used, last", LAST))},
     "an eviction counts, but the old block stays, and the new one is not kept": {"stays": True},
     "a miss counts as an eviction unless it is the first in its set (or it fills all free lines)": {
-        "early": lambda place, ways: place > 0},
+        "early": lambda cache, place: place > 0},
     "all accesses after the first hit count as hits (a flag is not reset)": {"sticks": True},
+    **{f"a line keeps its tag in {bits} bits, {sign}, and all bits are compared": {
+        "kept_tag": lambda tag, bits=bits, is_signed=is_signed: (
+            short(tag, bits, is_signed) % (1 << 64))}
+       for bits in (8, 16, 32) for sign, is_signed in (("signed", True), ("unsigned", False))},
     "tags are not compared": {"tag_of": lambda address, s, b: 0},
     "the mask of the set is (2 ^ s) - 1, where ^ is an exclusive or in C": {
         "set_of": lambda address, s, b: address >> b & (2 ^ s) - 1},
@@ -167,4 +271,125 @@ RARE = {
         "cache_of": lambda s, lines, b: (s, digit(lines), b)},
     "of the numbers behind options only the first digits are taken": {
         "cache_of": lambda s, lines, b: (digit(s), digit(lines), digit(b))},
+    "of the number behind -s only the first digit is taken": {
+        "cache_of": lambda s, lines, b: (digit(s), lines, b)},
+    "of the number behind -E only the last digit is taken": {
+        "cache_of": lambda s, lines, b: (s, digit(lines, -1), b)},
+    **{f"{what}{said}": {"spread": spread(places, order)}
+       for what, places in (("each block that an access touches counts", blocks),
+                            ("each byte of an access counts", each_byte),
+                            ("the block of an access's last byte counts too", ends),
+                            ("the block behind an access's own counts too where it ends there",
+                             next_too),
+                            ("the block of the byte behind an access counts too", past))
+       for order, said in (("each", ""), ("loads", ", for M first all loads"),
+                           ("once", ", for M as one access"))
+       if (places, order) != (ends, "once")},  # which is known
+    "an access that crosses into another block counts as a miss more": {"spread": crossing_counts},
+    "each line with I counts as a hit": fetch_as("hit"),
+    "each line with I counts as a miss": fetch_as("miss"),
+    "a line with I counts as two accesses, as M": fetch_as("L", "S"),
+    "S counts as two accesses, and M as one": {
+        "taken": twice("S"), "stores": lambda went: 0},
+    "the byte behind an access decides on its block": {"taken": lambda all: [
+        one._replace(address=one.address + one.size) for one in all]},
+    "all blocks share one set, which has the lines of all": {
+        "cache_of": lambda s, lines, b: (0, lines << s, b)},
+    "the line after one with I is lost": {"taken": after_fetch_lost},
+    "each second line of the trace is lost": {"taken": lambda all: all[::2]},
+    "each second line of the trace is lost, fetches not counted": {
+        "taken": lambda all: [one for one in all if one.kind != "I"][::2]},
+    "each line after one with an access is lost": {"taken": after_access_lost},
+    **{f"addresses are read as {name} numbers{those}": {"taken": in_base(base, checked)}
+       for name, base in (("decimal", 10), ("octal", 8))
+       for those, checked in (("", 0), (", and lines whose first digit is another are lost", 1),
+                              (", and lines with other digits are lost", 16))},
+    "only the first eviction from each set counts": {
+        "counted": lambda cache, index: index not in cache.evicting},
+    "an eviction counts only once all sets are full": {
+        "counted": lambda cache, index: cache.filled >= cache.ways << cache.set_bits},
+    "after the first eviction each miss counts as one (a flag is not reset)": {
+        "early": lambda cache, place: bool(cache.evicting)},
+    "evictions are the misses less the lines of one set": {"by_size": lambda s, lines: lines},
+    "evictions are the misses less the number of sets": {"by_size": lambda s, lines: 1 << s},
+    **{f"a full set is emptied{what}, which counts as {count}": {"flushes": flushes, "each": each}
+       for what, flushes in (("", "set"), (", with all others", "cache"))
+       for count, each in (("one eviction", False), ("an eviction of each of its blocks", True))},
+    "a set has twice as many lines": {"cache_of": lambda s, lines, b: (s, 2 * lines, b)},
+    "a set has 2 to the power of -E lines": {"cache_of": lambda s, lines, b: (s, 1 << lines, b)},
+    "a set has a line too few (with -E 1, one)": {
+        "cache_of": lambda s, lines, b: (s, max(1, lines - 1), b)},
+    "a set has a line too few, and with -E 1 each miss counts as an eviction": {
+        "cache_of": lambda s, lines, b: (s, max(1, lines - 1), b),
+        "early": lambda cache, place: cache.lines == 1},
+    "a set has a line too few, and with -E 1 nothing hits": {
+        "cache_of": lambda s, lines, b: (s, max(1, lines - 1), b),
+        "unseen": lambda cache, place: cache.lines == 1},
+    "a hit in the last line of a set is overlooked": {
+        "unseen": lambda cache, place: place == cache.ways - 1},
+    "a hit in the first line of a set is overlooked": {"unseen": lambda cache, place: place == 0},
+    "a set's last free line counts as an eviction when it is filled, unless it is the only one": {
+        "early": lambda cache, place: 0 < place == cache.ways - 1},
+    "-s and -E are exchanged": {"cache_of": lambda s, lines, b: (min(20, lines), max(1, s), b)},
+    "-E and -b are exchanged": {"cache_of": lambda s, lines, b: (s, max(1, b), lines)},
+    "there are twice as many sets": {"cache_of": lambda s, lines, b: (s + 1, lines, b)},
+    "there are half as many sets": {"cache_of": lambda s, lines, b: (max(0, s - 1), lines, b)},
+    "blocks are twice as large": {"cache_of": lambda s, lines, b: (s, lines, b + 1)},
+    "blocks are half as large": {"cache_of": lambda s, lines, b: (s, lines, max(0, b - 1))},
+    "there are s sets, not 2 to the power of s": {
+        "set_of": lambda address, s, b: (address >> b) % max(1, s)},
+    "blocks have b bytes, not 2 to the power of b": {
+        "set_of": lambda address, s, b: address // max(1, b) & (1 << s) - 1,
+        "tag_of": lambda address, s, b: address // max(1, b) >> s},
+    "the set is in the lowest bits of the tag": {
+        "set_of": lambda address, s, b: address >> s + b & (1 << s) - 1},
+    **{f"the set is in the highest of {bits} bits": {
+        "set_of": lambda address, s, b, bits=bits: address >> bits - s & (1 << s) - 1}
+       for bits in (48, 64)},
+    "the set is that of the address, with its offset, and the tag is the rest": {
+        "set_of": lambda address, s, b: address & (1 << s) - 1,
+        "tag_of": lambda address, s, b: address >> s},
+    "the mask of the set is 1 << s, without less 1": {
+        "set_of": lambda address, s, b: address >> b & 1 << s},
+    "counts are signed and have only 8 bits": {"report": counts_of(8, True)},
+    "counts are signed and have only 16 bits": {"report": counts_of(16, True)},
+    "hits, misses and evictions are told in the order misses, evictions, hits": {
+        "report": permuted(1, 2, 0)},
+    "hits, misses and evictions are told in the order evictions, hits, misses": {
+        "report": permuted(2, 0, 1)},
+    "hits and evictions are exchanged": {"report": permuted(2, 1, 0)},
+    "the last line of a set that is older than its first is evicted (the least time is not kept)": {
+        "evicts": "last older than first"},
+    "the first line of a set that is older than its first one is evicted (the search ends there)": {
+        "evicts": "first older than first"},
+    "the last line that is older than the one before it is evicted": {
+        "evicts": "older than the one before"},
+    "the first line of a set is never evicted, unless it is the only one": {"evicts": "not first"},
+    "the last line of a set is never evicted, unless it is the only one": {"evicts": "not last"},
+    "a full set always evicts the block in its last line": {"evicts": "last"},
+    "the block that came last is evicted (LIFO)": {"evicts": "newest"},
+    "the block used most often is evicted (MFU)": {"evicts": "most often"},
+    f"the block used least often is evicted (LFU){LAST}": {"evicts": "rarest, last"},
+    **{f"the line used least often is evicted, and a new block goes on with its count{equal}": {
+        "evicts": evicts, "goes_on": True}
+       for evicts, equal in (("rarest", ""), ("rarest, last", LAST),
+                             ("rarest, oldest", "; of equal ones the one used longest ago"))},
+    "the block with the lowest tag is evicted": {"evicts": "lowest tag"},
+    "the block with the highest tag is evicted": {"evicts": "highest tag"},
+    "a line by rand() is evicted, without srand()": {"evicts": "rand"},
+    **{f"the line that is evicted is the number of {what}, modulo -E": {
+        "evicts": evicts, "has_own_clock": is_own}
+       for what, evicts, is_own in (("accesses", "accesses", False), ("misses", "misses", False),
+                                    ("accesses to its set", "accesses", True),
+                                    ("evictions", "evictions", False))},
+    "the clock of LRU advances at hits only": {"ticks": "hits"},
+    "the clock of LRU advances at evictions only": {"ticks": "evictions"},
+    f"the clock of LRU advances at hits only{LAST}": {"ticks": "hits", "evicts": "used, last"},
+    "a block that hits changes places with the one used next after it": {"hit": "climbs"},
+    "a block that hits moves by one line to the front, and the last line is evicted": {
+        "hit": "place", "evicts": "last"},
+    **{f"blocks last used {limit} or more accesses to their set ago are taken for equally old (a "
+       "counter stops there)": {
+           "evicts": "age", "has_own_clock": True, "age_of": lambda age, ways, less=less: min(
+               age, ways - less)} for limit, less in (("-E less 1", 1), ("-E", 0))},
 }

@@ -1,9 +1,13 @@
 """A simulator for the cache lab with the habits of students' programs, right ones and others."""
 
 import collections
+import re
+
+from parts.victims import COUNTED, KEYS, PLACES
 
 MOST = 200000  # accesses: longer traces are not looked at
 MANY = 1 << 20  # no limit
+PART = re.compile(r"\s*(\S)?(?:\s*([0-9a-fA-F]+)(?:,([0-9]+))?)?")  # what sscanf finds in a part
 
 
 class Access(collections.namedtuple("Access", "kind address size digits")):
@@ -13,18 +17,23 @@ class Access(collections.namedtuple("Access", "kind address size digits")):
 # how a right simulator works
 RIGHT = dict(
     evicts="used",  # the block used first, or that which came first, was used last, ..
-    age_of=lambda age: age,  # how an age is kept where the oldest is evicted
+    # how an age is kept where the oldest is evicted
+    age_of=lambda age, ways: age,
     hit="now",  # what a hit does to the time of its block's last use: it is now, or one
-    # "later", or its block and the one used last "swap" theirs
+    # "later", or its block and the one used last "swap" theirs, or it "climbs" by one in age, or by
+    # one "place"
     fresh=True,  # the reference bit of a new block
     clears="",  # the reference bits of all, or of all "others", once all are set; or late
     address_bits=64,
     tag_bits=64,
+    kept_tag=None,  # what a line keeps of its tag, which is compared with a whole one
     index_bits=64,  # of a set's number
+    most_set_bits=64,
     clock_bits=64,
     has_signed_clock=False,
     has_own_clock=False,  # each set
-    ticks="",  # the clock stands at a hit, and at a miss goes on "before" or "after" its use
+    ticks="",  # the clock stands at a hit, and at a miss goes on "before" or "after" its use; or
+    # it goes on at "hits", or at "evictions"
     is_signed=False,
     kinds="LSM",
     stores=lambda went: 1,  # how often the store of an M counts after what its load did
@@ -32,16 +41,24 @@ RIGHT = dict(
     is_old=False,  # a new block is older than all others
     passes=False,  # a store that misses brings no block in
     crosses=False,  # an access touches the block of its last byte too
+    spread=None,  # what an access touches, as kinds and addresses; "hit" and "miss" only count
     is_valid=True,  # whether a line's valid bit is looked at
+    unseen=lambda cache, place: False,  # whether a hit in the line at a place is overlooked
     ways=MANY,  # a set uses at most so many lines
     apart=MANY,  # the array has so many lines for a set; more run into the next
     # whether a set's free line counts as an eviction when it is filled
-    early=lambda place, ways: False,
+    early=lambda cache, place: False,
+    counted=lambda cache, index: True,  # whether an eviction from a set counts
+    flushes="",  # a full "set", or all sets of the "cache", are emptied; each block is an eviction
+    each=False,  # .. that counts, or all are one
+    goes_on=False,  # how often a line was used is kept when its block changes
     stays=False,  # an eviction counts, but the old block stays, and the new one does not
     sticks=False,  # after the first hit all accesses hit
-    by_size=False,  # evictions are the misses less the lines of all sets
+    by_size=None,  # evictions are the misses less this, by set bits and lines
     held=MANY,  # a line is read into so many bytes, the last of them 0; the rest is ignored
     kept=MANY,  # the same, where lines that do not fit are not taken
+    split=MANY,  # the same, where the rest is taken for a line, unless it is not whole
+    stale=MANY,  # the same, and what it lacks stays as it was
     taken=lambda accesses: accesses,
     cache_of=lambda s, lines, b: (s, lines, b),
     set_of=lambda address, s, b: address >> b & (1 << s) - 1,
@@ -51,7 +68,8 @@ RIGHT = dict(
 
 
 # the habits that change which accesses count, or what is told of the counts
-OF_ACCESSES = "kinds", "stores", "crosses", "kept", "taken", "report"
+OF_ACCESSES = ("kinds", "stores", "crosses", "spread", "kept", "split", "stale", "taken",
+               "report")
 
 
 class Habits(collections.namedtuple("Habits", RIGHT, defaults=RIGHT.values())):
@@ -67,22 +85,11 @@ def short(number, bits, is_signed=False):
 class Line:
     """A block in a line of a set."""
 
-    __slots__ = ("used", "came", "uses", "place", "bit")
+    __slots__ = ("used", "came", "uses", "place", "bit", "tag")
 
-    def __init__(self, used, came, place, bit):
+    def __init__(self, used, came, place, bit, tag):
         self.used, self.came, self.uses, self.place, self.bit = used, came, 1, place, bit
-
-
-# the block with the least of these is evicted
-KEYS = {
-    "used": lambda line: (line.used, line.place),
-    "used, last": lambda line: (line.used, -line.place),
-    "came": lambda line: line.came,
-    "latest": lambda line: (-line.used, line.place),
-    "rarest": lambda line: (line.uses, line.place),
-    "rarest, oldest": lambda line: (line.uses, line.used),
-    "first": lambda line: line.place,
-}
+        self.tag = tag
 
 
 class Cache:
@@ -90,9 +97,11 @@ class Cache:
 
     def __init__(self, cache, habits):
         self.set_bits, lines, self.block_bits = habits.cache_of(*cache)
-        self.ways, self.habits = min(lines, habits.ways), habits
+        self.set_bits = min(self.set_bits, habits.most_set_bits)
+        self.ways, self.habits, self.lines = min(lines, habits.ways), habits, cache[1]
         self.sets, self.clocks, self.hands = {}, collections.Counter(), {}
-        self.hits = self.misses = self.evictions = 0
+        self.hits = self.misses = self.evictions = self.filled = 0
+        self.evicting = set()  # the sets that had an eviction
 
     def touch(self, kind, address):
         """An access to one block. Returns whether it hits."""
@@ -104,10 +113,10 @@ class Cache:
         tag = habits.tag_of(address, self.set_bits, self.block_bits) & (1 << habits.tag_bits) - 1
         index &= (1 << habits.index_bits) - 1
         lines = self.sets.setdefault(index, {})
-        line = lines.get(tag)
+        line = first_with(tag, lines) if habits.kept_tag else lines.get(tag)
         is_hit = (line or habits.sticks and self.hits
                   or not habits.is_valid and tag == 0 and len(lines) < self.ways)
-        if not habits.ticks or habits.ticks == "before" and not is_hit:
+        if habits.ticks in ("", "hits" if is_hit else "before"):
             self.tick(index)
         if is_hit:
             self.hits += 1
@@ -118,9 +127,17 @@ class Cache:
         before = self.evictions
         if not (habits.passes and kind == "S"):
             self.bring(index, lines, tag)
-        if habits.ticks == "after":
+        if habits.ticks == "after" or habits.ticks == "evictions" and self.evictions > before:
             self.tick(index)
         return "miss" if self.evictions == before else "eviction"
+
+    def touch_all(self, touched):
+        """Accesses to some blocks, or what only counts."""
+        for kind, address in touched:
+            if kind in "LS":
+                self.touch(kind, address)
+            self.hits += kind == "hit"
+            self.misses += kind == "miss"
 
     def tick(self, index):
         clock, habits = index if self.habits.has_own_clock else None, self.habits
@@ -139,22 +156,53 @@ class Cache:
         if self.habits.hit == "swap":
             last = max(lines.values(), key=lambda one: one.used)
             line.used, last.used = last.used, line.used
+        elif self.habits.hit in ("climbs", "place"):
+            self.climb(lines, line)
         else:
             line.used = self.now(index) if self.habits.hit == "now" else line.used + 1
 
+    def climb(self, lines, line):
+        """Has a block change with the one that was used next after it, or is one place before."""
+        name = "used" if self.habits.hit == "climbs" else "place"
+        mine = getattr(line, name)
+        found = [one for one in lines.values()
+                 if (one.used > mine if name == "used" else one.place == mine - 1)]
+        for other in sorted(found, key=lambda one: one.used)[:1]:
+            setattr(line, name, getattr(other, name))
+            setattr(other, name, mine)
+
     def bring(self, index, lines, tag):
         """Brings a block in, and evicts one where the set is full."""
-        place = len(lines)
+        place, habits, uses = len(lines), self.habits, 1
+        if not self.ways:
+            return
         if place >= self.ways:
-            self.evictions += 1
-            if self.habits.stays:
+            self.evictions += habits.counted(self, index)
+            self.evicting.add(index)
+            if habits.stays:
                 return
-            place = lines.pop(self.victim(index, lines)).place
+            if habits.flushes:
+                place = self.flush(lines)
+            else:
+                gone = lines.pop(self.victim(index, lines))
+                place, uses = gone.place, gone.uses + 1 if habits.goes_on else 1
         else:
-            self.evictions += self.habits.early(place, self.ways)
-        used = 0 if self.habits.is_old else self.now(index)
-        lines[tag] = Line(used, self.misses, place, self.habits.fresh)
-        self.mark(lines, lines[tag], self.habits.fresh)
+            self.filled += 1
+            self.evictions += habits.early(self, place)
+        used = 0 if habits.is_old else self.now(index)
+        kept = habits.kept_tag(tag) if habits.kept_tag else tag
+        made = Line(used, self.misses, place, habits.fresh, kept)
+        made.uses = uses
+        is_hidden = habits.unseen(self, place) or habits.kept_tag
+        lines[("hidden", self.misses) if is_hidden else tag] = made
+        self.mark(lines, made, habits.fresh)
+
+    def flush(self, lines):
+        """Empties a set, or all. Returns the place of the next block there."""
+        self.evictions += (len(lines) - 1) * self.habits.each
+        for one in self.sets.values() if self.habits.flushes == "cache" else [lines]:
+            one.clear()
+        return 0
 
     def mark(self, lines, line, bit=True):
         """Sets the reference bit of a block."""
@@ -173,13 +221,19 @@ class Cache:
         tags = sorted(lines, key=lambda tag: lines[tag].place)
         if evicts == "age":
             now, age_of = self.now(index), self.habits.age_of
-            return max(tags, key=lambda tag: age_of(now - lines[tag].used))
-        if evicts == "turn":
-            self.hands[0] = self.hands.get(0, -1) + 1
-            return tags[self.hands[0] % self.ways]
+            return max(tags, key=lambda tag: age_of(now - lines[tag].used, self.ways))
+        if evicts in COUNTED:
+            return tags[COUNTED[evicts](self, index) % self.ways]
+        if evicts in PLACES:
+            return tags[PLACES[evicts]([lines[tag].used for tag in tags])]
         held = [lines[tag] for tag in tags]
         return tags[self.first_clear(held) if evicts == "clear"
                     else self.second_chance(index, held)]
+
+    def turn(self):
+        """How often this was asked before."""
+        self.hands[0] = self.hands.get(0, -1) + 1
+        return self.hands[0]
 
     def first_clear(self, held):
         """The place of the first block with a clear bit. Where all are set, they are cleared."""
@@ -196,6 +250,12 @@ class Cache:
             hand = (hand + 1) % self.ways
         self.hands[index] = (hand + 1) % self.ways
         return hand
+
+
+def first_with(tag, lines):
+    """The first line of a set that keeps a tag; several may."""
+    return min((line for line in lines.values() if line.tag == tag),
+               key=lambda line: line.place, default=None)
 
 
 class Overlapping(Cache):
@@ -228,7 +288,27 @@ def taken(accesses, habits):
     if habits.kept < MANY:
         accesses = [one for one in accesses
                     if 5 + len(one.digits) + len(str(one.size)) <= habits.kept]
+    for room, is_checked in (habits.split, True), (habits.stale, False):
+        if room < MANY:
+            accesses = read_in_parts(accesses, room, is_checked)
     return habits.taken(accesses)
+
+
+def read_in_parts(accesses, room, is_checked):
+    """The accesses of a program that reads a line in parts of so many bytes, each as a line by
+    sscanf with " %c %llx,%d", and ignores what begins with I. Where it doesn't check how much was
+    found, what lacks is that of the part before."""
+    found, kind, address, size = [], "", 0, 0
+    for one in accesses:
+        text = f"{'I ' if one.kind == 'I' else ' ' + one.kind} {one.digits},{one.size}\n"
+        for at in range(0, len(text), room - 1):
+            parts = PART.match(text[at:at + room - 1]).groups()
+            kind = parts[0] or kind
+            address = address if parts[1] is None else int(parts[1], 16)
+            size = size if parts[2] is None else int(parts[2])
+            if kind != "I" and text[at] != "I" and (parts[2] or not is_checked):
+                found.append(Access(kind, address, size, f"{address:x}"))
+    return [one if one.kind in "SM" else one._replace(kind="L") for one in found]
 
 
 def accesses_in(lines):
@@ -248,6 +328,9 @@ def counts(accesses, cache, habits):
     for kind, address, size, _ in taken(accesses, habits):
         if kind not in habits.kinds:
             continue
+        if habits.spread:
+            made.touch_all(habits.spread(kind, address, size, made.block_bits))
+            continue
         went = made.touch("L" if kind == "M" else kind, address)
         for _ in range(habits.stores(went) if kind == "M" else 0):
             made.touch("S", address)
@@ -255,7 +338,7 @@ def counts(accesses, cache, habits):
         if habits.crosses and end >> made.block_bits != address >> made.block_bits:
             made.touch(kind, end)
     if habits.by_size:
-        made.evictions = max(0, made.misses - (made.ways << made.set_bits))
+        made.evictions = max(0, made.misses - habits.by_size(made.set_bits, made.ways))
     return habits.report(made.hits, made.misses, made.evictions)
 
 

@@ -21,7 +21,10 @@ SYSTEM = "/usr /bin /sbin /lib /lib32 /lib64 /libx32 /etc/alternatives /etc/ld.s
 PATH = "/usr/local/bin:/usr/bin:/bin"
 # has glibc fill memory of malloc, so that who takes it for zeros is found
 FILLED = {"MALLOC_PERTURB_": "165"}
+# what is changed in a run: memory of malloc comes as it is, or each piece of it has pages of its
+# own, so that a write past the end of one harms no other
 UNFILLED = ["env", "MALLOC_PERTURB_=0"]
+APART = ["env", "GLIBC_TUNABLES=glibc.malloc.mmap_threshold=1"]
 
 
 class Case(namedtuple("Case", "cache trace name is_turned", defaults=(False,))):
@@ -51,13 +54,13 @@ class Student:
         self.around, self.seconds = around or (lambda room: []), seconds
         self.few_seconds, self.slow_runs = min(seconds, max(1, seconds / 10)), 0
 
-    def run(self, case, *flags, by_line=False, is_filled=True):
-        """Runs the program on a case; by line, so that a crash loses none; with memory of malloc
-        filled, or as it comes. After a run that was too slow there is less time, so that a program
+    def run(self, case, *flags, by_line=False, changed=()):
+        """Runs the program on a case; by line, so that a crash loses none; with what is changed,
+        such as UNFILLED. After a run that was too slow there is less time, so that a program
         that hangs costs its time once; one that hangs only with flags keeps its time for runs
         without them."""
         seconds = self.few_seconds if flags and self.slow_runs else self.seconds
-        before = ["stdbuf", "-oL"] if by_line else [] if is_filled else UNFILLED
+        before = ["stdbuf", "-oL"] if by_line else changed
         try:
             with private.temporary(self.folder) as room:
                 ran = self.run_in(room, case, [*before, self.program, *flags], seconds)
