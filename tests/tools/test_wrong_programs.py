@@ -258,14 +258,14 @@ class Others(Wrong):
         """Nothing passes but what is compared with itself: growths of runs that read the same."""
         refusals = base.script("refusals")
         good, bad = self.named("refusals", ["MESSAGE", "KEEPS", "PIECES"])
-        self.assertEqual([name[:9] for name in good], ["four rows"] * 2 + ["each faul"])
+        self.assertEqual([name[:9] for name in good], ["four rows"] * 3 + ["each faul"])
         lengths = {letters: len(word) for letters, word in refusals.WORDS.items()}
         self.assertEqual(lengths, {6_000: 6_000, 100_000: 100_000})
         for _, arguments in refusals.of_a_word("w" * 100_000):
             self.assertGreaterEqual(max(map(len, arguments)), 100_000)
         words = len(refusals.WORDS) * len([*refusals.of_a_word("")])
         told = len(refusals.FAULTS) + words
-        self.assertEqual(len(bad), 2 * len(refusals.RUNS) + 4 + 2 + 4 + told)
+        self.assertEqual(len(bad), 2 * len(refusals.RUNS) + 5 + 2 + 5 + told)
 
     def test_a_program_that_crashes(self):
         """Where a signal ends it behind its last word, all that it does is wrong; of two runs on
