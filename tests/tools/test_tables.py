@@ -1,5 +1,6 @@
 """Tables of documents, against what they speak of: the code, help, and what the program writes."""
 
+import collections
 import re
 import unittest
 
@@ -181,6 +182,20 @@ class Speed(base.ToolTest):
         self.assertEqual(len(rows), 6)
         for name, before, now, gain in rows:
             self.assertAlmostEqual(float(before) / float(now), float(gain), delta=0.03, msg=name)
+
+
+class Examples(unittest.TestCase):
+    def test_what_they_hold(self):
+        """As many references of each kind as examples/README.md tells, and no others."""
+        rows = table((base.EXAMPLES / "README.md").read_text(), "File")
+        self.assertEqual(len(rows), 3)
+        for name, format, held in rows:
+            lines = (base.EXAMPLES / name.strip("`")).read_text().splitlines()
+            kinds = dict(reads="0", writes="1", fetches="2") if format == "din" else dict(
+                loads="L", stores="S", fetches="I")
+            told = {kinds[kind]: int(count.replace(",", ""))
+                    for count, kind in re.findall(rf"([\d,]+) ({'|'.join(kinds)})\b", held)}
+            self.assertEqual(collections.Counter(line.split()[0] for line in lines), told, name)
 
 
 class Scripts(base.ToolTest):
