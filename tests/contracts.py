@@ -10,6 +10,8 @@ ITEM = re.compile(r"^(?:pub(?:\(\w+\))? )?(impl|trait)\b(?:<[^{]*?>)? "
                   r"(?:[\w:]+(?:<[^{]*?>)? for )?(\w+)|^[^\s/}#].*$", re.M)
 FUNCTION = re.compile(r"(\bpub )?\bfn (\w+)")
 CLAUSE = re.compile(r"(ensures|requires)\s*(\w+)?\s*\{|[()\[\]{;]")
+# a function that others may call, with the comment above it
+CALL = re.compile(r"((?:^ *///.*\n)+)(?: *(?:#\[|// ).*\n)* *pub fn (\w+)(?:<[^(]*>)?\(", re.M)
 RECORD = re.compile(r"^(?:pub )?record (\w+)[^\n]*(?:\n[ \t][^\n]*|\n(?=\n? ))*", re.M)
 PART = re.compile(r"^  pub (\w+) : ((?:.*)(?:\n {4,}.*)*)", re.M)
 # a definition in the code; an invariant is none, since it is only assumed of what was made so
@@ -85,6 +87,20 @@ def functions_of_code(path):
         functions.append((called, [Clause(called, name, said, is_needed, bool(found[1]))
                                    for is_needed, name, said in contract(text, found.end())]))
     return functions
+
+
+def calls_of(path):
+    """The calls that a source offers, each with the names of its parameters and its comment."""
+    text = path.read_text()
+    owner_of = owner_at(text)
+    for found in CALL.finditer(text):
+        owner, end, depth = owner_of(found.start(2)), found.end(), 1
+        while depth:
+            depth += {"(": 1, ")": -1}.get(text[end], 0)
+            end += 1
+        parameters = re.findall(r"(\w+): ", text[found.end():end])
+        said = flat(re.sub(r"^ *///", "", found[1], flags=re.M))
+        yield f"{owner}{'::' * bool(owner)}{found[2]}", parameters, said
 
 
 def clauses_of_records(path):

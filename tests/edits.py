@@ -105,6 +105,8 @@ class Mutant:
             return "its control changes nothing"
         if self.reason is not None and not self.has_control:
             return "it says why it has no proved control, and has none"
+        if any(it.right is not None and not it.right.strip() for it in self.changes):
+            return "its control only drops code: an empty 'right:'"
         if self.is_of_gate and not self.has_control:
             return "the gate's mutants must have a control"
         if (words := self.other_words()) > MOST_WORDS:

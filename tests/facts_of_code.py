@@ -89,7 +89,7 @@ fact("docs/DECISIONS.md", r"Profiles of (\d+) ways or more have deep lists",
      lambda: [f"{deep()}"])
 fact("docs/definitions.md", r"and stream (\d+)\.",
      lambda: [f"{constant('cache_core', 'replacement.rt', 'STREAM')}"])
-fact("crates/deep_list/CALLING.md", r"an empty list of at most `cap` blocks, 1 to (2\^\d+)",
+fact("crates/deep_list/CALLING.md", r"A list of `cap` blocks has at most so many, 1 to (2\^\d+)",
      lambda: [power(geometry("MAX_CACHE_LINES"))])
 
 
@@ -183,13 +183,16 @@ def needed(crate, source, sentence):
 
 
 fact("crates/block_index/CALLING.md",
-     r"empty lists, at most (2\^\d+) of them, for at most (2\^\d+) slots",
+     r"Empty lists, at most (2\^\d+) of them, for at most (2\^\d+) slots",
      lambda: needed("block_index", "slot_lists.rt", r"\{ lists ≤ (2 \^ \d+) \}\s+requires slots "
                     r"\{ slots ≤ (2 \^ \d+) \}"))
-fact("crates/block_index/CALLING.md", r"`BlockIndex::new\(.*?\)` \| at most (2\^\d+) slots",
+fact("crates/block_index/CALLING.md", r"An index of at most (2\^\d+) slots",
      lambda: needed("block_index", "block_index.rt", r"\{ slots ≤ (2 \^ \d+) \}"))
-fact("crates/block_index/CALLING.md", r"by a product; at most (2\^\d+) chains",
+fact("crates/block_index/CALLING.md", r"The chain of a block, of at most (2\^\d+):",
      lambda: needed("block_index", "chains.rt", r"\{ chains ≤ (2 \^ \d+) \}"))
+for page, place in ("profile_core", "profile/counts.rt"), ("full_profile", "profile.rt"):
+    fact(f"crates/{page}/CALLING.md", r"The sums at associativity (\d+)",
+         lambda page=page, place=place: needed(page, place, r"sums_at self\.now (\d+) \}"))
 for page in "block_index", "deep_list":
     fact(f"crates/{page}/CALLING.md", r"on one chain: after (\d+) slots",
          lambda: [f"{constant('block_index', 'chains.rt', 'LONGEST')}"])
@@ -200,8 +203,6 @@ everywhere(r"(?:count for each|4 for each) (\d+) (?:slots|of these)",
 everywhere(r"at most (\d+) flags", lambda: {f"{constant('deep_list', 'slots.rt', 'CHUNK') - 1}"})
 fact("crates/deep_list/CALLING.md", rf"with roundings at most {NUMBER} bytes per block",
      lambda: [limits_memory.told_by_the_manual(limits_memory.LONG_LISTS)[1].partition("*")[0]])
-fact("crates/trace_core/CALLING.md", r"keeps what it takes, up to (\d+) bytes",
-     lambda: [f"{constant('trace_core', 'devices.rt', 'SINK_CAPACITY')}"])
 fact("docs/DECISIONS.md", rf"They took 10 bytes for each way, and an index takes {NUMBER},",
      lambda: of_caches()[3:4])
 fact("docs/DECISIONS.md", r"at most (\d+) counts and (\d+) flags",

@@ -13,6 +13,7 @@ import tempfile
 import unittest
 
 import base
+import contracts
 import documents
 
 DOCUMENTS = ["README.md", "examples/README.md", "tests/README.md"]
@@ -123,6 +124,24 @@ class Callers(unittest.TestCase):
     def blocks(self, page, language):
         """The blocks of a page that are in a language."""
         return re.findall(rf"^```{language}\n(.*?)^```$", page.read_text(), re.S | re.M)
+
+    def rows(self, page):
+        """The rows of a page's tables of calls: a call, with its parameters, and what it does."""
+        table = re.search(r"^Call \| What it does\n---\|---\n((?:.+\n)*)", page.read_text(), re.M)
+        return [row.split(" | ", 1) for row in table[1].splitlines()] if table else []
+
+    def test_described_calls(self):
+        """A call is described where it is defined: its row has the first sentences of the comment
+        there, without the last full stop."""
+        for page in self.PAGES:
+            calls = {f"`{name}({', '.join(parameters)})`": said
+                     for path in sorted((page.parent / "src").rglob("*.rt"))
+                     for name, parameters, said in contracts.calls_of(path)}
+            for call, does in self.rows(page):
+                self.assertIn(call, calls, page)
+                self.assertTrue(f"{calls[call]} ".startswith(f"{does}. "),
+                                f"{page}: {call}: {does}: its comment is: {calls[call]}")
+        self.assertGreater(sum(len(self.rows(page)) for page in self.PAGES), 80)
 
     def test_printed_callers(self):
         code = [path.read_text() for path in (base.TOP / "crates/callers/src").glob("*.rt")]

@@ -235,6 +235,7 @@ class Mutants(ToolTest):
             (EDIT + "control: none\n", "it says why it has no proved control, and has none"),
             (EDIT + "right:         number / 3\n", "its control is the mutant itself"),
             (EDIT + "right:         number / 2\n", "its control changes nothing"),
+            (EDIT + "right:\n", "its control only drops code: an empty 'right:'"),
             (EDIT + "right:         number  / 2 // half\n", "its control changes nothing"),
             (same, "it changes nothing"),
             (EDIT, "the gate's mutants must have a control"),

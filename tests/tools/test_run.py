@@ -121,7 +121,7 @@ class LeftOut(Bad):
     pass
 """)
         given = self.folder / "tests/test-tools", "--program", "/bin/true"
-        for option, plain, failed in ((), "", 8), (("--plain",), "1", 4):
+        for option, plain, failed in ((), "", 8), (("--plain",), "1", 3):
             words = (*given, *option, "bad")
             ran = self.run_command(*words)
             self.assertEqual(ran.returncode, 1)
@@ -160,3 +160,128 @@ class LeftOut(Bad):
     def test_a_name_without_tests(self):
         ran = self.run_tests("table", "by-lime", "absent.Reading")
         self.refused(ran, 2, "test-tools: no tests of by-lime or absent.Reading; ")
+
+
+# tests that end the process that they run in, that meet while both run, that fail when all have
+# passed, and that find the others at their end
+SEVERAL = """\
+import os
+import pathlib
+import sys
+import time
+import unittest
+
+HERE = pathlib.Path(__file__).parent
+
+
+def meets(own, other):
+    (HERE / own).touch()
+    until = time.monotonic() + 60
+    while not (HERE / other).exists() and time.monotonic() < until:
+        time.sleep(0.001)
+    return (HERE / other).exists()
+
+
+class Dying(unittest.TestCase):
+    def test_before(self):
+        pass
+
+    def test_dies(self):
+        print("it dies", flush=True)
+        print("it says so", file=sys.stderr, flush=True)
+        os.kill(os.getpid(), 9)
+
+    def test_never(self):
+        pass
+
+
+class Early(unittest.TestCase):
+    def test_ends(self):
+        print("ok test_several.Early.test_ends", "1 passed, 0 failed", sep="\\n", flush=True)
+        os._exit(1)
+
+
+class First(unittest.TestCase):
+    def test_meets(self):
+        self.assertTrue(meets("first", "second"))
+
+
+class Last(unittest.TestCase):
+    def test_passes(self):
+        pass
+
+    @classmethod
+    def tearDownClass(cls):
+        raise KeyError("at its end")
+
+
+class Measured(unittest.TestCase):
+    measures = True
+
+    def test_alone(self):
+        self.assertTrue((HERE / "ended").exists())
+
+
+class Second(unittest.TestCase):
+    def test_meets(self):
+        self.assertTrue(meets("second", "first"))
+        time.sleep(0.2)
+        (HERE / "ended").touch()
+"""
+TOLD = """\
+ok test_several.Dying.test_before
+it dies
+it says so
+FAILED test_several.Dying: of 3 tests 1 have passed, and the process ended with status -9
+ok test_several.Early.test_ends
+1 passed, 0 failed
+FAILED test_several.Early: of 1 tests 1 have passed, and the process ended with status 1
+ok test_several.First.test_meets
+ok test_several.Last.test_passes
+FAILED tearDownClass (test_several.Last)
+1 passed, 1 failed
+FAILED test_several.Last: of 1 tests 1 have passed, and the process ended with status 1
+ok test_several.Second.test_meets
+ok test_several.Measured.test_alone
+6 passed, 4 failed
+"""
+
+
+class SideBySide(ToolTest):
+    """Each class of tests has a process, and the sum is that of all."""
+
+    def run_several(self, text, *words):
+        """The lines that tell of tests, and the status."""
+        (self.folder / "tests/tools").mkdir(parents=True, exist_ok=True)
+        for name in ("test-tools", "common.py"):
+            shutil.copy(TOP / "tests" / name, self.folder / "tests")
+        self.write("tests/tools/test_several.py", text)
+        ran = self.run_command(self.folder / "tests/test-tools", "--program", "/bin/true", *words)
+        self.assertEqual(ran.stderr, b"")
+        text = re.sub(r" \(\d+ s\)$", "", ran.stdout.decode(), flags=re.M)
+        told = re.findall(r"^(?:ok |FAILED |it |\d+ passed).*\n", text, re.M)
+        return "".join(told), ran.returncode
+
+    def test_what_is_told(self):
+        """In the order of their names, and at the end what must be alone. A process that dies has
+        passed no more than it says, and one must end as it says."""
+        self.assertEqual(self.run_several(SEVERAL, "--jobs", 2), (TOLD, 1))
+
+    def test_those_that_meet(self):
+        """Two classes run at once, each in its process; with one job no class does."""
+        both = "several.First", "several.Second"
+        told = "ok test_several.First.test_meets\nok test_several.Second.test_meets\n"
+        self.assertEqual(self.run_several(SEVERAL, "--jobs", 2, *both),
+                         (f"{told}2 passed, 0 failed\n", 0))
+        alone = SEVERAL.replace("+ 60", "+ 0.1")
+        self.folder /= "another"
+        self.folder.mkdir()
+        self.assertIn("\n1 passed, 1 failed\n", self.run_several(alone, "--jobs", 1, *both)[0])
+
+    def test_a_file_that_cannot_be_read(self):
+        told, status = self.run_several("import absent\n")
+        self.assertEqual((told.splitlines()[-1], status), ("0 passed, 1 failed", 1))
+        self.write("tests/tools/test_few.py", SEVERAL)
+        told, status = self.run_several("import absent\n", "--jobs", 2, "several", "few.Last",
+                                        "few.Absent", "few.Measured")
+        self.assertEqual((told.splitlines()[-1], status), ("1 passed, 3 failed", 1))

@@ -118,6 +118,7 @@ class Large(base.ToolTest):
     """Time is linear in the rows of a table and in the seeds of a case: four times as many take at
     most six times as long, where what is quadratic takes sixteen."""
 
+    measures = True
     COLUMNS = ("l1-usets,l1-ubsize,l1-uassoc,l1-urepl,seed,l1-u-references,l1-u-misses,"
                "l1-u-percent,bypassed\n")
 

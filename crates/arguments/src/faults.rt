@@ -36,8 +36,8 @@ pub enum WordsFault {
 }
 
 impl WordsFault {
-    /// The status that the program ends with: 0 if help was asked for, 1 for `Memory`, and else
-    /// 2.
+    /// The status that the program ends with: 0 if help was asked for, 1 for `Memory`, and
+    /// otherwise 2.
     pub fn status(&self) -> u8
         ensures { result ≡ status_of self.now }
     {

@@ -26,8 +26,8 @@ fn has_only_digits(text: &str) -> bool
     text.bytes().all(|byte| byte.is_ascii_digit())
 }
 
-/// A number as `read_number` reads it, or one of `k K m M g G` after it: times 2^10, 2^20 or 2^30.
-/// `None` for any other text, and if the product is 2^64 or more.
+/// A number as `read_number` reads it, perhaps times the power of two of a `k K m M g G` after it.
+/// These are 2^10, 2^20 and 2^30. `None` for any other text, and if the product is 2^64 or more.
 pub fn read_scaled(text: &str) -> Option<u64>
     ensures { result ≡ scaled_of text.now }
 {

@@ -33,7 +33,8 @@ pub struct Command {
     pub trace: Option<String>,
 }
 
-/// The job that the arguments ask for. The first argument is the program's name. No file is opened.
+/// What the arguments ask for: a job, and the name of the trace's file if there is one. The first
+/// argument is the program's name. No file is opened.
 ///
 /// Errors, the first that applies: `Usage` for what `clap` refuses or for help; `Value` for the
 /// first bad value, in the order of the manual's tables; `Incomplete`; then `BadShape`, `Plan` or

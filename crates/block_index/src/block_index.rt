@@ -27,7 +27,7 @@ impl Model for BlockIndex {
 }
 
 impl BlockIndex {
-    /// An index of slots that have no block.
+    /// An index of at most 2^22 slots, none of which has a block.
     pub fn new(alloc: Global, slots: usize) -> Result<BlockIndex, AllocError>
         requires { slots ≤ 2 ^ 22 }
         ensures { IfOk result (λ r. r.blocks ≡ replicate slots None) }

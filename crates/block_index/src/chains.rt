@@ -6,7 +6,8 @@ ghost use Rattle.block_index.specs.Chains.{chain_of_block, IsSought, IsFirst};
 /// chosen for it. Then the slots are searched in order, which is faster.
 const LONGEST: usize = 32;
 
-/// The chain of a block: blocks at a stride of any power of two are spread over all.
+/// The chain of a block, of at most 2^24: blocks at a stride of any power of two are spread over
+/// all.
 #[inline(always)]
 pub fn chain_among(chains: usize, block: u64) -> usize
     requires some { 1 ≤ chains }

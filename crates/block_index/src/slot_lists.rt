@@ -33,7 +33,7 @@ impl Model for SlotLists {
 }
 
 impl SlotLists {
-    /// Empty lists, for a number of slots.
+    /// Empty lists, at most 2^22 of them, for at most 2^22 slots.
     pub fn new(alloc: Global, lists: usize, slots: usize) -> Result<SlotLists, AllocError>
         requires lists { lists ≤ 2 ^ 22 }
         requires slots { slots ≤ 2 ^ 22 }

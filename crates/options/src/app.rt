@@ -22,7 +22,7 @@ use std::alloc::{AllocError, Global};
 // The check takes long if a `Command` or an `Arg` is alive across a branch. So each is made in
 // one expression without a way out, or kept in a list.
 
-/// The program's command line.
+/// The program's command line for `clap`, with its help.
 pub fn cachesim_command<'a>(alloc: Global) -> Result<Command<'a>, AllocError>
     ensures app { IfOk result (λ c. app_of c ≡ cachesim_app) }
     ensures local { IfOk result (λ c. (fields_of c).has_globals ≡ false) }

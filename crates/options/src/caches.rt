@@ -67,7 +67,7 @@ static L1U_OPTIONS: CacheOptions = seven_options!("l1-u");
 
 static L2U_OPTIONS: CacheOptions = seven_options!("l2-u");
 
-/// The seven options of one cache.
+/// The seven options of one cache of `din` and `log`.
 pub fn cache_options(cache: CacheName) -> &'static CacheOptions
     ensures { IsOptionsOf cache result.now }
 {

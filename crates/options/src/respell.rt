@@ -6,8 +6,8 @@ ghost use Rattle.options.specs.Respell.{is_dinero_command};
 
 use std::alloc::{AllocError, Global};
 
-/// The arguments, with two dashes for Dinero's options. The first two, the program's name and the
-/// command, stay as they are.
+/// The arguments, with two dashes before an option of `din` or `log` that Dinero writes with one.
+/// The first two, the program's name and the command, stay as they are.
 pub fn respell(alloc: Global, arguments: &[String]) -> Result<Vec<String>, AllocError>
     ensures { IfOk result (λ v. map string_bytes v.items
         ≡ respelling_of (map string_bytes arguments.now)) }

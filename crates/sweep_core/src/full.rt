@@ -80,8 +80,8 @@ impl Model for FullSweepCounts {
 }
 
 impl FullSweepCounts {
-    /// Reads a whole trace, of at most `max_lines` lines, 1 to `MAX_LINES`, and counts for each row
-    /// of a request. It takes all its memory before it reads; its rows take none later.
+    /// Reads a whole trace, and counts for each row of a request. It may have at most `max_lines`
+    /// lines, 1 to `MAX_LINES`. All memory is taken before it is read; its rows take none later.
     ///
     /// Errors: `Memory`, with nothing read; `Trace` if the trace has a fault or the source failed;
     /// never `Write`.

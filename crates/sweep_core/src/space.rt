@@ -38,7 +38,7 @@ impl Config {
         }
     }
 
-    /// The bytes of all its lines, which have to be fewer than 2^64. The configurations of a space
+    /// The bytes of all its lines. They have to be fewer than 2^64; the configurations of a space
     /// have at most 2^42.
     pub fn bytes(&self) -> u64
         requires { HasSize self.now }

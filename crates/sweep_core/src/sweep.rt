@@ -24,9 +24,10 @@ use trace_core::{Lines, MAX_LINES, RunFault, Sink, Source};
 /// trace before it writes.
 pub type SweepFault = RunFault;
 
-/// Reads a whole trace, of at most `max_lines` lines, 1 to `MAX_LINES`. Then it writes the header,
-/// unless `after` is given, and then a row for each configuration greater than `after`, in rising
-/// order, at most `rows` of them, and flushes once. A failed sink is not called again.
+/// Reads a whole trace, and writes the table of a request: the header, unless `after` is given, and
+/// a row for each configuration greater than `after`, in rising order, at most `rows` of them. Then
+/// it flushes, once. A failed sink is not called again. The trace may have at most `max_lines`
+/// lines, 1 to `MAX_LINES`.
 ///
 /// Each row is written at once, without a buffer. So a caller whose sink is slow to call, such as a
 /// file or a socket, adds a buffer: `ToWrite` over a `BufWriter`.
@@ -89,8 +90,8 @@ impl Model for SweepCounts {
 }
 
 impl SweepCounts {
-    /// Reads a whole trace, of at most `max_lines` lines, 1 to `MAX_LINES`, and counts for each row
-    /// of a request. It takes all its memory before it reads; its rows take none later.
+    /// Reads a whole trace, and counts for each row of a request. It may have at most `max_lines`
+    /// lines, 1 to `MAX_LINES`. All memory is taken before it is read; its rows take none later.
     ///
     /// Errors: `Memory`, with nothing read; `Trace` if the trace has a fault or the source failed;
     /// never `Write`.
