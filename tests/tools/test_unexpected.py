@@ -62,6 +62,8 @@ STEERS = re.compile("[\0-\x09\x0b-\x1f\x7f-\x9f]")  # but the end of a line
 
 
 class Unexpected(base.ToolTest):
+    takes_long = True
+
     def setUp(self):
         super().setUp()
         self.write("t.din", "".join(f"0 {16 * number:x}\n" for number in range(40)))

@@ -176,6 +176,8 @@ class Fuzz(Wrong):
 
 
 class Run(Wrong):
+    takes_long = True
+
     def setUp(self):
         super().setUp()
         self.run_script, inputs = base.script("run"), base.TOP / "tests/cases/inputs"
@@ -230,6 +232,8 @@ class Run(Wrong):
 
 
 class Others(Wrong):
+    takes_long = True
+
     def named(self, script, mistakes, *arguments):
         """The names of what passed, and of what failed."""
         told = NAMED.findall(self.fails(script, mistakes, *arguments))
