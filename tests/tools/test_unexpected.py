@@ -127,7 +127,7 @@ class Large(base.ToolTest):
     def seconds(self, *words):
         """The processor's time, which others on the machine have little part in."""
         before = os.times().children_user
-        self.good(self.run_tool(*words))
+        self.assertTrue(self.good(self.run_tool(*words)))
         return os.times().children_user - before
 
     def judge(self, write, few, *runs):
