@@ -2,6 +2,7 @@
 
 import collections
 import contextlib
+import ctypes
 import importlib
 import importlib.machinery
 import importlib.util
@@ -78,11 +79,33 @@ def comes(condition, seconds=SECONDS):
     return is_true
 
 
-def all_processes(*names):
-    """Of each process its number, and some files of /proc/NUMBER; none of one that just ended."""
-    for path in pathlib.Path("/proc").glob("[0-9]*"):
+PR_SET_CHILD_SUBREAPER = 36
+
+
+def adopt_orphans():
+    """Has what this process's children leave behind become its own, so that no test looks at any
+    process but those that it started."""
+    ctypes.CDLL(None).prctl(PR_SET_CHILD_SUBREAPER, 1, 0, 0, 0)
+
+
+adopt_orphans()
+
+
+def children(process):
+    """The processes that one has started, if it is still there."""
+    with contextlib.suppress(OSError):
+        lists = pathlib.Path(f"/proc/{process}/task").glob("*/children")
+        return [int(number) for path in lists for number in path.read_text().split()]
+    return []
+
+
+def all_processes(*names, by="self"):
+    """Of each process that this one has started, and of theirs, its number, and some files of
+    /proc/NUMBER; none of one that just ended."""
+    for number in children(by):
         with contextlib.suppress(OSError):
-            yield int(path.name), *((path / name).read_bytes() for name in names)
+            yield number, *(pathlib.Path(f"/proc/{number}/{name}").read_bytes() for name in names)
+        yield from all_processes(*names, by=number)
 
 
 def processes(group):

@@ -1,7 +1,6 @@
 """What the tests of the tools for the cache lab share."""
 
 import contextlib
-import ctypes
 import importlib
 import os
 import pathlib
@@ -11,7 +10,7 @@ import subprocess
 import sys
 import tempfile
 
-from base import TOOLS, TOP, ToolTest, comes, ended
+from base import TOOLS, TOP, ToolTest, all_processes, comes, ended
 
 # a trans.c with a right function
 TRANS = """\
@@ -25,33 +24,14 @@ LAB = TOOLS / "lab"
 STUDENTS = TOP / "tests/tools/lab"
 sys.path.append(str(LAB))
 traces = importlib.import_module("parts.traces")
-PR_SET_CHILD_SUBREAPER = 36
 SHORT = " L 10,1\n M 20,1\n L 22,1\n S 18,1\n L 110,1\n L 210,1\n M 12,1\n"  # a trace
 
 
-def adopt_orphans(is_wanted):
-    """Has what a process leaves behind become this one's child, or no longer."""
-    ctypes.CDLL(None).prctl(PR_SET_CHILD_SUBREAPER, is_wanted, 0, 0, 0)
-
-
-def children(process):
-    """The processes that one has started, if it is still there."""
-    with contextlib.suppress(OSError):
-        lists = pathlib.Path(f"/proc/{process}/task").glob("*/children")
-        return [number for path in lists for number in path.read_text().split()]
-    return []
-
-
-def running(by="self"):
-    """The processes that this one has started, and theirs, which it adopts; no other is looked at.
-    One that has ended is none, though nobody waits for it."""
-    found = []
-    for number in children(by):
-        with contextlib.suppress(OSError):  # it may end meanwhile
-            state = pathlib.Path(f"/proc/{number}/stat").read_text().rpartition(")")[2].split()
-            found += [number] * (state[0] != "Z")
-        found += running(number)
-    return found
+def running():
+    """The processes that this one has started, and theirs. One that has ended is none, though
+    nobody waits for it."""
+    return [number for number, stat in all_processes("stat")
+            if stat.rpartition(b")")[2].split()[0] != b"Z"]
 
 
 def is_running(program):
@@ -64,12 +44,7 @@ def is_running(program):
 
 
 class LabTest(ToolTest):
-    """A test with a folder for a tool's private files, which knows what it has started."""
-
-    @classmethod
-    def setUpClass(cls):
-        adopt_orphans(True)
-        cls.addClassCleanup(adopt_orphans, False)
+    """A test with a folder for a tool's private files."""
 
     def setUp(self):
         super().setUp()

@@ -8,7 +8,11 @@ from base import PROGRAM, TOP, ToolTest, script
 
 # what is tried of a change of a file, beside the ledger
 TRIED = {
-    "crates/cache_core/src/cache.rt": "in crates/cache_core, rt check --jobs 1|tests/spec-names",
+    "crates/cache_core/src/cache.rt": "in crates/cache_core, rt check --jobs 1|tests/spec-names|"
+                                      "test-tools --plain documents.Callers",
+    "crates/cache_core/specs/Geometry.antt": "in crates/cache_core, rt check --jobs 1|"
+                                             "tests/spec-names|"
+                                             "test-tools --plain documents.Definitions",
     "crates/cache_core/CALLING.md": "test-tools --plain links documents.Callers",
     "tools/best": "test-tools --plain best style",
     "tools/by-line": "test-tools --plain by_line by_line_hand by_line_names style",
@@ -50,7 +54,7 @@ class Check(ToolTest):
         # each thing once
         both = self.listed("tools/best", "tests/tools/test_best.py", "docs/definitions.md")
         self.assertEqual(both, "test-tools --plain --list|test-tools --plain best style "
-                         "mutants.TheTable links facts documents.Documents.test_docs_definitions")
+                         "documents.Definitions links facts documents.Documents.test_docs_definitions")
         self.assertEqual(self.listed("tests/edits.py", "docs/proofs.md").count("mutants"), 1)
 
     def test_each_test_is_there(self):
@@ -89,7 +93,7 @@ class Check(ToolTest):
         calls = re.findall("(?m)^tried (.*)", text)
         self.assertEqual(calls, [
             f"rt check --jobs 1 in {self.folder}/crates/low", "tests/spec-names", "tests/ledger",
-            "tests/run", "tests/test-tools --plain wrong_models"])
+            "tests/run", "tests/test-tools --plain documents.Callers wrong_models"])
         self.assertEqual(len(re.findall(r"(?m)^== ok \(\d+ s\)$", text)), 5)
         self.assertTrue(text.endswith("\n9 passed, 0 failed\n"), text)
 

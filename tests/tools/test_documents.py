@@ -13,6 +13,7 @@ import tempfile
 import unittest
 
 import base
+import common
 import contracts
 import documents
 
@@ -180,6 +181,44 @@ class Callers(unittest.TestCase):
                     self.assertIn(wanted, of, f"{page}: {called} has no such clause: {line}")
                 quoted += 1
         self.assertGreaterEqual(quoted, 40)
+
+
+class Definitions(unittest.TestCase):
+    """docs/definitions.md says in words what modules of definitions say in the prover's language:
+    each entry names its modules, and each module is named."""
+
+    NAMES = re.compile(r"((?:`\w+`(?:, | and )?)+) of `(\w+)`")
+    # crates whose definitions need not be judged, or are a caller's
+    OTHERS = {"block_index", "callers", "deep_list"}
+
+    def setUp(self):
+        text = (base.TOP / "docs/definitions.md").read_text()
+        entries, _, self.where = text.partition("\n## Where each is\n")
+        parts = re.split(r"\n\n(?=\*\*|## |All are ours)", entries.partition("\n## ")[2])
+        self.entries = [part for part in parts if part.startswith("**")]
+        self.modules = {
+            (path.relative_to(base.TOP / "crates").parts[0], path.stem)
+            for path in base.TOP.glob("crates/*/specs/**/*.antt")
+            if "internal" not in path.parts and common.DEFINITION.search(path.read_text())}
+
+    def named(self, text):
+        """The modules that a text names, each with its crate."""
+        return {(crate, name) for names, crate in self.NAMES.findall(" ".join(text.split()))
+                for name in re.findall(r"\w+", names.replace(" and ", " "))}
+
+    def test_each_entry_names_its_modules(self):
+        self.assertGreater(len(self.entries), 28)
+        for entry in self.entries:
+            last = re.search(r"[.*] In ((?:[^.](?!\. ))*[^.])\.\Z", " ".join(entry.split()))
+            self.assertTrue(last, entry)
+            named = self.named(last[1])
+            self.assertTrue(named, entry)
+            self.assertLessEqual(named, self.modules, entry)
+
+    def test_each_module_is_named(self):
+        named = self.named("\n".join([*self.entries, self.where]))
+        judged = {(crate, name) for crate, name in self.modules if crate not in self.OTHERS}
+        self.assertEqual(judged - named, set())
 
 
 def squeezed(code):

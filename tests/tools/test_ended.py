@@ -17,8 +17,9 @@ import subprocess
 import tempfile
 import time
 
-from base import EXAMPLES, PLAIN, PROGRAM, TOOLS, TOP, ToolTest, catches, comes, needs
-from lab_base import STUDENTS, TRANS, adopt_orphans, running
+from base import (EXAMPLES, PLAIN, PROGRAM, TOOLS, TOP, ToolTest, adopt_orphans, catches, comes,
+                  needs)
+from lab_base import STUDENTS, TRANS, running
 from trace_base import TRACED, program_of
 
 SPACE = "--bsize 16-64 --sets 1-64 --assoc 1-8 --size 16-8k".split()
@@ -249,7 +250,7 @@ class EndedTest(ToolTest):
         cls.place.fill()
         cls.pool = concurrent.futures.ProcessPoolExecutor(
             mp_context=multiprocessing.get_context("fork"),
-            initializer=adopt_orphans, initargs=(True,))
+            initializer=adopt_orphans)
         cls.addClassCleanup(cls.pool.shutdown)
         words = {tool: [TOOLS / tool.split()[0], *words] for tool, words in cls.runs.items()}
         wholes = {tool: cls.pool.submit(whole_of, cls.place, tool, words[tool]) for tool in words}

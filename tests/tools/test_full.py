@@ -52,9 +52,10 @@ class BestOfFull(ToolTest):
 
     def test_pages_and_answers(self):
         """A page has no header, and an answer may be read again."""
-        self.assertEqual(self.best(ROWS, "--traffic"), self.best(TABLE, "--traffic"))
+        wanted = [f"{table.FULL_HEADER},traffic", "16,4,1,64,140,60,56,10,30,20,10,1120"]
         answer = "".join(f"{line}\n" for line in self.best(TABLE, "--rows", "3"))
-        self.assertEqual(self.best(answer, "--traffic"), self.best(TABLE, "--traffic"))
+        for text in TABLE, ROWS, answer:
+            self.assertEqual(self.best(text, "--traffic"), wanted)
 
     def test_refused(self):
         for text, fault in (

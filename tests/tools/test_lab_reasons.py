@@ -24,6 +24,8 @@ def unmarked(lines):
 
 
 class Reasons(StudentTest):
+    takes_long = True
+
     def setUp(self):
         super().setUp()
         traces.write(self.folder)

@@ -90,6 +90,8 @@ CALLS_CACHESIM   order  2,4,3   ended with status 1
 
 
 class Students(StudentTest):
+    takes_long = True
+
     def setUp(self):
         super().setUp()
         traces.write(self.folder)

@@ -223,12 +223,15 @@ class Measured(unittest.TestCase):
 
 
 class Second(unittest.TestCase):
+    takes_long = True
+
     def test_meets(self):
         self.assertTrue(meets("second", "first"))
         time.sleep(0.2)
         (HERE / "ended").touch()
 """
 TOLD = """\
+ok test_several.Second.test_meets
 ok test_several.Dying.test_before
 it dies
 it says so
@@ -241,7 +244,6 @@ ok test_several.Last.test_passes
 FAILED tearDownClass (test_several.Last)
 1 passed, 1 failed
 FAILED test_several.Last: of 1 tests 1 have passed, and the process ended with status 1
-ok test_several.Second.test_meets
 ok test_several.Measured.test_alone
 6 passed, 4 failed
 """
@@ -263,14 +265,15 @@ class SideBySide(ToolTest):
         return "".join(told), ran.returncode
 
     def test_what_is_told(self):
-        """In the order of their names, and at the end what must be alone. A process that dies has
-        passed no more than it says, and one must end as it says."""
+        """First what takes long, then the others in the order of their names, and at the end what
+        must be alone. A process that dies has passed no more than it says, and one must end as it
+        says."""
         self.assertEqual(self.run_several(SEVERAL, "--jobs", 2), (TOLD, 1))
 
     def test_those_that_meet(self):
         """Two classes run at once, each in its process; with one job no class does."""
         both = "several.First", "several.Second"
-        told = "ok test_several.First.test_meets\nok test_several.Second.test_meets\n"
+        told = "ok test_several.Second.test_meets\nok test_several.First.test_meets\n"
         self.assertEqual(self.run_several(SEVERAL, "--jobs", 2, *both),
                          (f"{told}2 passed, 0 failed\n", 0))
         alone = SEVERAL.replace("+ 60", "+ 0.1")

@@ -62,6 +62,8 @@ STEERS = re.compile("[\0-\x09\x0b-\x1f\x7f-\x9f]")  # but the end of a line
 
 
 class Unexpected(base.ToolTest):
+    takes_long = True
+
     def setUp(self):
         super().setUp()
         self.write("t.din", "".join(f"0 {16 * number:x}\n" for number in range(40)))
@@ -125,7 +127,7 @@ class Large(base.ToolTest):
     def seconds(self, *words):
         """The processor's time, which others on the machine have little part in."""
         before = os.times().children_user
-        self.good(self.run_tool(*words))
+        self.assertTrue(self.good(self.run_tool(*words)))
         return os.times().children_user - before
 
     def judge(self, write, few, *runs):

@@ -176,6 +176,8 @@ class Fuzz(Wrong):
 
 
 class Run(Wrong):
+    takes_long = True
+
     def setUp(self):
         super().setUp()
         self.run_script, inputs = base.script("run"), base.TOP / "tests/cases/inputs"
@@ -230,6 +232,8 @@ class Run(Wrong):
 
 
 class Others(Wrong):
+    takes_long = True
+
     def named(self, script, mistakes, *arguments):
         """The names of what passed, and of what failed."""
         told = NAMED.findall(self.fails(script, mistakes, *arguments))
@@ -284,7 +288,8 @@ class Others(Wrong):
 
     def test_limits(self):
         """Each kind of limit is found: of tables, times, memory and calls."""
-        bad = self.named("limits", ["BYTE", "GREEDY", "PIECES", "SLOW"], "--tries", 1)[1]
+        parts = "--parts", "tables,times,ratios,bytes_asked,memory,calls"
+        bad = self.named("limits", ["BYTE", "GREEDY", "PIECES", "SLOW"], "--tries", 1, *parts)[1]
         for name in (
             "441 pairs of block size and set count", "65536 associativities",
             "100,000 verbose lines, and none", "plain lines, and lines with every check",
@@ -297,7 +302,7 @@ class Others(Wrong):
             self.assertIn(name, bad)
 
     def test_limits_of_what_is_taken_late(self):
-        bad = self.named("limits", ["KEEPS", "PIECES"], "--tries", 1)[1]
+        bad = self.named("limits", ["KEEPS", "PIECES"], "--parts", "bytes_asked,written")[1]
         for name in (
             "bytes that din asks for after its first read",
             "a sweep with S = 8192 and A = 255: two blocks in each set",
