@@ -1,35 +1,85 @@
-"""The arguments of a tool that has argparse read them."""
+"""The arguments of the tools, which argparse reads."""
 
 import argparse
-import functools
-import os
+import sys
 
 from lib import tool
-
-# its texts stay as they are: to look for those of the locale takes 2 of a tool's 30 milliseconds
-argparse._ = str
-
-
-def columns():
-    """Those of the terminal; 80 where there is none."""
-    if asked := tool.number_of(os.environ.get("COLUMNS", "")):
-        return asked
-    try:
-        return os.get_terminal_size(1).columns or 80
-    except OSError:
-        return 80
+from lib.compiled import compiled
 
 
 class Arguments(argparse.ArgumentParser):
     """Arguments of a tool, whose help begins with its own text. A fault of them is one line."""
 
     def __init__(self, text, **given):
-        # without the width argparse reads many modules to find it
-        form = functools.partial(argparse.RawDescriptionHelpFormatter, width=columns() - 2)
-        super().__init__(prog=tool.NAME, description=text, formatter_class=form, **given)
+        super().__init__(prog=tool.NAME, description=text,
+                         formatter_class=argparse.RawDescriptionHelpFormatter, **given)
 
     def error(self, message):
         tool.misused(message)
 
     def print_help(self, file=None):
         tool.write_lines(self.format_help().splitlines())
+
+
+class Build(argparse.Action):
+    """Compiles the parts in C of a tool, and ends it."""
+
+    def __call__(self, parser, *_):
+        for part in self.const:
+            compiled(part)
+        parser.exit()
+
+
+class ByT(argparse.Action):
+    """The trace by -t, as the program takes it, where it has a place among the arguments."""
+
+    def __call__(self, parser, *_):
+        parser.error(f"the trace is the {self.const} argument, and not given by -t")
+
+
+class Program(argparse.Action):
+    """A program and its words, before which '--' may stand."""
+
+    def __call__(self, parser, asked, words, _=None):
+        asked.program = words[words[:1] == ["--"]:]
+
+
+class Collected(argparse.Action):
+    """Collects an option and its value, as they are to be handed on."""
+
+    def __call__(self, parser, asked, value, option=None):
+        getattr(asked, self.dest).extend([option] if self.nargs == 0 else [option, value])
+
+
+class Explained(Arguments):
+    """Arguments that the text explains: it is the whole help. With --build, which it does not tell
+    of, the tool only compiles its `parts`."""
+
+    def __init__(self, text, *parts):
+        super().__init__(text.strip(), usage=argparse.SUPPRESS, allow_abbrev=False)
+        if parts:
+            self.add_argument("--build", action=Build, nargs=0, const=parts)
+
+    def add_argument(self, *names, **given):
+        return super().add_argument(*names, **{**given, "help": argparse.SUPPRESS})
+
+    def add_program(self):
+        self.add_argument("program", nargs=argparse.REMAINDER, action=Program)
+
+    def add_places(self, *names):
+        """Arguments in the first places, before all that is handed on."""
+        self.places = names
+        for name in names:
+            self.add_argument(name, nargs="?")
+
+    def add_trace(self, *before):
+        self.add_places(*before, "trace")
+        self.add_argument("-t", action=ByT, nargs="?", const=("first", "second")[len(before)])
+
+    def handed_on(self, needed, asked=None):
+        """What is asked for, and what is handed on to the program."""
+        words = sys.argv[1:]
+        asked, others = self.parse_known_args(words, asked)
+        if not getattr(asked, self.places[-1]) or {*others[:1]} & {*words[:len(self.places)]}:
+            self.error(needed)
+        return asked, others
