@@ -389,6 +389,18 @@ class Faults(ToDin):
         formats = re.findall(r'(?m)^    \{"(\w+)"', (TOOLS / "lib/to-din.c").read_text())
         self.assertEqual(sorted(told), formats)
 
+    def test_what_was_compared(self):
+        """The help says of each format whether it was compared with what its tool writes; of those
+        that were there is a sample by the tool itself."""
+        text = self.good(self.run_tool("to-din", "--help"))
+        entries = dict(re.findall(r"(?m)^  ([a-z0-9]+) {2,}(.*(?:\n {14}.*)*)", text))
+        compared = {form for form, entry in entries.items() if "Compared with what" in entry}
+        others = {form for form, entry in entries.items()
+                  if re.search(r"Not\s+compared with its output", entry)}
+        self.assertEqual(compared | others | {"addresses"}, set(entries))
+        by_tools = (SAMPLES / "README.md").read_text().partition("The others show")[0]
+        self.assertEqual(compared, set(re.findall(r"`(\w+)\.txt` \|", by_tools)))
+
     def test_an_interrupt(self):
         pipes = dict.fromkeys(("stdin", "stdout", "stderr"), subprocess.PIPE)
         with subprocess.Popen([TOOLS / "to-din", "pin"], **pipes) as run:
