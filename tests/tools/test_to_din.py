@@ -396,7 +396,7 @@ class Faults(ToDin):
         entries = dict(re.findall(r"(?m)^  ([a-z0-9]+) {2,}(.*(?:\n {14}.*)*)", text))
         compared = {form for form, entry in entries.items() if "Compared with what" in entry}
         others = {form for form, entry in entries.items()
-                  if re.search(r"Not\s+compared with its output", entry)}
+                  if re.search(r"Not\s+compared\s+with\s+its\s+output", entry)}
         self.assertEqual(compared | others | {"addresses"}, set(entries))
         by_tools = (SAMPLES / "README.md").read_text().partition("The others show")[0]
         self.assertEqual(compared, set(re.findall(r"`(\w+)\.txt` \|", by_tools)))
