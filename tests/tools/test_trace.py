@@ -338,7 +338,8 @@ class StandIn(TraceTest):
     def test_options(self):
         self.assertIn("trace [OPTIONS] PROGRAM", self.good(self.run_tool("trace", "--help")))
         for words, text in (
-            ("", "a program is wanted"), ("-o", "-o"), ("--nosuch 1", "unrecognized arguments: --nosuch"),
+            ("", "a program is wanted"), ("-o", "-o"),
+            ("--nosuch 1", "--nosuch is no option"),
             ("--kind x true", "--kind"), ("--output '' true", "--output"),
             ("--skip -1 true", "--skip"), ("--count 1k true", "--count"),
             ("--count= true", "--count"), ("--count=00 true", "--count: '00' is no number above 0"),

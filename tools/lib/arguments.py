@@ -1,6 +1,7 @@
 """The arguments of the tools, which argparse reads."""
 
 import argparse
+import re
 import sys
 
 from lib import tool
@@ -37,13 +38,6 @@ class ByT(argparse.Action):
         parser.error(f"the trace is the {self.const} argument, and not given by -t")
 
 
-class Program(argparse.Action):
-    """A program and its words, before which '--' may stand."""
-
-    def __call__(self, parser, asked, words, _=None):
-        asked.program = words[words[:1] == ["--"]:]
-
-
 class Collected(argparse.Action):
     """Collects an option and its value, as they are to be handed on."""
 
@@ -63,9 +57,6 @@ class Explained(Arguments):
     def add_argument(self, *names, **given):
         return super().add_argument(*names, **{**given, "help": argparse.SUPPRESS})
 
-    def add_program(self):
-        self.add_argument("program", nargs=argparse.REMAINDER, action=Program)
-
     def add_places(self, *names):
         """Arguments in the first places, before all that is handed on."""
         self.places = names
@@ -75,6 +66,25 @@ class Explained(Arguments):
     def add_trace(self, *before):
         self.add_places(*before, "trace")
         self.add_argument("-t", action=ByT, nargs="?", const=("first", "second")[len(before)])
+
+    def before_program(self, flags=(), others="(?!)", asked=None):
+        """What is asked for, the `program` with its words, before which '--' may stand, and the
+        other options. These match a pattern. An option that is no flag has a value, which may begin
+        with a dash: argparse would take that of another option for the program."""
+        options, left = [], sys.argv[1:]
+        while left and left[0].startswith("-") and left[0] != "-":
+            word = left.pop(0)
+            if word == "--":
+                break
+            has_value = word not in ("-h", "--help", "--build", *flags) and "=" not in word
+            options.append("=".join([word, *left[:has_value]]))
+            del left[:has_value]
+        asked, found = self.parse_known_args(options, asked)
+        for word in found:
+            if not re.fullmatch(others, word):
+                self.error(f"{word.partition('=')[0]} is no option")
+        asked.program = left
+        return asked, found
 
     def handed_on(self, needed, asked=None):
         """What is asked for, and what is handed on to the program."""
