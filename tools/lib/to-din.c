@@ -158,8 +158,9 @@ static bool lackey(struct line line) {
 
 // ---- Patterns: the formats that follow a description, and were not compared with their tool
 
-// What is found in a line: of its access the address; flags.
-struct found { uint64_t address, flags; };
+// What is found in a line: its access, and flags, of which INST_FETCH makes a read a fetch.
+enum { SKIPPED = 0, BY_LETTER = 0, INST_FETCH = 0x100 };
+struct found { uint64_t address, flags; int access; };
 
 // zeros that fill the column of an address: 00000x7ffd1230
 static void fill(struct line *line) {
@@ -243,15 +244,18 @@ static bool part(struct line *line, char letter, struct found *found) {
 }
 
 // Letters behind '%' are those parts, one of the letters in {} stands there, what is in [] may be
-// missing, and all else stands there as it is.
+// missing, and all else stands there as it is. A letter in {} of r, w and i is that of an access.
 static bool matches(struct line *line, const char *pattern, struct found *found) {
     for (; *pattern && *pattern != ']'; pattern++) {
         if (*pattern == '%') {
             if (!part(line, *++pattern, found)) return false;
         } else if (*pattern == '{') {
-            const char *from = pattern + 1;
+            const char letter = *line->at++, *from = pattern + 1;
             pattern = strchr(from, '}');
-            if (!memchr(from, *line->at++, (size_t)(pattern - from))) return false;
+            if (!memchr(from, letter, (size_t)(pattern - from))) return false;
+            if (letter == 'r' || letter == 'R') found->access = READ;
+            if (letter == 'w' || letter == 'W') found->access = WRITE;
+            if (letter == 'i') found->access = FETCH;
         } else if (*pattern == '[') {
             struct line inner = *line;
             if (matches(&inner, pattern + 1, found)) *line = inner;
@@ -261,9 +265,8 @@ static bool matches(struct line *line, const char *pattern, struct found *found)
     return true;
 }
 
-enum { SKIPPED = 0, FLAGGED = 'f', INST_FETCH = 0x100 };  // by the flags a fetch or a read
-
-// A line of a format has the access of the first pattern that it matches to its end.
+// A line of a format is as the first pattern that it matches to its end, and has its access, or the
+// one of a letter.
 struct pattern {
     const char *text;
     int access;
@@ -271,10 +274,7 @@ struct pattern {
 
 // r 0x7ffd1230 8
 static const struct pattern dinero[] = {
-    {"%sr%b%a%b%x%e%*", READ},
-    {"%sw%b%a%b%x%e%*", WRITE},
-    {"%si%b%a%b%x%e%*", FETCH},
-    {"%s{mcv}%b%x%b%x%e%*", SKIPPED},
+    {"%s{rwimcv}%b%a%b%x%e%*", BY_LETTER},
     {0},
 };
 
@@ -285,7 +285,8 @@ static const struct pattern drmemtrace[] = {
     {"%s%tread%b%d byte(s) @ %a%e%*", READ},
     {"%s%twrite%b%d byte(s) @ %a%e%*", WRITE},
     {"%s%tpref%*", SKIPPED},
-    {"%s%t{id}flush %*", SKIPPED},
+    {"%s%tiflush %*", SKIPPED},
+    {"%s%tdflush %*", SKIPPED},
     {"%s%t%o", SKIPPED},
     {"%s[%t]<%*", SKIPPED},
     {"%s---%*", SKIPPED},
@@ -297,28 +298,23 @@ static const struct pattern drmemtrace[] = {
 
 // [5,]r,2147483648,64[,256],1000[,4198400]
 static const struct pattern gem5[] = {
-    {"[%d,]r,%n,%d,%d", READ},
-    {"[%d,]r,%n,%d,%f,%d[,%d]", FLAGGED},
-    {"[%d,]w,%n,%d,%d[,%d][,%d]", WRITE},
-    {"[%d,]u,%d,%d,%d[,%d][,%d]", SKIPPED},
+    {"[%d,]{rwu},%n,%d,%f,%d[,%d]", BY_LETTER},
+    {"[%d,]{rwu},%n,%d,%d", BY_LETTER},
     {0},
 };
 
 // memtrace_simple: '0x7ffd1230:  8, w'; memtrace_x86: '0x401000,w,8,0x7ffd1230'
 static const struct pattern memtrace[] = {
-    {"%a:%b%d, r", READ},
-    {"%a:%b%d, w", WRITE},
+    {"%a:%b%d, {rw}", BY_LETTER},
     {"%a:%b%d, %l%*", FETCH},  // an instruction's name
-    {"%x,r,%d,%a", READ},
-    {"%x,w,%d,%a", WRITE},
+    {"%x,{rw},%d,%a", BY_LETTER},
     {"Format:%*", SKIPPED},
     {0},
 };
 
 // 0x401000: R 0x7ffd1230 [8 0x1f]
 static const struct pattern pin[] = {
-    {"%x: R%b%p[%b%d%e%*]", READ},
-    {"%x: W%b%p[%b%d%e%*]", WRITE},
+    {"%x: {RW}%b%p[%b%d%e%*]", BY_LETTER},
     {"#%*", SKIPPED},
     {0},
 };
@@ -346,14 +342,13 @@ static bool take_patterns(const struct pattern *each, const struct pattern *behi
                           struct line line) {
     while (each->text) {
         struct line left = line;
-        struct found found = {0, 0};
+        struct found found = {0, 0, each->access};
         if (!matches(&left, each->text, &found) || !(ended(&left) || behind)) {
             each++;
             continue;
         }
-        enum label flagged = found.flags & INST_FETCH ? FETCH : READ;
-        if (each->access) put(each->access == FLAGGED ? flagged : (enum label)each->access,
-                              found.address);
+        if (found.access == READ && found.flags & INST_FETCH) found.access = FETCH;
+        if (found.access) put((enum label)found.access, found.address);
         if (ended(&left)) return true;
         line = left, each = behind;
     }
