@@ -90,6 +90,7 @@ class Explained(Arguments):
         """What is asked for, and what is handed on to the program."""
         words = sys.argv[1:]
         asked, others = self.parse_known_args(words, asked)
-        if not getattr(asked, self.places[-1]) or {*others[:1]} & {*words[:len(self.places)]}:
+        is_missing = getattr(asked, self.places[-1]) is None
+        if is_missing or {*others[:1]} & {*words[:len(self.places)]}:
             self.error(needed)
         return asked, others
