@@ -1,6 +1,7 @@
 """The arguments of the tools, which argparse reads."""
 
 import argparse
+import os
 import re
 import sys
 
@@ -88,7 +89,9 @@ class Explained(Arguments):
 
     def handed_on(self, needed, asked=None):
         """What is asked for, and what is handed on to the program."""
-        words = sys.argv[1:]
+        words, last = sys.argv[1:], len(self.places) - 1
+        if words[last:] and re.match("-.", words[last]) and os.path.exists(words[last]):
+            words[last] = f"./{words[last]}"  # a file, and no option
         asked, others = self.parse_known_args(words, asked)
         is_missing = getattr(asked, self.places[-1]) is None
         if is_missing or {*others[:1]} & {*words[:len(self.places)]}:
