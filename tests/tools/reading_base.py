@@ -32,7 +32,7 @@ class Reading:
         with subprocess.Popen(["cp", base.EXAMPLES / "sort.din", self.folder / "pipe"]):
             self.assertEqual(self.good(self.read("pipe")), expected)
         hard = "it's \"$HOME\" `x`\\n.din", "line\nfeed", "é", os.fsdecode(b"\xff\xfe"), "x=y", "%s"
-        for name in ("a trace.din", "-a trace", "-t.din", *hard):
+        for name in ("a trace.din", "-a trace", *hard):
             (self.folder / name).write_bytes(SORT)
             (self.folder / f"{name}.gz").write_bytes(gzip.compress(SORT))
             for trace in (name, f"{name}.gz", f"./{name}", f"./{name}.gz"):
