@@ -3,7 +3,8 @@
 An option is a line of a help that begins with it, behind blanks. Its value is one of several words
 where it stands as u|d|i or {yes,no}, or where the option's text ends in letters with their
 meanings, as 'u all, d data'. A tool that takes the options of `cachesim sweep` or `cachesim din`,
-as its help says, has these too, but for the trace. Each argument of a tool may be a file.
+as its help says, has these too, but for the trace and what the help leaves out. Each argument of a
+tool may be a file.
 """
 
 import re
@@ -17,7 +18,8 @@ OPTION = re.compile(r"^( +)(?=-)(?:(-\w)(?:, )?)?(--[\w-]+)?(?: (\S+))?"
                     r"((?: {2,}.*)?(?:\n\1 {2,}(?![ -]).*)*)$", re.M)
 LETTER = re.compile(r"([a-z]) (.+)")
 ONE_DASH = re.compile(r"--(?:l\d-\w+|informat)")  # as in Dinero IV
-PASSED_ON = re.compile(r"(?:those of|what|options? of)\s+`(cachesim (?:sweep|din))`")
+PASSED_ON = re.compile(r"(?:those of|what|options? of)\s+`(cachesim (?:sweep|din))`(?:\s+takes)?"
+                       r"(?:,\s+(?:but\s+for|except|without)\s+(-[\w-]+(?:\s+and\s+-[\w-]+)*))?")
 ANOTHER_NAME = re.compile(r"(--[\w-]+)\s+is\s+another\s+name\s+for\s+(-[\w-]+)")
 
 
@@ -60,9 +62,10 @@ def commands_of(texts):
         is_tool = name.startswith("cachesim-")
         passed_on = PASSED_ON.search(text) if is_tool else None
         taken = commands[passed_on[1]].options if passed_on else []
+        left_out = {"-t", *re.findall(r"-[\w-]+", passed_on[2] or "")} if passed_on else set()
         other = {known: another for another, known in ANOTHER_NAME.findall(text)}
         given = [option._replace(names=(*option.names, *filter(None, map(other.get, option.names))))
-                 for option in taken if "-t" not in option.names]
+                 for option in taken if not left_out & {*option.names}]
         found = [*([HELP] if is_tool else []), *given, *options_in(text, is_tool)]
         words = [(word, re.split(r"[:.] ", meaning)[0]) for word, meaning in words_in(text)]
         options = {option.names[-1]: option for option in found}

@@ -23,8 +23,8 @@ SHELLS = {completion.bash: "bash-completion/completions/{}",
 # documents, and what these and the pages name
 DOCUMENTS = ["*.md", "CITATION.cff", "docs", "examples", "tests/README.md", "tests/cases/inputs",
              "tests/tools/lab/student.c", "tools/README.md", "tools/*/README.md"]
-# a call in a tool that compiles a C part of it
-PART = re.compile(r"\bcompiled\(\"([\w.-]+)\"")
+# a call in a tool that names a C part of it
+PART = re.compile(r"\b(?:compiled|Arguments|Explained)\((?:__doc__, )?\"([\w.-]+)\"")
 
 
 def write(path, content):

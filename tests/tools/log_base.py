@@ -94,6 +94,8 @@ class Filtering(reading_base.Reading):
         for words in (["--informat=l"], ["--informat", "l"], ["--format", "l"], ["--format=l"]):
             got = self.good(self.run_on("-", *words, *self.CACHE, stdin=TRANSPOSE))
             self.assertEqual(got, expected)
+        (self.folder / "-t").write_bytes(TRANSPOSE)  # which is no option where a trace is wanted
+        self.assertEqual(self.good(self.run_on("-t", *words, *self.CACHE)), expected)
 
     def test_faults_of_arguments(self):
         """They are told before a line of the trace is read."""

@@ -354,11 +354,10 @@ class Faults(ByLineTest):
         self.write("bad.map", "1000-2000 rw-p 00000000 00:00 0\n1000-2000 rw-p\n")
         for words, status, fault, *text in (
             ("-t x", 2, "the trace is the first argument"),
-            ("-- x", 2, "-- is no option; "),
-            ("--at", 2, "--at is no option, or wants a value"),
+            ("--at", 2, "argument --at/--cache: expected one argument"),
             ("--at l2-u", 2, "there is no cache l2-u"),
-            ("--at x", 2, "'x' is no cache"),
-            ("--cache x", 2, "'x' is no cache"),
+            ("--at x", 2, "argument --at/--cache: invalid choice: 'x'"),
+            ("--cache x", 2, "argument --at/--cache: invalid choice: 'x'"),
             ("--by lines", 2, by),
             ("--base 10", 2, "--base is for a --program"),
             ("--map m --program p", 2, "--map leaves nothing to --program and --base"),
@@ -374,7 +373,8 @@ class Faults(ByLineTest):
                 self.refused(ran, status, f"by-line: {fault}")
         needed = "by-line: a trace and the options of din are needed"
         self.refused(self.run_tool("by-line", "-"), 2, needed)
-        self.refused(self.run_tool("by-line", "-", *cache(3, 2)), 2, "cachesim: ")
+        for words in cache(3, 2), [*CACHE.split(), "--", "x"]:
+            self.refused(self.run_tool("by-line", "-", *words), 2, "cachesim: ")
 
     def test_the_number_of_a_line(self):
         """It is that in the trace, however many lines before it no cache takes."""

@@ -61,17 +61,18 @@ class ByPage(log_base.Filtering, base.ToolTest):
         self.assertEqual(answer, HEADER + rows)
 
     def test_own_options(self):
-        power = "is no page size: no power of two"
+        page, power = "argument --page:", "is no page size: no power of two"
         for words, fault in (
-            (["--page", "3k"], f"'3k' {power}; 'by-page --help' explains the arguments\n"),
-            (["--page", "0"], f"'0' {power}"),
-            (["--page", "2g"], "'2g' is a page of more than 1g"),
-            (["--page=1073741825"], "'1073741825' is a page of more than 1g"),
-            (["--page", "536870912g"], "'536870912g' is a page of more than 1g"),
-            (["--page", "x"], "'x' is no page size such as 4k"),
-            (["--page", "9999999999g"], "'9999999999g' is no page size such as 4k"),
-            (["--page"], "'' is no page size such as 4k"),
-            (["--cache", "memory"], "--cache is l1-i, l1-d, l1-u or l2-u; "),
+            (["--page", "3k"], f"{page} '3k' {power}; 'by-page --help' explains the arguments\n"),
+            (["--page", "0"], f"{page} '0' {power}"),
+            (["--page", "2g"], f"{page} '2g' is a page of more than 1g"),
+            (["--page=1073741825"], f"{page} '1073741825' is a page of more than 1g"),
+            (["--page", "536870912g"], f"{page} '536870912g' is a page of more than 1g"),
+            (["--page", "x"], f"{page} 'x' is no page size such as 4k"),
+            (["--page", "9999999999g"], f"{page} '9999999999g' is no page size such as 4k"),
+            (["--page="], f"{page} '' is no page size such as 4k"),
+            (["--page"], f"{page} expected one argument"),
+            (["--cache", "memory"], "argument --cache/--at: invalid choice: 'memory'"),
             (["--cache", "l1-i"], "no option is of l1-i; "),
         ):
             self.refused(self.run_tool("by-page", "-", *self.CACHE, *words), 2, f"by-page: {fault}")

@@ -36,7 +36,7 @@ OPTIONS = {
     "--rows --csv -o --output --from --to --during --skip --count --libraries --any-version",
     "cachesim-second-level": f"{DIN} --format",
     "cachesim-three-c": SWEEP,
-    "cachesim-optimal": SWEEP,
+    "cachesim-optimal": SWEEP.removesuffix(" --full"),
     "cachesim-any-index": "-h --help --sets --bsize --assoc --index --kind --format",
     "cachesim-prefetch": f"{DIN} --buffer --cache --format",
     "cachesim-warm": SWEEP,

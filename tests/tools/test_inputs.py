@@ -183,7 +183,7 @@ class OfTrace(InputTest):
 
     def test_a_fault_before(self):
         """One that is found before it is known what is read."""
-        self.spared("-o input --kind x", "--kind is u, d or i")
+        self.spared("-o input --skip x", "argument --skip: 'x' is no number")
         self.spared("--output=input --bogus=1", "--bogus is no option")
         self.spared("-o input --with lackey --map m", "--from, --to, --during, --libraries, "
                     "--any-version, --map and --threads are for QEMU")

@@ -239,7 +239,7 @@ class Trace(LabTest):
         self.ends(self.trace(), 125, message, LAST)
         ran = self.trace("--all", "ls")
         self.assertEqual((ran.returncode, ran.stdout.decode()), (125, LAST))
-        self.assertIn("lab-trace: unknown option --all; ", ran.stderr.decode())
+        self.assertIn("lab-trace: --all is no option; ", ran.stderr.decode())
         self.assertTrue(self.good(self.trace("--help")).startswith("lab-trace PROGRAM ARGS.. "))
         message = "lab-trace: valgrind is missing: apt-get install valgrind\n"
         self.ends(self.trace("ls", env={"PATH": str(self.private)}), 125, message, LAST)

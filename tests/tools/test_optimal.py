@@ -210,11 +210,11 @@ class Optimal(reading_base.Reading, base.ToolTest):
         text = "".join(f"0 {number:x}\n" for number in range(1 << 20)).encode()
         words = *map(str, (base.TOOLS / "optimal", "-")), *"--bsize 1 --sets 1 --assoc 1".split()
         self.run_tool("optimal", "--build")
-        line = 'ulimit -v 20000; exec "$0" "$@"'
+        line = 'ulimit -v 20000; exec -a optimal "$0" l1-u 3 4 5 3< caches 4<> blocks 5<> uses'
         inner = base.TOOLS / "out/optimal"
         self.write("caches", "1\n1,1,1\n")
         log = text.replace(b"0 ", b"l1-u 0 ").replace(b"\n", b" miss\n")
-        ran = self.run_command("bash", "-c", line, inner, "optimal", "l1-u", "caches", stdin=log)
-        self.refused(ran, 1, "optimal: out of memory\n")
+        ran = self.run_command("bash", "-c", line, inner, stdin=log)
+        self.refused(ran, 1, "optimal: too little memory\n")
         self.assertEqual(self.good(self.run_command(*words, "--size", "1", stdin=text)),
                          f"{table.HEADER}\n1,1,1,1,0,{1 << 20},{(1 << 20) - 1}\n")

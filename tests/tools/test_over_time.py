@@ -56,12 +56,12 @@ class OverTime(log_base.Filtering, base.ToolTest):
         for words, fault in (
             ([], "--each must be a number of references above 0; 'over-time --help' explains the "
              "arguments\n"),
-            (["--each"], "--each must be"),
+            (["--each"], "argument --each: expected one argument"),
             (["--each", "0"], "--each must be"),
             (["--each=1k"], "--each must be"),
-            (["--each=1", "--cache", "l1"], "--cache is l1-i, l1-d, l1-u or l2-u; "),
-            (["--each=1", "--cache"], "--cache is "),
-            (["--each=1", "--at", "l1"], "--cache is "),
+            (["--each=1", "--cache", "l1"], "argument --cache/--at: invalid choice: 'l1'"),
+            (["--each=1", "--cache"], "argument --cache/--at: expected one argument"),
+            (["--each=1", "--at", "l1"], "argument --cache/--at: invalid choice: 'l1'"),
             (["--each=1", "--cache=l2-u"], "no option is of l2-u; "),
         ):
             ran = self.run_tool("over-time", "-", *self.CACHE, *words)

@@ -161,7 +161,8 @@ class Prefetch(log_base.Filtering, base.ToolTest):
         self.assertEqual(answer, HEADER + "l1-d,next-line,4,3,75.000\n")
 
     def test_own_options(self):
-        for words in ("--buffer", "--buffer=0", "--buffer=x", "--buffer=2000000"):
+        for words in ("--buffer=", "--buffer=0", "--buffer=x", "--buffer=2000000"):
             ran = self.run_on("-", *self.CACHE, words)
             self.refused(ran, 2, "--buffer must be a number of blocks from 1 to 1048576")
+        self.refused(self.run_on("-", *self.CACHE, "--buffer"), 2, "expected one argument")
         self.refused(self.run_on("-", *self.CACHE, "--cache", "l2-u"), 2, "no option is of l2-u")

@@ -11,12 +11,6 @@ import base
 
 # they pass on the status of the program that they trace
 WRONG_ARGUMENTS = {"profile": 125, "trace": 125, "lab/lab-trace": 125}
-# they read what they need at once, whatever they are asked for
-READ_ALL = "by-line", "profile"
-# modules that take a millisecond or several to read
-SLOW = set("concurrent.futures csv ctypes dataclasses decimal fractions html importlib inspect "
-           "json locale pathlib random shutil statistics subprocess tempfile threading "
-           "typing".split())
 
 
 def scripts():
@@ -123,45 +117,6 @@ class Pythons(base.ToolTest):
                 is_trace = path.name in ("lab-trace", "second-level", "to-din", "trace")
                 status = 125 if path.name in ("lab-trace", "profile", "trace") else 1
                 self.ends(ran, status, told, told * is_trace)
-
-
-class Beginnings(base.ToolTest):
-    """A tool begins in three times the time of Python itself, since it reads little."""
-
-    def slow(self, status, *words):
-        """The slow modules that a tool reads in a run."""
-        ran = self.run_command("/usr/bin/python3", "-X", "importtime", "-BES", *words)
-        read = re.findall(r"^import time: .*\| +(\S+)$", ran.stderr.decode(), re.M)
-        self.assertEqual((ran.returncode, "signal" in read), (status, True), ran.stderr)
-        return SLOW & set(read)
-
-    def test_help_and_wrong_arguments(self):
-        for path in filter(lambda path: path.startswith(f"{base.TOOLS}/"), tools()):
-            name = os.path.relpath(path, base.TOOLS)
-            if name in READ_ALL:
-                continue
-            for option, status in ("--help", 0), ("--no-such", WRONG_ARGUMENTS.get(name, 2)):
-                with self.subTest(tool=name, option=option):
-                    self.assertEqual(self.slow(status, path, option), set())
-
-    def test_runs(self):
-        """No more is read than a run needs: no page, no fraction where a table has none."""
-        self.write("trace", " L 10,1\n")
-        self.write("t.csv", "16,1,1,16,5,5,4\n")
-        lab = "-s", "1", "-E", "1", "-b", "4"
-        for status, needed, tool, *words in (
-            (0, "", "best", "t.csv"),
-            (0, "", "best", "t.csv", "--measure", "traffic", "--rows", "2"),
-            (0, "fractions decimal", "best", "t.csv", "--below", "99.5"),
-            (0, "decimal fractions shutil", "plot", "t.csv", "-"),
-            (0, "random shutil tempfile", "lab/replay", *lab, "--text", "-t", "trace"),
-            (0, "json random shutil tempfile", "lab/replay", *lab, "-t", "trace"),
-            (1, "ctypes locale random shutil subprocess tempfile threading",
-             "lab/grade", "--geometry", "1,1,4", "/bin/true", "trace"),
-        ):
-            with self.subTest(tool=tool, words=words):
-                read = self.slow(status, base.TOOLS / tool, *words)
-                self.assertLessEqual(read, set(needed.split()))
 
 
 class Widths(unittest.TestCase):

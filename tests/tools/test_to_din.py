@@ -339,8 +339,7 @@ class Streams(ToDin):
     def test_names_and_packed_traces(self):
         text = (SAMPLES / "champsim.bin").read_bytes()
         packers = {".gz": "gzip", ".xz": "xz", ".zst": "zstd"}
-        for name in ("a trace", "-t", "--help", "--decimal", "a trace.gz", "-t.gz", "-a trace.xz",
-                     "-a.zst"):
+        for name in ("a trace", "-t", "--bogus", "a trace.gz", "-t.gz", "-a trace.xz", "-a.zst"):
             packer = packers.get(pathlib.Path(name).suffix)
             packed = self.run_command(packer, "-c", stdin=text).stdout if packer else text
             self.write(name, packed)
@@ -388,6 +387,18 @@ class Faults(ToDin):
         told = re.findall(r"(?m)^  ([a-z0-9]+) {2,}", self.good(self.run_tool("to-din", "--help")))
         formats = re.findall(r'(?m)^    \{"(\w+)"', (TOOLS / "lib/to-din.c").read_text())
         self.assertEqual(sorted(told), formats)
+
+    def test_what_was_compared(self):
+        """The help says of each format whether it was compared with what its tool writes; of those
+        that were there is a sample by the tool itself."""
+        text = self.good(self.run_tool("to-din", "--help"))
+        entries = dict(re.findall(r"(?m)^  ([a-z0-9]+) {2,}(.*(?:\n {14}.*)*)", text))
+        compared = {form for form, entry in entries.items() if "Compared with what" in entry}
+        others = {form for form, entry in entries.items()
+                  if re.search(r"Not\s+compared\s+with\s+its\s+output", entry)}
+        self.assertEqual(compared | others | {"addresses"}, set(entries))
+        by_tools = (SAMPLES / "README.md").read_text().partition("The others show")[0]
+        self.assertEqual(compared, set(re.findall(r"`(\w+)\.txt` \|", by_tools)))
 
     def test_an_interrupt(self):
         pipes = dict.fromkeys(("stdin", "stdout", "stderr"), subprocess.PIPE)

@@ -338,15 +338,16 @@ class StandIn(TraceTest):
     def test_options(self):
         self.assertIn("trace [OPTIONS] PROGRAM", self.good(self.run_tool("trace", "--help")))
         for words, text in (
-            ("", "a program is wanted"), ("-o", "-o"), ("--nosuch 1", "--nosuch is no option"),
+            ("", "a program is wanted"), ("-o", "-o"),
+            ("--nosuch 1", "--nosuch is no option"),
             ("--kind x true", "--kind"), ("--output '' true", "--output"),
             ("--skip -1 true", "--skip"), ("--count 1k true", "--count"),
-            ("--count= true", "--count"), ("--count=00 true", "--count takes"),
-            ("--count 0 true", "--count takes a number above 0"), ("--with pin true", "--with"),
+            ("--count= true", "--count"), ("--count=00 true", "--count: '00' is no number above 0"),
+            ("--count 0 true", "--count: '0' is no number above 0"), ("--with pin true", "--with"),
             ("--with lackey --libraries / true", "for QEMU"),
             *((f"--with lackey {part} main true", "for QEMU")
               for part in ("--from", "--to", "--during")),
-            ("--from '' true", "--from takes a function's name"),
+            ("--from '' true", "--from: '' is no function's name"),
         ):
             self.fault(self.run_tool("trace", *shlex.split(words)), 125, text)
         told = "nosuch/file can't be written"

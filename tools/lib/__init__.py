@@ -3,9 +3,8 @@ first, in words that older Pythons know: these end with one line, and so does a 
 has foreseen, such as too little memory.
 
 All tools begin with '#!/usr/bin/python3 -BES'. With -E no variable such as PYTHONUNBUFFERED or
-PYTHONPATH decides what a tool does. With -S Python does not look for Debian's packages: a tool
-begins in 25 milliseconds in place of 28. With -B it writes no file beside a tool; only 'make tools'
-does."""
+PYTHONPATH decides what a tool does. With -S Python does not look for Debian's packages, which only
+plot needs. With -B it writes no file beside a tool; only 'make tools' does."""
 
 import _signal  # which is in Python itself: an interrupt while 'signal' is read needs no traceback
 

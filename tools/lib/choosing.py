@@ -1,6 +1,8 @@
 """The best caches of a table, of those that `best` is asked for."""
 
-from lib import costs, table, tool
+import heapq
+
+from lib import costs, table, table_din, tool
 
 
 def by_measure(row):
@@ -33,7 +35,6 @@ def chosen(asked, rows, is_count):
     if asked.front:
         return table.pareto(rows)
     if asked.rows:
-        import heapq
         return heapq.nsmallest(asked.rows, rows, key=by_measure)
     if asked.below is not None:
         return smallest_below(asked, rows, is_count)
@@ -65,7 +66,6 @@ def of_sweep(asked, lines, name):
 
 def of_din(asked, lines, name):
     """The same for a table of din."""
-    from lib import table_din
     costs.refuse_din(asked)
     given = table_din.read_table(lines, name, asked.measure)
     if given.left_out:

@@ -2,8 +2,10 @@
 
 import functools
 import re
+from argparse import ArgumentTypeError
+from fractions import Fraction
 
-from lib import tool
+from lib import table, tool
 
 TRAFFIC, MISS_TRAFFIC, ACCESS_TIME = "traffic", "miss-traffic", "AMAT"
 NUMBER = "([0-9]{1,9}(?:[.][0-9]{1,9})?)"
@@ -15,8 +17,7 @@ def miss_cost(text):
     A+B/N says: A cycles, and B for each byte, or for each N bytes."""
     match = re.fullmatch(rf"{NUMBER}(?:[+]{NUMBER}(?:/0*([1-9][0-9]{{0,8}}))?)?", text)
     if not match:
-        raise tool.no_argument(f"{text!r} is no cost such as 100, 80+0.125 or 80+2/16")
-    from fractions import Fraction
+        raise ArgumentTypeError(f"{text!r} is no cost such as 100, 80+0.125 or 80+2/16")
     fixed, more, bytes_of_it = (Fraction(part or 0) for part in match.groups())
     return fixed, more / (bytes_of_it or 1)
 
@@ -38,7 +39,6 @@ def cost_of(bsize, cost):
 
 def access_time(row, cost):
     """The cycles of a reference in the mean: those of a hit, and what misses add."""
-    from fractions import Fraction
     each, references = cost_of(row.bsize, cost), max(1, row.references)
     return HIT + Fraction(row.misses * each.numerator, references * each.denominator)
 
@@ -56,7 +56,6 @@ def is_made(asked, lines):
 
 def name_of(asked, lines):
     """What the answer calls it. Without copybacks traffic is that of the misses alone."""
-    from lib import table
     has_copybacks = "copybacks" in table.own_columns(lines)
     if is_made(asked, lines) and not has_copybacks:
         return MISS_TRAFFIC
@@ -72,7 +71,6 @@ def traffic(row, name):
 def rows_of(asked, lines, name):
     """The rows of a sweep's table with what is asked for. A column named so comes before what would
     be made of the block size and the misses."""
-    from lib import table
     column = column_of(asked)
     if asked.miss_cost:
         def made(row):

@@ -7,6 +7,7 @@ import fcntl
 import os
 import select
 import stat
+from tempfile import TemporaryDirectory, mkstemp
 
 from lib import is_output_read, tool
 from lib.signals import uninterrupted
@@ -103,7 +104,6 @@ def keep(place, data, mode=0o644):
 def replace(place, data, mode):
     """Writes a file beside a place and moves it there, so that a failure leaves what was there, and
     a link is not followed."""
-    from tempfile import mkstemp
     handle, fresh = mkstemp(prefix=f".{tool.NAME}.", dir=os.path.dirname(place))
     try:
         with open(handle, "wb") as file:
@@ -135,7 +135,6 @@ def emptied(descriptor):
 def private_folder():
     """A folder of the tool's own, which is removed with all that is in it. For that it keeps some
     descriptors, since there may be no others."""
-    from tempfile import TemporaryDirectory
     kept = [os.open(os.devnull, os.O_RDONLY) for _ in range(3)]
     with TemporaryDirectory(prefix="cachesim-") as folder:
         try:

@@ -2,12 +2,15 @@
 
 import os
 import re
-import sys
 
 from lib import files, processes, streams, tool
+from lib.arguments import Explained
+from lib.compiled import compiled
 
 ROOM = 1 << 20  # the bytes that the log may be ahead
-HELPS = {"{caches}": """\
+CACHES = "l1-i", "l1-d", "l1-u", "l2-u"
+# what the texts of several tools say, in place of these words
+TEXTS = {"{caches}": """\
 TRACE is a file, which may end in .gz, .xz or .zst, or - for standard input.
 It is read once. The OPTIONs are those of
 `cachesim din`, but for -t: the caches, -informat and --seed.
@@ -16,35 +19,30 @@ It is read once. The OPTIONs are those of
                     level takes. --at is another name for it, as in by-line"""}
 
 
-def asked(own=None, value=None):
-    """The trace, the options of cachesim, the value of --`own`, and how the name of a cache that
-    counts begins. A tool without options of its own hands all on."""
-    left = sys.argv[1:]
-    tool.look_for_help(left, HELPS)
-    if not left or tool.is_option(left[0]):
-        tool.misused("a trace and the options of 'cachesim din' are needed")
-    trace, options, values = left.pop(0), [], {f"--{own}": value, "--cache": "l1-"} if own else {}
-    while left:
-        word = left.pop(0)
-        name, equals, text = word.partition("=")
-        name = "--cache" if name == "--at" and own else name
-        if word.startswith("-t"):
-            tool.misused("the trace is the first argument, and not given by -t")
-        elif name == "--format":
-            options.append(f"--in{word[2:]}")
-        elif name in values:
-            values[name] = text if equals else left.pop(0) if left else ""
-            if name == "--cache" and not re.fullmatch("l1-[idu]|l2-u", values[name]):
-                tool.misused("--cache is l1-i, l1-d, l1-u or l2-u")
-        else:
-            options.append(word)
-    files.readable(trace)
-    return trace, options, values.get(f"--{own}"), values.get("--cache")
+class Arguments(Explained):
+    """Those of such a tool: the trace, options of its own, and those of `cachesim din`."""
 
+    def __init__(self, text, *parts):
+        for words, told in TEXTS.items():
+            text = text.replace(words, told)
+        super().__init__(text, *parts)
+        self.add_trace()
+        self.add_argument("--format", action="append", default=[])
 
-def judge_cache(cache, options):
-    if cache != "l1-" and not any(re.match(f"--?{cache}", word) for word in options):
-        tool.misused(f"no option is of {cache}")
+    def add_cache(self):
+        self.add_argument("--cache", "--at", choices=CACHES)
+
+    def read(self):
+        """What is asked for, with the `options` of cachesim. The cache that counts must be there:
+        the first level has all those whose names begin with l1-."""
+        asked, others = self.handed_on("a trace and the options of 'cachesim din' are needed")
+        asked.options = [*(f"--informat={format}" for format in asked.format), *others]
+        cache = getattr(asked, "cache", None)
+        if cache and not any(re.match(f"--?{cache}", word) for word in others):
+            tool.misused(f"no option is of {cache}")
+        asked.cache = cache or "l1-"
+        files.readable(asked.trace)
+        return asked
 
 
 class Logging(processes.Process):
@@ -95,17 +93,17 @@ def pieces(source):
         yield held
 
 
-def counts(binary, trace, options, *asked):
+def counts(asked, what, each):
     """What the log of a trace has, as out/log-counts counts it: rows of words."""
-    counters = []
+    binary, counters = compiled("log-counts"), []
 
     def take(source):
         with processes.Group() as group:
-            words = ["log-counts", *map(str, asked)]
+            words = ["log-counts", what, asked.cache, str(each)]
             counters.append(group.start(Counter, words, source, path=binary))
             counters[0].wait()
 
-    over(trace, options, take)
+    over(asked.trace, asked.options, take)
     *rows, end = counters[0].text.decode("ascii").splitlines() or [""]
     if end != "end":
         tool.fail("the log can't be counted")

@@ -1,149 +1,113 @@
 // optimal's fast half: the counts of caches whose replacement knows the future, over a log.
 //
-//     optimal NAME CACHE CACHES < LOG      NAME is that of the tool, for messages
+//     optimal CACHE CACHES BLOCKS USES < LOG
 //
 // The log is of one CACHE that holds one block, of the least block size of all, so that a hit is a
-// reference to the block before. The file CACHES has that block size in its first line, and then a
-// line 'bsize,sets,assoc' for each cache, by rising bsize, then sets, then assoc.
+// reference to the block before. The other words are descriptors of files. That of the CACHES has
+// the least block size in its first line, and then a line 'bsize,sets,assoc' for each cache, by
+// rising bsize, then sets, then assoc. The other two are empty, and get what is kept of each
+// reference. Memory is taken for each different block and for each line of a cache.
 //
 // Optimal replacement keeps the blocks that are referenced soonest. It is a stack algorithm
 // (Mattson and others 1970): the blocks of a set stand in a list, of which E ways hold the first E.
 // So one list for each set gives the counts of all numbers of ways.
+#define _GNU_SOURCE
 #include <inttypes.h>
 #include <signal.h>
-#include <stdbool.h>
 #include <stdio.h>
-#include <stdlib.h>
-#include <string.h>
 #include <sys/prctl.h>
-#include <unistd.h>
-#include "hexadecimal.h"
+#include "lines.h"
+#include "log-line.h"
+#include "numbers.h"
 
-enum { PIECE = 1 << 18, MOST_WAYS = 65536 };
+enum { FAILED = 1, HELD = 1 << 16, MOST_WAYS = 65536 };
 #define NEVER UINT32_MAX
-
-static const char *name;
-
-static _Noreturn void fail(const char *text) {
-    fprintf(stderr, "%s: %s\n", name, text);
-    exit(1);
-}
-
-static void *grown(void *old, size_t count, size_t size) {
-    void *new = reallocarray(old, count, size);
-    if (!new) fail("out of memory");
-    return new;
-}
 
 static void *zeros(size_t count, size_t size) {
     void *new = calloc(count, size);
-    if (!new) fail("out of memory");
+    if (!new) errx(FAILED, "too little memory");
     return new;
 }
 
 // ---- The references
 
-static uint64_t *blocks;    // of the least size, without those that are the block before
-static uint32_t *next_use;  // when the block of each is referenced next, before a flush, or NEVER
-static uint32_t *flushes;   // how many there were before each flush, and at the end
+// They are in two files, of which a piece is in memory: of each reference the block, of the least
+// size, without those that are the block before; and when that block is referenced next, before a
+// flush, or NEVER.
+static struct column {
+    int file;
+    size_t size;
+    void *piece;
+} blocks = {.size = sizeof(uint64_t)}, next_use = {.size = sizeof(uint32_t)};
+
+static uint32_t *flushes;  // how many references there were before each flush, and at the end
 static uint32_t count, flush_count;
 static uint64_t references;
 
+static uint64_t *block_at(uint32_t at) { return (uint64_t *)blocks.piece + at % HELD; }
+static uint32_t *use_at(uint32_t at) { return (uint32_t *)next_use.piece + at % HELD; }
+
+static ssize_t put_bytes(int file, void *from, size_t size, off_t place) {
+    return pwrite(file, from, size, place);
+}
+
+// Moves the piece with some reference: by pread from its file, by put_bytes there.
+static void move_piece(ssize_t (*move)(int, void *, size_t, off_t), const struct column *column,
+                       uint32_t at) {
+    const uint32_t first = at - at % HELD;
+    size_t left = (count - first < HELD ? count - first : HELD) * column->size;
+    off_t place = (off_t)first * (off_t)column->size;
+    for (char *from = column->piece; left;) {
+        ssize_t moved = move(column->file, from, left, place);
+        if (moved <= 0) err(FAILED, "the references can't be kept");
+        from += moved, place += moved, left -= (size_t)moved;
+    }
+}
+
 static void put_block(uint64_t block) {
-    static size_t room;
-    if (count == NEVER - 1) fail("too many references: cut the trace, or take larger blocks");
-    if (count == room) blocks = grown(blocks, room = room ? 2 * room : PIECE, sizeof *blocks);
-    blocks[count++] = block;
+    if (count == NEVER - 1)
+        errx(FAILED, "too many references: cut the trace, or take larger blocks");
+    *block_at(count++) = block;
+    if (count % HELD == 0) move_piece(put_bytes, &blocks, count - 1);
 }
 
 static void put_flush(void) {
     static size_t room;
     if (flush_count && flushes[flush_count - 1] == count) return;
-    if (flush_count == room) flushes = grown(flushes, room = room ? 2 * room : 16, sizeof *flushes);
+    if (flush_count == room) flushes = grown(flushes, (room = 2 * room + 16) * sizeof *flushes);
     flushes[flush_count++] = count;
 }
 
-// A line of the log, as 'l1-u 0 7ffe4000 miss' or 'l1-u flush 0'. Others are of no use here.
-static void take_line(const char *at, const char *cache, unsigned bits) {
-    const size_t length = strlen(cache);
-    uint64_t address;
-    if (strncmp(at, cache, length) || at[length] != ' ') return;
-    at += length + 1;
-    if (*at == 'f') {
-        put_flush();
-        return;
-    }
-    at = past_hexadecimal(at + 2, &address);
-    references++;
-    if (at[1] == 'm') put_block(address >> bits);
-}
+static const char *cache;
+static unsigned least_bits;  // of the least block size
 
-static void read_log(const char *cache, unsigned bits) {
-    static char text[2 * PIECE + 1];
-    size_t held = 0;
-    ssize_t got;
-    while ((got = read(STDIN_FILENO, text + held, PIECE)) > 0) {
-        char *at = text, *end = text + held + got;
-        for (char *last; (last = memchr(at, '\n', (size_t)(end - at))); at = last + 1) {
-            *last = 0;
-            take_line(at, cache, bits);
-        }
-        held = (size_t)(end - at);
-        if (held >= PIECE) fail("what cachesim writes is not a log");
-        memmove(text, at, held);
-    }
-    if (got < 0) fail("the log: read failed");
-    put_flush();
-}
-
-// ---- The next reference to each block
-
-struct place { uint64_t block; uint32_t at; };  // where a block was seen; NEVER: none is here
-
-static struct {
-    struct place *places;
-    size_t size, used;  // a power of two, at least twice as much as is used
-} seen;
-
-static struct place *place_of(uint64_t block) {
-    size_t at = (block * 0x9e3779b97f4a7c15) >> 20 & (seen.size - 1);
-    while (seen.places[at].at != NEVER && seen.places[at].block != block)
-        at = (at + 1) & (seen.size - 1);
-    return &seen.places[at];
-}
-
-static void empty_places(size_t size) {
-    seen.places = grown(NULL, seen.size = size, sizeof *seen.places);
-    seen.used = 0;
-    for (size_t at = 0; at < size; at++) seen.places[at].at = NEVER;
-}
-
-static void see(uint64_t block, uint32_t at) {
-    struct place *place = place_of(block);
-    if (place->at == NEVER && 2 * ++seen.used > seen.size) {
-        struct place *old = seen.places, *end = old + seen.size;
-        empty_places(2 * seen.size);
-        for (struct place *each = old; each < end; each++)
-            if (each->at != NEVER) see(each->block, each->at);
-        free(old);
-        see(block, at);
-        return;
-    }
-    *place = (struct place){block, at};
+static const char *take(const char *text) {
+    struct log_line line;
+    const char *next = read_log_line(text, &line);
+    if (!is_at(&line, cache)) return next;
+    if (line.is_flush) put_flush();
+    else references++;
+    if (line.misses) put_block(line.address >> least_bits);
+    return next;
 }
 
 // For blocks that are larger than the least by so many bits.
 static void find_next(unsigned bits) {
-    empty_places(PIECE);
+    struct numbers numbers = {0};
+    void *uses = NULL;  // of each block when it is referenced next, and 1; or 0
     uint32_t end = count;
     for (uint32_t at = count, left = flush_count; at-- > 0;) {
+        if (at == count - 1 || at % HELD == HELD - 1) move_piece(pread, &blocks, at);
         while (left && flushes[left - 1] > at) end = flushes[--left];
-        uint64_t block = blocks[at] >> bits;
-        uint32_t next = place_of(block)->at;
-        next_use[at] = next < end ? next : NEVER;
-        see(block, at);
+        uint32_t number = number_of(&numbers, *block_at(at) >> bits, &uses, sizeof(uint32_t));
+        uint32_t *use = (uint32_t *)uses + number, next = *use - 1;
+        *use_at(at) = next < end ? next : NEVER;
+        *use = at + 1;
+        if (at % HELD == 0) move_piece(put_bytes, &next_use, at);
     }
-    free(seen.places);
+    free(numbers.keys);
+    free(numbers.slots);
+    free(uses);
 }
 
 // ---- The lists
@@ -153,11 +117,8 @@ static void find_next(unsigned bits) {
 // from each place the one of the two goes on that is referenced later, up to where the first was.
 static uint32_t place_in(uint32_t *list, uint32_t *length, uint32_t ways, uint32_t now) {
     uint32_t moved = list[0], at = 0;
-    if (*length && moved == now) {
-        list[0] = next_use[now];
-        return 0;
-    }
-    list[0] = next_use[now];
+    list[0] = *use_at(now);
+    if (*length && moved == now) return 0;
     while (++at < *length) {
         uint32_t here = list[at];
         if (here == now) {
@@ -183,8 +144,9 @@ static void run(unsigned bits, uint64_t set_count, uint32_t ways) {
     memset(found, 0, sizeof found);
     memset(left_with, 0, sizeof left_with);
     for (uint32_t now = 0, before = 0; now < count; now++) {
+        if (now % HELD == 0) move_piece(pread, &blocks, now), move_piece(pread, &next_use, now);
         while (flushes[before] <= now) before++;
-        uint64_t number = blocks[now] >> bits & (set_count - 1);
+        uint64_t number = *block_at(now) >> bits & (set_count - 1);
         struct set *set = &sets[number];
         if (set->flushes != before) {
             left_with[set->length]++;
@@ -227,7 +189,6 @@ static bool is_other(const struct cache *one, const struct cache *other) {
 // All caches of one block size and number of sets, and so on.
 static void run_all(const struct cache *first, const struct cache *end, uint64_t least) {
     uint64_t bsize = 0;
-    next_use = grown(NULL, (size_t)count + 1, sizeof *next_use);
     for (const struct cache *last = first; first < end; first = last) {
         while (last < end && !is_other(first, last)) last++;
         unsigned bits = (unsigned)__builtin_ctzll(first->bsize / least);
@@ -242,18 +203,24 @@ int main(int words, char **word) {
     struct cache *caches = NULL, each;
     size_t rows = 0, room = 0;
     uint64_t least;
-    if (words != 4) return 2;
-    name = word[1];
+    if (words != 5) errx(2, "this is the inner half of optimal");
     prctl(PR_SET_PDEATHSIG, SIGKILL);
-    FILE *file = fopen(word[3], "r");
-    if (!file || fscanf(file, "%" SCNu64, &least) != 1 || !least) fail("the caches can't be read");
+    FILE *file = fdopen(atoi(word[2]), "r");
+    if (!file || fscanf(file, "%" SCNu64, &least) != 1 || !least)
+        errx(FAILED, "the caches can't be read");
     const char *row = "%" SCNu64 ",%" SCNu64 ",%" SCNu64;
     while (fscanf(file, row, &each.bsize, &each.sets, &each.ways) == 3) {
-        if (rows == room) caches = grown(caches, room = room ? 2 * room : 64, sizeof *caches);
+        if (rows == room) caches = grown(caches, (room = 2 * room + 64) * sizeof *caches);
         caches[rows++] = each;
     }
-    read_log(word[2], (unsigned)__builtin_ctzll(least));
+    blocks.file = atoi(word[3]), blocks.piece = zeros(HELD, blocks.size);
+    next_use.file = atoi(word[4]), next_use.piece = zeros(HELD, next_use.size);
+    cache = word[1];
+    least_bits = (unsigned)__builtin_ctzll(least);
+    take_lines(take);
+    put_flush();
+    if (count % HELD) move_piece(put_bytes, &blocks, count - 1);
     run_all(caches, caches + rows, least);
-    if (fflush(stdout) || ferror(stdout)) fail("write failed");
+    if (fflush(stdout) || ferror(stdout)) err(FAILED, "write failed");
     return 0;
 }

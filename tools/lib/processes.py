@@ -2,6 +2,7 @@
 it."""
 
 import contextlib
+import ctypes
 import fcntl
 import os
 import signal
@@ -270,7 +271,6 @@ def adopt_orphans():
     another's: a shell that became this tool had started them."""
     global inherited
     if inherited is None:
-        import ctypes
         inherited = children()
         ctypes.CDLL(None).prctl(PR_SET_CHILD_SUBREAPER, 1, 0, 0, 0)
 

@@ -5,6 +5,7 @@ import contextlib
 import os
 import select
 import stat
+import tempfile
 
 from lib import files, tool
 from lib.processes import Fault, Group, Process, is_packed, widen
@@ -92,7 +93,6 @@ class Runs:
     def keep(self, piece):
         if len(self.commands) <= self.jobs:
             return
-        import tempfile
         try:
             with uninterrupted():
                 self.spool = self.spool or tempfile.TemporaryFile(buffering=0)

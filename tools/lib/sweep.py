@@ -1,27 +1,30 @@
-"""What the tools share that make a table of their own from those of sweeps: three-c and warm."""
+"""What the tools share that make a table of their own from those of sweeps."""
 
 import functools
 
-from lib import paging, runs, streams, tool
+from lib import files, paging, runs, streams
+from lib.tool import number_of
 
 
-def options_of(words, place):
-    """The options of a sweep, and those of them that say which references and which rows count. The
-    trace is the argument in that place."""
-    shared, left = [], list(words)
-    while left:
-        word = left.pop(0)
-        if word.startswith("-t"):
-            tool.misused(f"the trace is the {place} argument, and not given by -t")
-        if word in ("--format", "--kind"):
-            shared += [word, *left[:1]]
-        elif word.startswith(("--format=", "--kind=")) or word == "--pow2":
-            shared.append(word)
-    return words, shared
+def asked_of(parser, needed):
+    """What is asked for of a trace and the options of a sweep: all of these, and those, `shared`,
+    that say which references and which rows count."""
+    parser.add_argument("--format", action="append")
+    parser.add_argument("--kind", action="append")
+    parser.add_argument("--pow2", action="store_true")
+    asked, others = parser.handed_on(needed)
+    asked.format, asked.kind = asked.format or ["d"], asked.kind or ["u"]
+    asked.shared = [*(f"--format={format}" for format in asked.format),
+                    *(f"--kind={kind}" for kind in asked.kind), *["--pow2"] * asked.pow2]
+    asked.options = [*asked.shared, *others]
+    if not others:
+        parser.error(needed)
+    files.readable(asked.trace)
+    return asked
 
 
 def numbers(fields):
-    found = [(tool.number_of(field), field) for field in fields]
+    found = [(number_of(field), field) for field in fields]
     return [field if number is None else number for number, field in found]
 
 

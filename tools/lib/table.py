@@ -3,6 +3,7 @@
 import gc
 import re
 from collections import namedtuple
+from fractions import Fraction
 
 from lib.files import spare
 from lib.tool import faults_of, warn
@@ -51,7 +52,6 @@ class Row(namedtuple("Row", f"{HEADER},value,is_count,more", defaults=(None, Tru
     def share(self):
         """What is shown of the measure, exactly: per cent of the references, 0 where there are
         none, or its value where it counts none."""
-        from fractions import Fraction
         return Fraction(100 * self.measured, self.hundred) if self.hundred else Fraction()
 
     @property
@@ -89,7 +89,6 @@ def number_of(text, column, place):
         raise BadTable(f"{place}: {column} is {'too long a' if is_long else 'no'} number")
     if "." not in text:
         return int(text)
-    from fractions import Fraction
     return Fraction(text)
 
 

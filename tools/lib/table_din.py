@@ -3,6 +3,7 @@
 import functools
 import math
 import re
+import statistics
 from collections import namedtuple
 from fractions import Fraction
 
@@ -43,7 +44,6 @@ class Case(namedtuple("Case", "given size values wholes ties")):
     @property
     def deviation(self):
         """The standard deviation of a sample."""
-        import statistics
         return statistics.stdev(map(float, self.values))
 
 

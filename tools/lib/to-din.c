@@ -2,8 +2,9 @@
 //
 //     to-din FORMAT < TRACE > TRACE.din
 //
-// To add a format, write a function that reads one of its lines and puts its accesses, give it a
-// row in `formats`, and say in to-din's help how such a trace is made and which lines are skipped.
+// To add a format, write patterns of its lines, or a function that reads one and puts its accesses;
+// give it a row in `formats`, and say in to-din's help how such a trace is made, which lines are
+// skipped, and whether it was compared with what the tool writes.
 #define _GNU_SOURCE
 #include <stdarg.h>
 #include <stdint.h>
@@ -108,76 +109,6 @@ static bool numbers(struct line line, bool (*reads)(struct line *, uint64_t *)) 
 static bool addresses(struct line line) { return numbers(line, address); }          // 7ffd1230
 static bool decimal_addresses(struct line line) { return numbers(line, decimal); }  // 2147291696
 
-static uint64_t little_endian(const char *bytes) {
-    uint64_t value = 0;
-    for (int i = 8; i--;) value = value << 8 | (unsigned char)bytes[i];
-    return value;
-}
-
-// 64 bytes: the instruction, two of a branch, 6 registers, 2 places written, 4 read; 0 is no place
-static bool champsim(struct line record) {
-    if ((record.at[8] | record.at[9]) & ~1) return false;
-    put(FETCH, little_endian(record.at));
-    for (int place = 32; place < 64; place += 8)
-        if (little_endian(record.at + place)) put(READ, little_endian(record.at + place));
-    for (int place = 16; place < 32; place += 8)
-        if (little_endian(record.at + place)) put(WRITE, little_endian(record.at + place));
-    return true;
-}
-
-// r 0x7ffd1230 8
-static bool dinero(struct line line) {
-    uint64_t at, size;
-    blanks(&line);
-    char kind = *line.at++;
-    if (!memchr("rwimcv", kind, 6) || !blanks(&line) || !address(&line, &at) || !blanks(&line) ||
-        !address(&line, &size) || !word_ended(&line)) return false;
-    if (kind == 'r') put(READ, at);
-    if (kind == 'w') put(WRITE, at);
-    if (kind == 'i') put(FETCH, at);
-    return true;
-}
-
-// what stands before an entry: '  7   2:  3264604 ', '  7: T3264604 ' or 'T3264604 '
-static bool drmemtrace_thread(struct line *line) {
-    if (is_digit(*line->at)) {
-        while (is_digit(*line->at) || is_blank(*line->at)) line->at++;
-        if (!text(line, ":")) return false;
-        blanks(line);
-    }
-    const char *from = line->at;
-    line->at += strspn(from, "0123456789TW.");
-    return line->at > from && blanks(line);
-}
-
-// the bytes of a long instruction for which its line had no room: '00 00 40'
-static bool drmemtrace_bytes(struct line line) {
-    while (hexadecimal_digit(line.at[0]) && hexadecimal_digit(line.at[1])) {
-        line.at += 2;
-        if (ended(&line)) return true;
-        if (!blanks(&line)) return false;
-    }
-    return false;
-}
-
-//   10   2:  3264604 write        8 byte(s) @ 0x00007ffe5ac78ac8 by PC 0x00007f8b5d1a8093
-static bool drmemtrace(struct line line) {
-    uint64_t size, at;
-    blanks(&line);
-    struct line whole = line;
-    if (begins(line, "<") || begins(line, "---") || begins(line, "Output format:") ||
-        begins(line, "View tool ")) return true;
-    if (!drmemtrace_thread(&line))
-        return decimal(&whole, &size) && blanks(&whole) && text(&whole, ": total ");
-    if (begins(line, "<") || begins(line, "pref") || begins(line, "iflush ") ||
-        begins(line, "dflush ") || drmemtrace_bytes(line)) return true;
-    bool fetches = text(&line, "ifetch"), writes = !fetches && text(&line, "write");
-    if (!(fetches || writes || text(&line, "read")) || !blanks(&line) || !decimal(&line, &size) ||
-        !text(&line, " byte(s) @ ") || !address(&line, &at) || !word_ended(&line)) return false;
-    if (!begins(line, " non-fetched instruction")) put(fetches ? FETCH : writes ? WRITE : READ, at);
-    return true;
-}
-
 // what stands up to the last quotation mark: the disassembly may hold others
 static bool execlog_disassembly(struct line *line) {
     const char *from = line->at;
@@ -207,22 +138,6 @@ static bool execlog(struct line line) {
     return true;
 }
 
-// [5,]r,2147483648,64[,256],1000[,4198400]
-static bool gem5(struct line line) {
-    enum { INST_FETCH = 0x100 };
-    uint64_t id, fields[5] = {0};  // address, size; tick, or flags and tick[, program counter]
-    int count = 0;
-    if (is_digit(*line.at) && !(decimal(&line, &id) && text(&line, ","))) return false;
-    bool reads = text(&line, "r"), writes = !reads && text(&line, "w");
-    if (!reads && !writes && !text(&line, "u")) return false;
-    for (; !ended(&line); count++)
-        if (count == 5 || !text(&line, ",") || !decimal(&line, &fields[count])) return false;
-    if (count < 3) return false;
-    if (writes) put(WRITE, fields[0]);
-    if (reads) put(count > 3 && fields[2] & INST_FETCH ? FETCH : READ, fields[0]);
-    return true;
-}
-
 // ' L 1ffeffe7e,1': what cachesim takes under --format l, and nothing else
 static bool lackey(struct line line) {
     uint64_t at, size;
@@ -241,24 +156,11 @@ static bool lackey(struct line line) {
     return true;
 }
 
-// memtrace_simple: '0x7ffd1230:  8, w'; memtrace_x86: '0x401000,w,8,0x7ffd1230'
-static bool memtrace(struct line line) {
-    uint64_t at, size;
-    if (begins(line, "Format:")) return true;
-    if (!address(&line, &at)) return false;
-    if (text(&line, ",")) {
-        bool writes = text(&line, "w");
-        if (!(writes || text(&line, "r")) || !text(&line, ",") || !decimal(&line, &size) ||
-            !text(&line, ",") || !address(&line, &at) || !ended(&line)) return false;
-        put(writes ? WRITE : READ, at);
-        return true;
-    }
-    if (!text(&line, ":") || !blanks(&line) || !decimal(&line, &size) || !text(&line, ", ") ||
-        (!is_letter(*line.at) && *line.at != '<')) return false;
-    bool letter = line.end - line.at == 1;  // any other word than r and w is an instruction's name
-    put(letter && *line.at == 'r' ? READ : letter && *line.at == 'w' ? WRITE : FETCH, at);
-    return true;
-}
+// ---- Patterns: the formats that follow a description, and were not compared with their tool
+
+// What is found in a line: its access, and flags, of which INST_FETCH makes a read a fetch.
+enum { SKIPPED = 0, BY_LETTER = 0, INST_FETCH = 0x100 };
+struct found { uint64_t address, flags; int access; };
 
 // zeros that fill the column of an address: 00000x7ffd1230
 static void fill(struct line *line) {
@@ -267,24 +169,31 @@ static void fill(struct line *line) {
     if (at > line->at && (*at == 'x' || *at == 'X')) line->at = at - 1;
 }
 
-// 0x401000: R 0x7ffd1230 [8 0x1f]
-static bool pin(struct line line) {
-    uint64_t instruction, data = 0, size;
-    if (begins(line, "#")) return true;
-    if (!address(&line, &instruction) || !text(&line, ": ")) return false;
-    bool writes = text(&line, "W");
-    if (!(writes || text(&line, "R")) || !blanks(&line)) return false;
-    fill(&line);
-    if (!(text(&line, "(nil)") || address(&line, &data))) return false;
-    if (!ended(&line) && !(blanks(&line) && decimal(&line, &size) && word_ended(&line)))
-        return false;
-    put(writes ? WRITE : READ, data);
-    return true;
+// what stands before an entry: '  7   2:  3264604 ', '  7: T3264604 ' or 'T3264604 '
+static bool drmemtrace_thread(struct line *line) {
+    if (is_digit(*line->at)) {
+        while (is_digit(*line->at) || is_blank(*line->at)) line->at++;
+        if (!text(line, ":")) return false;
+        blanks(line);
+    }
+    const char *from = line->at;
+    line->at += strspn(from, "0123456789TW.");
+    return line->at > from && blanks(line);
 }
 
-// a register's name, x10 (of old versions 'x 5') or c768_mstatus; or vector settings, e32 m1 l4
-static bool spike_name(struct line *line) {
-    if (!*line->at || !strchr("xfvcelm", *line->at)) return false;
+// the bytes of a long instruction for which its line had no room: '00 00 40'
+static bool bytes(struct line *line) {
+    while (hexadecimal_digit(line->at[0]) && hexadecimal_digit(line->at[1])) {
+        line->at += 2;
+        if (ended(line)) return true;
+        if (!blanks(line)) return false;
+    }
+    return false;
+}
+
+// a register's name, x10 (of old versions 'x 5') or c768_mstatus; or vector settings, e32 mf2 l4
+static bool spike_name(struct line *line, const char *kinds) {
+    if (!*line->at || !strchr(kinds, *line->at)) return false;
     if (!text(line, "mf")) line->at++;
     blanks(line);
     if (!is_digit(*line->at)) return false;
@@ -292,38 +201,176 @@ static bool spike_name(struct line *line) {
     return true;
 }
 
-// ' 0x0000000000000007', as long as it may be
-static bool spike_value(struct line *line) {
-    if (!blanks(line) || !text(line, "0x") || !hexadecimal_digit(*line->at)) return false;
-    while (hexadecimal_digit(*line->at)) line->at++;
-    return word_ended(line);
+// the name of a disassembled instruction
+static bool spike_instruction(struct line line) {
+    return is_letter(*line.at) && !begins(line, "mem") && !spike_name(&line, "xfvcelm");
 }
 
-// core   0: 3 0x0000000080000044 (0x01053023) mem 0x0000000080001000 0x0000000000000007
-static bool spike(struct line line) {
-    uint64_t core, code, at;
-    if (text(&line, "core")) {
-        blanks(&line);
-        if (!decimal(&line, &core) || !text(&line, ": ")) return false;
-        blanks(&line);
-        if (begins(line, ">>>>") || begins(line, "Executed ") || begins(line, "exception ") ||
-            begins(line, "tval ")) return true;
+static bool digits(struct line *line) {
+    const char *from = line->at;
+    while (hexadecimal_digit(*line->at)) line->at++;
+    return line->at > from;
+}
+
+static bool rest(struct line *line) {
+    line->at = line->end;
+    return true;
+}
+
+// Moves on behind what a letter of a pattern stands for, and returns whether that stood there.
+static bool part(struct line *line, char letter, struct found *found) {
+    uint64_t ignored;
+    switch (letter) {
+    case 'a': return address(line, &found->address);
+    case 'n': return decimal(line, &found->address);
+    case 'x': return address(line, &ignored);
+    case 'd': return decimal(line, &ignored);
+    case 'f': return decimal(line, &found->flags);
+    case 'h': return digits(line) && word_ended(line);  // any number of them
+    case 'b': return blanks(line);
+    case 's': return blanks(line) || true;              // blanks, perhaps none
+    case 'e': return word_ended(line);
+    case '*': return rest(line);
+    case 'l': return is_letter(*line->at) || *line->at == '<';
+    case 'p': fill(line); return text(line, "(nil)") || address(line, &found->address);
+    case 't': return drmemtrace_thread(line);
+    case 'o': return bytes(line);
+    case 'r': return spike_name(line, "xfvc");
+    case 'v': return spike_name(line, "elm");
+    case 'u': return word_ended(line) && !begins(*line, " 0x");  // no value
+    case 'i': return spike_instruction(*line);
     }
-    bool privilege = is_digit(line.at[0]) && line.at[1] == ' ';
-    if (privilege) line.at += 2;
-    if (!address(&line, &at) || !text(&line, " (") || !address(&line, &code) ||
-        !text(&line, ")")) return false;
-    struct line rest = line;
-    if (!privilege && blanks(&rest) && is_letter(*rest.at) && !begins(rest, "mem") &&
-        !spike_name(&rest)) return true;  // disassembled
-    put(FETCH, at);
-    while (!ended(&line)) {
-        if (!blanks(&line)) return false;
-        bool memory = text(&line, "mem "), sets = !memory && strchr("elm", *line.at);
-        if (memory ? !address(&line, &at) || !word_ended(&line) : !spike_name(&line)) return false;
-        bool valued = memory ? begins(line, " 0x") : !sets;
-        if (valued && !spike_value(&line)) return false;
-        if (memory) put(valued ? WRITE : READ, at);
+    return false;
+}
+
+// Letters behind '%' are those parts, one of the letters in {} stands there, what is in [] may be
+// missing, and all else stands there as it is. A letter in {} of r, w and i is that of an access.
+static bool matches(struct line *line, const char *pattern, struct found *found) {
+    for (; *pattern && *pattern != ']'; pattern++) {
+        if (*pattern == '%') {
+            if (!part(line, *++pattern, found)) return false;
+        } else if (*pattern == '{') {
+            const char letter = *line->at++, *from = pattern + 1;
+            pattern = strchr(from, '}');
+            if (!memchr(from, letter, (size_t)(pattern - from))) return false;
+            if (letter == 'r' || letter == 'R') found->access = READ;
+            if (letter == 'w' || letter == 'W') found->access = WRITE;
+            if (letter == 'i') found->access = FETCH;
+        } else if (*pattern == '[') {
+            struct line inner = *line;
+            if (matches(&inner, pattern + 1, found)) *line = inner;
+            pattern = strchr(pattern, ']');
+        } else if (*line->at++ != *pattern) return false;
+    }
+    return true;
+}
+
+// A line of a format is as the first pattern that it matches to its end, and has its access, or the
+// one of a letter.
+struct pattern {
+    const char *text;
+    int access;
+};
+
+// r 0x7ffd1230 8
+static const struct pattern dinero[] = {
+    {"%s{rwimcv}%b%a%b%x%e%*", BY_LETTER},
+    {0},
+};
+
+//   10   2:  3264604 write        8 byte(s) @ 0x00007ffe5ac78ac8 by PC 0x00007f8b5d1a8093
+static const struct pattern drmemtrace[] = {
+    {"%s%tifetch%b%d byte(s) @ %x non-fetched instruction%*", SKIPPED},
+    {"%s%tifetch%b%d byte(s) @ %a%e%*", FETCH},
+    {"%s%tread%b%d byte(s) @ %a%e%*", READ},
+    {"%s%twrite%b%d byte(s) @ %a%e%*", WRITE},
+    {"%s%tpref%*", SKIPPED},
+    {"%s%tiflush %*", SKIPPED},
+    {"%s%tdflush %*", SKIPPED},
+    {"%s%t%o", SKIPPED},
+    {"%s[%t]<%*", SKIPPED},
+    {"%s---%*", SKIPPED},
+    {"%sOutput format:%*", SKIPPED},
+    {"%sView tool %*", SKIPPED},
+    {"%s%d%b: total %*", SKIPPED},
+    {0},
+};
+
+// [5,]r,2147483648,64[,256],1000[,4198400]
+static const struct pattern gem5[] = {
+    {"[%d,]{rwu},%n,%d,%f,%d[,%d]", BY_LETTER},
+    {"[%d,]{rwu},%n,%d,%d", BY_LETTER},
+    {0},
+};
+
+// memtrace_simple: '0x7ffd1230:  8, w'; memtrace_x86: '0x401000,w,8,0x7ffd1230'
+static const struct pattern memtrace[] = {
+    {"%a:%b%d, {rw}", BY_LETTER},
+    {"%a:%b%d, %l%*", FETCH},  // an instruction's name
+    {"%x,{rw},%d,%a", BY_LETTER},
+    {"Format:%*", SKIPPED},
+    {0},
+};
+
+// 0x401000: R 0x7ffd1230 [8 0x1f]
+static const struct pattern pin[] = {
+    {"%x: {RW}%b%p[%b%d%e%*]", BY_LETTER},
+    {"#%*", SKIPPED},
+    {0},
+};
+
+// core   0: 3 0x0000000080000044 (0x01053023) mem 0x0000000080001000 0x0000000000000007
+static const struct pattern spike[] = {
+    {"[core%s%d: %s]%x (%x)%b%i%*", SKIPPED},
+    {"[core%s%d: %s][{0123456789} ]%a (%x)", FETCH},
+    {"core%s%d: %s>>>>%*", SKIPPED},
+    {"core%s%d: %sExecuted %*", SKIPPED},
+    {"core%s%d: %sexception %*", SKIPPED},
+    {"core%s%d: %stval %*", SKIPPED},
+    {0},
+};
+static const struct pattern spike_behind[] = {
+    {"%bmem %a 0x%h", WRITE},
+    {"%bmem %a%u", READ},
+    {"%b%r%b0x%h", SKIPPED},
+    {"%b%v", SKIPPED},
+    {0},
+};
+
+// Some patterns may stand behind others, as often as they do.
+static bool take_patterns(const struct pattern *each, const struct pattern *behind,
+                          struct line line) {
+    while (each->text) {
+        struct line left = line;
+        struct found found = {0, 0, each->access};
+        if (!matches(&left, each->text, &found) || !(ended(&left) || behind)) {
+            each++;
+            continue;
+        }
+        if (found.access == READ && found.flags & INST_FETCH) found.access = FETCH;
+        if (found.access) put((enum label)found.access, found.address);
+        if (ended(&left)) return true;
+        line = left, each = behind;
+    }
+    return false;
+}
+
+// 64 bytes: the instruction, two of a branch, 6 registers, 2 places written, 4 read; 0 is no place
+static const struct { int at; enum label label; } champsim_fields[] = {
+    {32, READ}, {40, READ}, {48, READ}, {56, READ}, {16, WRITE}, {24, WRITE}};
+
+static uint64_t little_endian(const char *bytes) {
+    uint64_t value = 0;
+    for (int i = 8; i--;) value = value << 8 | (unsigned char)bytes[i];
+    return value;
+}
+
+static bool champsim(struct line record) {
+    if ((record.at[8] | record.at[9]) & ~1) return false;
+    put(FETCH, little_endian(record.at));
+    for (size_t i = 0; i < sizeof champsim_fields / sizeof *champsim_fields; i++) {
+        uint64_t place = little_endian(record.at + champsim_fields[i].at);
+        if (place) put(champsim_fields[i].label, place);
     }
     return true;
 }
@@ -331,19 +378,25 @@ static bool spike(struct line line) {
 static const struct format {
     const char *name, *whose;
     bool (*takes)(struct line);
+    const struct pattern *patterns, *behind;
 } formats[] = {
-    {"addresses", "addresses", addresses},
-    {"addresses --decimal", "decimal addresses", decimal_addresses},
-    {"champsim", "ChampSim", champsim},
-    {"dinero", "Dinero IV's extended din format", dinero},
-    {"drmemtrace", "drmemtrace's tool view", drmemtrace},
-    {"execlog", "execlog", execlog},
-    {"gem5", "decode_packet_trace.py", gem5},
-    {"lackey", "lackey", lackey},
-    {"memtrace", "memtrace_simple or memtrace_x86", memtrace},
-    {"pin", "pinatrace", pin},
-    {"spike", "Spike's commit log", spike},
+    {"addresses", "addresses", addresses, 0, 0},
+    {"addresses --decimal", "decimal addresses", decimal_addresses, 0, 0},
+    {"champsim", "ChampSim", champsim, 0, 0},
+    {"dinero", "Dinero IV's extended din format", 0, dinero, 0},
+    {"drmemtrace", "drmemtrace's tool view", 0, drmemtrace, 0},
+    {"execlog", "execlog", execlog, 0, 0},
+    {"gem5", "decode_packet_trace.py", 0, gem5, 0},
+    {"lackey", "lackey", lackey, 0, 0},
+    {"memtrace", "memtrace_simple or memtrace_x86", 0, memtrace, 0},
+    {"pin", "pinatrace", 0, pin, 0},
+    {"spike", "Spike's commit log", 0, spike, spike_behind},
 };
+
+static bool takes(const struct format *format, struct line line) {
+    return format->patterns ? take_patterns(format->patterns, format->behind, line)
+                            : format->takes(line);
+}
 
 // ---- Reading
 
@@ -362,7 +415,7 @@ static size_t lines(const struct format *format, size_t held) {
     for (; (feed = memchr(from, '\n', (size_t)(input + held - from))); from = feed + 1, number++) {
         for (end = feed; end > from && (is_blank(end[-1]) || end[-1] == '\r');) *--end = '\n';
         struct line line = {from, end};
-        if (!ended(&line) && !format->takes(line))
+        if (!ended(&line) && !takes(format, line))
             fail("line %ju: not a line of %s: %s", number + 1, format->whose, shown(line));
     }
     return (size_t)(from - input);

@@ -3,14 +3,14 @@ folder below tools/ finds it so:
 
     sys.path.insert(1, os.path.realpath(f"{os.path.realpath(__file__)}/../.."))
     from lib import tool  # noqa: E402
-
-What few tools need is imported where it is used, since each module takes a millisecond or more.
 """
 
 import contextlib
 import os
 import re
+import shutil
 import sys
+from argparse import ArgumentTypeError
 
 HERE = os.path.dirname(os.path.dirname(os.path.realpath(__file__)))  # the tools
 NAME = os.path.basename(sys.argv[0])
@@ -74,50 +74,10 @@ def called(name):
     return installed if os.path.exists(f"{HERE}/../../bin/{installed}") else name
 
 
-def Arguments(text, **given):  # noqa: N802 - a class where it is used
-    """The parser of a tool's arguments, whose help begins with the tool's own text."""
-    from lib import arguments
-    return arguments.Arguments(text, **given)
-
-
-def options(words, flags):
-    """Takes the options off the beginning of the words, up to '--' or the first other word. Each
-    comes with its value, which may begin with a dash, and stands behind '=' or in the next word;
-    but a flag has none."""
-    while words and words[0].startswith("-") and words[0] not in ("-", "--"):
-        name, equals, value = words.pop(0).partition("=")
-        if name not in flags and not equals:
-            if not words:
-                misused(f"{name} is no option, or wants a value")
-            value = words.pop(0)
-        yield name, value
-
-
-def look_for_help(arguments, texts=()):
-    """Writes the tool's help where it is asked for, for a tool that hands its arguments on. A line
-    of it may stand for one of the texts."""
-    if "-h" in arguments or "--help" in arguments:
-        lines = sys.modules["__main__"].__doc__.strip().splitlines()
-        write_lines(dict(texts).get(line, line) for line in lines)
-        sys.exit()
-
-
-def which(command):
-    """The path of a command, or None."""
-    folders = [""] if "/" in command else os.environ.get("PATH", os.defpath).split(os.pathsep)
-    paths = (os.path.join(folder, command) for folder in folders)
-    return next((path for path in paths if os.path.isfile(path) and os.access(path, os.X_OK)), None)
-
-
 def needs(command, package):
     """Ends the tool where a command is missing, naming Debian's package."""
-    if not which(command):
+    if not shutil.which(command):
         fail(f"{command} is missing: apt-get install {package}")
-
-
-def is_option(word):
-    """Whether an argument where a trace is wanted is an option, and no file of that name."""
-    return len(word) > 1 and word.startswith("-") and not os.path.exists(word)
 
 
 def number_of(text):
@@ -140,18 +100,12 @@ def size_of(text):
     """The same for an argument's parser."""
     size = bytes_of(text)
     if size is None:
-        raise no_argument(no_size(text))
+        raise ArgumentTypeError(no_size(text))
     return size
 
 
 def no_size(text):
     return f"{text!r} is no size such as 512, 32k or 1m"
-
-
-def no_argument(text):
-    """What a parser of arguments takes for a fault of one."""
-    from argparse import ArgumentTypeError
-    return ArgumentTypeError(text)
 
 
 def size_text(size):

@@ -8,7 +8,7 @@ import shlex
 import subprocess
 
 from lib import files
-from parts import student, tool, traces
+from parts import evidence, student, tool, traces
 from parts.student import Case, last_line, shown, tail_of, visible_name
 
 # Set bits, lines per set, block bits: those of the lab's tests, that of the handout's example, a
@@ -241,7 +241,6 @@ class Grading:
             turned = [run for run in self.wrong if run[0].is_turned][:1]
             if any(self.is_right(run[0]._replace(is_turned=False), run[1]) for run in turned):
                 return "the options are taken in one order only; getopt takes them in any"
-        from parts import evidence
         crashed = [(case, judgement.said[0]) for case, _, judgement in self.wrong
                    if "signal" in judgement.way[0]]
         kept = [(wanted, judgement.got, judgement.kept) for _, wanted, judgement in self.wrong]

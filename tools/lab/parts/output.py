@@ -1,5 +1,7 @@
 """What `replay` writes of a picture: lines for a terminal, or a page."""
 
+import json
+
 from parts import tool
 from parts.cache import MOST_WAYS
 from parts.picture import to_memory, why
@@ -46,7 +48,6 @@ def row_of(cache, step):
 
 def page_of(title, picture):
     """The page: the HTML beside this with the steps in it."""
-    import json
     cache = picture.cache
     drawn = sorted({step.set for step in picture.steps if step.access != "flush"})
     if picture.only is not None:

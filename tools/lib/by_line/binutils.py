@@ -3,6 +3,7 @@
 import functools
 import os
 import re
+import shutil
 import zlib
 
 from lib import processes, regular, tool
@@ -67,7 +68,7 @@ def output_of(command, path, *options, text=None):
 @functools.cache
 def line_finder():
     """The command that tells the lines of addresses."""
-    return LLVM if tool.which(LLVM) else "addr2line"
+    return LLVM if shutil.which(LLVM) else "addr2line"
 
 
 def mended(names, path):
@@ -83,7 +84,7 @@ def mended(names, path):
 def sources_of(path, names):
     """By their addresses the source files of the variables that have one of these names, as the
     debug information has them. After an optimization at link time nm tells none."""
-    if not names or not tool.which("llvm-dwarfdump"):
+    if not names or not shutil.which("llvm-dwarfdump"):
         return {}
     text = output_of("llvm-dwarfdump", path, *(f"--name={name}" for name in sorted(names)))
     files, places = {}, {}

@@ -3,8 +3,8 @@ compiler makes that a jump. The debug information tells of each call which funct
 
 import collections
 import re
+import shutil
 
-from lib import tool
 from lib.by_line.binutils import output_of
 
 # an entry as llvm-dwarfdump writes it, and what is used of it
@@ -42,7 +42,7 @@ class Calls:
 
     def __init__(self, path):
         self.path, self.bodies, self.asked = path, {}, set()
-        is_read = tool.which("llvm-dwarfdump")
+        is_read = shutil.which("llvm-dwarfdump")
         symbols = output_of("nm", path, "--defined-only", "--") if is_read else ""
         self.names = {int(at, 16): name.partition(".")[0] for at, name in SYMBOL.findall(symbols)}
 

@@ -48,7 +48,6 @@ MARKS = "os^vDos"
 DASHES = ("-", (0, (5, 2)), (0, (1, 1.5)), (0, (5, 1.5, 1, 1.5)), (0, (9, 3)), (0, (3, 1.5)),
           (0, (5, 1.5, 1, 1.5, 1, 1.5)))
 LETTER, LINE = 0.6, 1.25  # the width of a letter and the height of a line, by the type's size
-NARROW = 72  # in fewer letters a legend has no room beside its picture
 LEAST = 36, 11  # letters and lines that a picture needs
 # the first that has a letter draws it
 FONTS = ["DejaVu Sans", "Verdana", "Noto Sans CJK JP", "Droid Sans Fallback", "sans-serif"]
@@ -84,7 +83,7 @@ class Canvas:
         sides = (672, None) if is_print else ((860, 480), (920, 420), (920, 800))[count - 1]
         width, height = asked.size[:2] if asked.size else (
             side and side * asked.scale for side in sides)
-        self.is_narrow = width < NARROW * LETTER * self.em
+        self.is_narrow = width < pictures.NARROW * LETTER * self.em
         rows = [1] * count if self.is_narrow else ([1], [2], [2, 1])[count - 1]
         height = height or width * (
             0.8 * count if self.is_narrow else (0.56, 0.46, 0.87)[count - 1])

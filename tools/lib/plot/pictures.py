@@ -9,6 +9,7 @@ from lib.plot import MOST_LINES
 from lib.tool import size_text
 
 SIZE = "cache size in bytes"
+NARROW = 72  # in fewer letters a legend has no room beside its picture
 UNIT = re.compile(r" in (per cent|bytes|cycles \(AMAT\))$")
 # of Okabe and Ito, except for a pale yellow: all people can tell them apart, also the colour-blind
 COLOURS = ("#0072b2", "#d55e00", "#009e73", "#cc79a7", "#e69f00", "#56b4e9", "#000000")

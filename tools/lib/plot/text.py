@@ -3,9 +3,9 @@
 import shutil
 
 from lib.plot import pictures
+from lib.plot.pictures import NARROW
 
 STROKES, MARKS = "*#$%@&=", "ABCDEFG"
-NARROW = 72  # in fewer columns a legend has no room beside its picture
 
 
 def looks_of(picture):

@@ -3,6 +3,7 @@
 import re
 
 from lib import processes, tool
+from lib.by_line.binutils import debug_file
 
 SYMBOL = re.compile(r"([0-9a-f]*) ([tTwWi]) (.*)")
 CODE = re.compile(r" *LOAD +0x\w+ 0x(\w+) 0x\w+ 0x\w+ 0x\w+ ..E ", re.M)
@@ -36,7 +37,6 @@ def address_of(path, name):
     missing = "those of shared libraries can't be named, nor those that were inlined"
     named, table = path, []
     if not symbols(path):
-        from lib.by_line.binutils import debug_file  # few programs need it
         named = debug_file(path)
         if not named:
             named, table, missing = path, ["-D"], "it is stripped"

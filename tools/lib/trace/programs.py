@@ -2,6 +2,7 @@
 
 import os
 import re
+import shutil
 
 from lib import regular, tool
 
@@ -26,7 +27,7 @@ def no_program(status, text):
 def found(name, script=""):
     """The file of a program, or of a script's interpreter."""
     called = f"{name}, the interpreter of {script}," if script else name
-    path = name if "/" in name else tool.which(name)
+    path = name if "/" in name else shutil.which(name)
     if path is None or not os.path.exists(path):
         no_program(ABSENT, f"{called} is not found")
     path = f"./{path}" if path.startswith("-") else path
