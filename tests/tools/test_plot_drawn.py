@@ -136,15 +136,24 @@ class Drawn(PlotTest):
                 for title in [TITLES[0][:24]] + [TITLES[2]] * (text.count("\n") > 1):
                     self.assertIn(title, drawn or (self.folder / out).read_text())
 
-    def test_picture_of_the_documents(self):
-        """It can be drawn anew, by the command beside it, as large as it is."""
+    def test_pictures_of_the_documents(self):
+        """They can be drawn anew, by the commands beside them, as large as they are."""
         stored = base.TOP / "docs/pictures"
         copy = shutil.copytree(stored, self.folder / "docs/pictures")
-        (copy / "sort.png").unlink()
-        command = re.search("(?m)^    tools/(plot .*)$", (stored / "README.md").read_text())[1]
-        self.good(self.run_command("bash", "-c", f"{base.TOOLS}/{command}"))
-        was, made = (png_of((folder / "sort.png").read_bytes()) for folder in (stored, copy))
-        self.assertEqual(made, was)
+        (self.folder / "examples").symlink_to(base.EXAMPLES)
+        commands = re.findall("(?m)^    ((?:tools/plot|cachesim) .*)$",
+                              (stored / "README.md").read_text())
+        self.assertEqual(len(commands), 3)
+        pictures = sorted(path.name for path in stored.glob("*.png"))
+        self.assertEqual(pictures, ["sort.png", "traffic.png"])
+        for name in pictures:
+            (copy / name).unlink()
+        for command in commands:
+            command = re.sub("^tools", str(base.TOOLS), command)
+            self.good(self.run_command("bash", "-c", command))
+        for name in pictures:
+            was, made = (png_of((folder / name).read_bytes()) for folder in (stored, copy))
+            self.assertEqual(made, was)
         self.assertEqual(len(table.read_table(*table.lines_of(stored / "sort.csv"))), 633)
 
 

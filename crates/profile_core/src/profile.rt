@@ -155,8 +155,6 @@ impl Profile {
         ensures within { result ≤ length addrs.new }
         ensures length { length addrs.new ≡ length addrs.old }
     {
-        // The loops stand in the program in the order of these arms. Where they begin can matter
-        // (docs/PERF.md).
         match (&mut self.kept, &mut next.kept) {
             (KeptProfile::InSparseRows(first), KeptProfile::InSparseRows(second)) =>
                 first.feed_each_to_two(second, addrs),
