@@ -38,6 +38,26 @@ for name in ("small", "typical", "large", "deep"):
          lambda name=name: space(name))
 
 
+def full_spaces():
+    """Of each space: seconds of full tables as above, and their part of the time without --full."""
+    shape = (r"ok (\w+) --full: \d+ rows, cachesim (\S+) s, C (\S+) s, plain C (\S+) s, ratio of "
+             r"medians \(of minima\) (\S+ \(\S+\)), to plain C (\S+ \(\S+\)), (\S+) of the time "
+             r"without --full")
+    found = map(re.compile(shape).fullmatch, measured("against_c"))
+    return {it[1]: it.groups()[1:] for it in found if it}
+
+
+def full_space(name):
+    ours, same, plain, to_same, to_plain, longer = full_spaces()[name]
+    return [ours, same, *parts_of(to_same), plain, *parts_of(to_plain), longer]
+
+
+for name in full_spaces():
+    fact("docs/speed.md", rf"^{name} \| {NUMBER} s \| {NUMBER} s \| {NUMBER} \({NUMBER}\) \| "
+         rf"{NUMBER} s \| {NUMBER} \({NUMBER}\) \| {NUMBER}$",
+         lambda name=name: full_space(name))
+
+
 def each_row():
     [text] = [line for line in measured("against_c") if "a C run for each row" in line]
     seconds, times = re.search(r": (\S+) s, (\d+) times", text).groups()

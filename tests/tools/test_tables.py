@@ -6,6 +6,7 @@ import unittest
 
 import base
 from facts import constant
+from facts_of_measures import full_spaces
 from test_facts import MANUAL, section
 
 # what the code writes at a place, and what the manual has there
@@ -155,6 +156,20 @@ class Speed(base.ToolTest):
             self.assertEqual(self.sweep(*(word for pair in asked for word in pair)), shown, name)
             self.assertEqual(len(shown.splitlines()) - 1, int(count.replace(",", "")))
             self.judge_ratios(titles[3:], measured)
+
+    def test_full_tables(self):
+        """Of the same spaces, once they are measured; the last ratio is to the sweeps above."""
+        heading = "With `--full`"
+        self.assertEqual(f"\n{heading} |" in self.TEXT, bool(full_spaces()))
+        if not full_spaces():
+            return
+        rows, above = table(self.TEXT, heading), table(self.TEXT, "Space")
+        self.assertEqual([row[0] for row in rows], [row[0] for row in above])
+        titles = head(self.TEXT, heading)
+        for (_, *measured, longer), (_, _, _, without, *_) in zip(rows, above):
+            self.judge_ratios(titles[1:-1], measured)
+            ours, theirs = (float(it.removesuffix(" s")) for it in (measured[0], without))
+            self.assertAlmostEqual(float(longer), ours / theirs, delta=0.05)
 
     def judge_ratios(self, titles, measured):
         """A ratio is that of the first time to the time before it."""
