@@ -89,7 +89,7 @@ fact("docs/DECISIONS.md", r"Profiles of (\d+) ways or more have deep lists",
      lambda: [f"{deep()}"])
 fact("docs/definitions.md", r"and stream (\d+)\.",
      lambda: [f"{constant('cache_core', 'replacement.rt', 'STREAM')}"])
-fact("crates/deep_list/CALLING.md", r"A list of `cap` blocks has at most so many, 1 to (2\^\d+)",
+fact("crates/deep_list/CALLING.md", r"A list has at most `cap` blocks, 1 to (2\^\d+)",
      lambda: [power(geometry("MAX_CACHE_LINES"))])
 
 

@@ -54,7 +54,8 @@ class Check(ToolTest):
         # each thing once
         both = self.listed("tools/best", "tests/tools/test_best.py", "docs/definitions.md")
         self.assertEqual(both, "test-tools --plain --list|test-tools --plain best style "
-                         "documents.Definitions links facts documents.Documents.test_docs_definitions")
+                         "documents.Definitions links facts "
+                         "documents.Documents.test_docs_definitions")
         self.assertEqual(self.listed("tests/edits.py", "docs/proofs.md").count("mutants"), 1)
 
     def test_each_test_is_there(self):
