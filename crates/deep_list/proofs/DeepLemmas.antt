@@ -192,6 +192,21 @@ module _ {top end : ℕ} {slots : SlotsValue} {chains : ChainsValue}
           latest = filled_latest absent;
         }
 
+-- the moves to the end
+pub gathering_none : (v : SlotsValue) → length v.blocks ≡ length v.live → AreFlags v.live →
+    IsGathering (length v.live) (length v.live) v v
+gathering_none v same flags = record {
+  same = same;
+  long = refl;
+  flags = flags;
+  order = omega arith;
+  within = omega arith;
+  dead = λ s le lt. absurd (omega arith);
+  full = λ s le lt. absurd (omega arith);
+  kept_same = refl;
+  left = ap (λ xs. length v.live + sum xs) (take_all (length v.live) v.live (omega arith));
+}
+
 module _ {from to : ℕ} {v w : SlotsValue} (g : IsGathering from to v w) (f : ℕ)
     (next : f + 1 ≡ from) where
   one_more : sum (take from w.live) ≡ sum (take f w.live) + get_or w.live f 0
@@ -256,6 +271,18 @@ module _ {from to : ℕ} {v w : SlotsValue} (g : IsGathering from to v w) (f : �
           sum_take-set_above f f 0 w.live (omega arith),
         );
       }
+
+pub gathered : {from to : ℕ} {v w : SlotsValue} → IsGathering from to v w → from ≡ 0 →
+    IsGathered to v w
+gathered {from} {to} {v} {w} g none = record {
+  same = g.same;
+  long = g.long;
+  flags = g.flags;
+  dead = λ s lt. g.dead s (omega arith) lt;
+  full = g.full;
+  kept_same = g.kept_same;
+  top_is = omega (arith, g.left, ap (λ j. sum (take j w.live)) none);
+}
 
 pub gathered_ranked : {top : ℕ} {v w : SlotsValue} (chains : ChainsValue) → IsGathered top v w →
     length w.live ≤ 2 ^ 24

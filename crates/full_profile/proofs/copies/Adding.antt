@@ -41,6 +41,14 @@ none_more n c = record {
   up_to_few = omega arith;
 }
 
+pub more_more : {m n : ℕ} {c d e : CopiesValue} → IsMore m c d → IsMore n d e → IsMore (m + n) c e
+more_more p q = record {
+  above_long = q.above_long ∙ p.above_long;
+  up_to_long = q.up_to_long ∙ p.up_to_long;
+  above_few = omega (arith, p.above_few, q.above_few);
+  up_to_few = omega (arith, p.up_to_few, q.up_to_few);
+}
+
 one_if : (b : Bool) (c d : CopiesValue) → IsMore 1 c d → IsMore 1 c (cond b d c)
 one_if true c d more = more
 one_if false c d more = record {

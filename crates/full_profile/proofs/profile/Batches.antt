@@ -34,6 +34,16 @@ unsettled_snoc v (b ∷ refs) r =
     cond (is_settled (after_full_batch w refs) r) [] (r ∷ []))
     [ true ↦ more | false ↦ ap (λ l. b ∷ l) more ]
 
+pub none_fed : (v : FullState) (refs : List Ref) → IsFed 0 0 v v refs refs
+none_fed v refs = record {
+  step = refl;
+  kept = refl;
+  count = omega arith;
+  rest = refl;
+  same_length = refl;
+  few = omega arith;
+}
+
 module _ {at fed : ℕ} {v w : FullState} {old now : List Ref} (f : IsFed at fed v w old now)
     (inside : at < length old) (d : Ref) (after : FullState)
     (next : after ≡ after_unless_settled w (get_or now at d)) (more : fed_of after.plain ≤ fed_of

@@ -194,6 +194,18 @@ counts_are es v e h le =
     let same : counts_at v e ≡ counts_by g e ps = cc (hits, misses, evictions) in
     same ∙ sym (counts_same g e es)
 
+pub held_is : (es : List Event) (v : ProfileState) → ProfileStandsFor es v →
+    held_of v ≡ held v.geometry es
+unfolding held
+held_is es v h =
+    let g = v.geometry in
+    let list : ℕ → List ℕ = λ k. take g.e (distinct_of_set g k (window g es)) in
+    ap (sum_by length) (fill_by_all list v.lists (2 ^ g.s) [] h.set_count h.lists)
+    ∙ sum_by-map length list (range_with_len 0 (2 ^ g.s))
+    ∙ sum_by_same (λ k. length (list k)) (λ k. min (length (distinct_of_set g k (window g es))) g.e)
+    (range_with_len 0 (2 ^ g.s))
+    (λ k. length-take g.e (distinct_of_set g k (window g es)) ∙ omega arith)
+
 few : (last near : Bool) (d n m : ℕ) → (near ≡ ltb d m) → cond (last && near) (d + 1) (min n m) ≤ m
 few last near d n m e = grind (arith, nat_tests)
 

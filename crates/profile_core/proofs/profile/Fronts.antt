@@ -112,6 +112,11 @@ some_distance : (behind : List ℕ) → take 1 behind ≡ 0 ∷ [] → 1 ≤ len
 some_distance [] first = absurd (cc)
 some_distance (y ∷ bs) first = omega arith
 
+counted : (behind : List ℕ) (p q n : ℕ) → q ≤ p → set behind 0 (p + n - q) ≡ lift n
+    (set behind 0 (p - q))
+counted [] p q n le = refl
+counted (y ∷ bs) p q n le = ap (λ m. m ∷ bs) (omega (arith, le))
+
 module _ {g : GeometryValue} {lists : Lists} {behind missed : List ℕ} {probes : ℕ}
     {v : ProfileState} (h : IsSound g lists behind missed probes)
     (view_is : state_of g lists behind missed probes ≡ v) where

@@ -20,6 +20,10 @@ use Rattle.profile_core.proofs.set_lists.LongListLemmas.{HasWhole, IsRenewed, ro
 use Rattle.profile_core.proofs.set_lists.LongListLemmas.{within, within_far, list_is, rest_behind}
 use Rattle.profile_core.proofs.set_lists.LongListLemmas.{renewed, StaysIn, depth_small}
 
+is_or : (b : Bool) → (b ≡ true) ⊎ (b ≡ false)
+is_or true = inl refl
+is_or false = inr refl
+
 settled_at : (b1 b2 : Bool) (t t' : Standing) (held last : ℕ) → Settled t ≡ cond b1 (Settled t')
     (cond b2 (Settled t') (Full held last))
     → ((b1 ≡ true) ⊎ ((b2 ≡ true) × (b1 ≡ false))) × (t ≡ t')

@@ -24,6 +24,9 @@ pub slot_block : (index : IndexValue) (dirty : List Bool) (s b : ℕ) → HasBlo
 slot_block index dirty s b h =
     ap (λ o. unwrap_or o 0) (get_or_from_slice_get index.blocks s (Some b) None h)
 
+some_some : (a b : ℕ) → Some (Some a) ≡ Some (Some b) → a ≡ b
+some_some a b e = cc
+
 has_of : (g : GeometryValue) (index : IndexValue) (dirty : List Bool) (k t b : ℕ) →
     Holds g index k t → (slot_at index dirty t).block ≡ b → HasBlock index t b
 has_of g index dirty k t b h q =
