@@ -1,4 +1,4 @@
--- A first-level cache, that holds the block is seen as the machine has it.
+-- A first-level cache that holds the block is seen as the machine has it.
 use Rattle.std.proofs.Common.{List, subst}
 use Rattle.cache_core.specs.declared.system.arrival.Arrival.{Arrival}
 use Rattle.cache_core.specs.system.Arrivals.{Saw}
