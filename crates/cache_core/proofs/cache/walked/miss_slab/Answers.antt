@@ -1,5 +1,5 @@
 -- A set is read from its segment, and the segment is written back.
-use Rattle.std.proofs.Common.{arith, ◌∙◌, ap, sym, ◌<◌, length}
+use Rattle.std.proofs.Common.{arith, ◌∙◌, ap, ◌<◌, length}
 use Rattle.cache_core.specs.Geometry.{block_of, set_of}
 use Rattle.cache_core.specs.cache.Order.{position_of}
 use Rattle.cache_core.proofs.TouchedSets.{covers_change}

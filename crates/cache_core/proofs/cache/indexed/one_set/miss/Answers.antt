@@ -57,7 +57,8 @@ returns-clause-step g c =
     (held_nowhere c.args.design c.args.index.now c.args.dirty.now c.args.order.now
     c.args.reference (set_of c.args.design.geometry c.args.reference.addr)
     c.block_of-block.result
-    c.requires.indexed refl c.block_of-block.ensures.value (set_within c.args.design.geometry c.args.reference.addr)
+    c.requires.indexed refl c.block_of-block.ensures.value
+    (set_within c.args.design.geometry c.args.reference.addr)
     c.requires.none) c.dirties_line-mark.result c.dirties_line-mark.ensures
     (sym c.allocates_line.ensures ∙ c.if-not-allocates_line.false)
     (g.P.Replacement.policy c.args.policy.now)
@@ -82,7 +83,8 @@ returns-clause-dirty g c =
     (held_nowhere c.args.design c.args.index.now c.args.dirty.now c.args.order.now
     c.args.reference (set_of c.args.design.geometry c.args.reference.addr)
     c.block_of-block.result
-    c.requires.indexed refl c.block_of-block.ensures.value (set_within c.args.design.geometry c.args.reference.addr)
+    c.requires.indexed refl c.block_of-block.ensures.value
+    (set_within c.args.design.geometry c.args.reference.addr)
     c.requires.none) c.dirties_line-mark.result c.dirties_line-mark.ensures
     (sym c.allocates_line.ensures ∙ c.if-not-allocates_line.false)
     (g.P.Replacement.policy c.args.policy.now)
