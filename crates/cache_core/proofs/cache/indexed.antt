@@ -9,6 +9,6 @@ pub mod SlotOrderLaw
 pub mod SlotOrderDeeds
 pub mod IndexedPopping
 pub mod IndexedVisit
-pub mod IndexedFront
 pub mod IndexedAccess
+pub mod IndexedHeld
 pub mod IndexedEmpty

@@ -1,11 +1,11 @@
 //! A cache under a named policy. By its number of ways its sets are walked over, or its blocks are
 //! found by an index.
-ghost use Rattle.std.specs.Prelude.{◌≡◌, ◌<◌, ◌*◌, ◌^◌, IfOk, IfSome};
+ghost use Rattle.std.specs.Prelude.{◌≡◌, ◌<◌, ◌*◌, ◌^◌, IfOk, IfSome, false};
 ghost use Rattle.cache_core.specs.Geometry.{IsGeometry};
 ghost use Rattle.cache_core.specs.cache.Order.{Accesses, FlushesCache, DirtiesByWrites};
 ghost use Rattle.cache_core.specs.cache.Slab.{contents_of, empty_sets};
 ghost use Rattle.cache_core.specs.internal.cache.Lookups.{LooksUp};
-ghost use Rattle.cache_core.specs.internal.cache.Slab.{AccessesInFront};
+ghost use Rattle.cache_core.specs.internal.cache.Held.{is_held, AccessesHeld};
 
 use crate::cache::Cache;
 use crate::cache::indexed::IndexedCache;
@@ -78,9 +78,22 @@ impl<P: NamedPolicy> ChosenCache<P> {
         })
     }
 
-    /// Makes one access, and returns its outcome.
+    /// Makes an access if the cache holds its block, and returns its outcome. Otherwise it does
+    /// nothing.
     #[inline(always)]
-    pub(crate) fn access(&mut self, reference: Ref) -> Outcome
+    pub(crate) fn hit(&mut self, reference: Ref) -> Option<Outcome>
+        ensures { AccessesHeld P.policy P.words self.old reference result self.new }
+    {
+        match &mut self.kept {
+            Kept::Walked(cache) => cache.hit(reference),
+            Kept::Indexed(cache) => cache.hit(reference),
+        }
+    }
+
+    /// Makes an access whose block the cache does not hold, and returns its outcome.
+    #[inline(always)]
+    pub(crate) fn miss(&mut self, reference: Ref) -> Outcome
+        requires { is_held self.old.design self.old.sets reference ≡ false }
         ensures step { Accesses (contents_of P.policy P.words self.old) reference result
             (contents_of P.policy P.words self.new) }
         ensures dirty { DirtiesByWrites self.old.sets reference result self.new.sets }
@@ -88,20 +101,8 @@ impl<P: NamedPolicy> ChosenCache<P> {
             (λ slot. slot.block * 2 ^ self.old.design.geometry.b < 2 ^ 64) }
     {
         match &mut self.kept {
-            Kept::Walked(cache) => cache.access(reference),
-            Kept::Indexed(cache) => cache.access(reference),
-        }
-    }
-
-    /// Makes an access if it finds its block in the first slot of its set and sends nothing down,
-    /// and returns its outcome. Otherwise it does nothing.
-    #[inline(always)]
-    pub(crate) fn access_in_front(&mut self, reference: Ref) -> Option<Outcome>
-        ensures { AccessesInFront P.policy P.words self.old reference result self.new }
-    {
-        match &mut self.kept {
-            Kept::Walked(cache) => cache.access_in_front(reference),
-            Kept::Indexed(cache) => cache.access_in_front(reference),
+            Kept::Walked(cache) => cache.miss(reference),
+            Kept::Indexed(cache) => cache.miss(reference),
         }
     }
 
@@ -110,12 +111,12 @@ impl<P: NamedPolicy> ChosenCache<P> {
     pub(crate) fn look_up(&mut self, reference: Ref) -> Lookup
         ensures { LooksUp P.policy P.words self.old reference result self.new }
     {
-        if self.access_in_front(reference).is_some() {
+        if self.hit(reference).is_some() {
             return Lookup::Hit;
         }
         match &mut self.kept {
-            Kept::Walked(cache) => look_up_walked(cache, reference),
-            Kept::Indexed(cache) => look_up_indexed(cache, reference),
+            Kept::Walked(cache) => look_up_missed(cache, reference),
+            Kept::Indexed(cache) => look_up_missed_by_index(cache, reference),
         }
     }
 
@@ -142,20 +143,21 @@ impl<P: NamedPolicy> ChosenCache<P> {
     }
 }
 
-/// Makes any access to a cache that is walked over, and returns how it went. It is a function of
-/// its own, so that the path of the many references that find their block in the first slot of its
-/// set stays short, and an outcome of which little is asked is not stored.
+/// Makes an access whose block a cache that is walked over does not hold, and returns how it went.
+/// It is a function of its own, so that the path of a hit stays short.
 #[inline(never)]
-fn look_up_walked<P: Replacement>(cache: &mut Cache<P>, reference: Ref) -> Lookup
+fn look_up_missed<P: Replacement>(cache: &mut Cache<P>, reference: Ref) -> Lookup
+    requires { is_held cache.old.design cache.old.sets reference ≡ false }
     ensures { LooksUp P.policy P.words cache.old reference result cache.new }
 {
-    lookup_of(&cache.access(reference))
+    lookup_of(&cache.miss(reference))
 }
 
 /// The same of a cache with an index.
 #[inline(never)]
-fn look_up_indexed<P: NamedPolicy>(cache: &mut IndexedCache<P>, reference: Ref) -> Lookup
+fn look_up_missed_by_index<P: NamedPolicy>(cache: &mut IndexedCache<P>, reference: Ref) -> Lookup
+    requires { is_held cache.old.design cache.old.sets reference ≡ false }
     ensures { LooksUp P.policy P.words cache.old reference result cache.new }
 {
-    lookup_of(&cache.access(reference))
+    lookup_of(&cache.miss(reference))
 }

@@ -1,16 +1,12 @@
 -- A cache's sets in one array of slots: each has a segment of as many slots as it has ways, and the
 -- first of them are filled. Only the proofs need these definitions.
 use Rattle.std.specs.Prelude.{◌≡◌, ◌<◌, ◌≤◌, ℕ, ◌*◌, ◌^◌, List, [], ◌∷◌, Option, length, take, drop}
-use Rattle.std.specs.Prelude.{All, None, IfSome, is_some}
+use Rattle.std.specs.Prelude.{All}
 use Rattle.cache_core.specs.Geometry.{IsGeometry}
-use Rattle.trace_core.specs.declared.events.Ref.{Ref}
 use Rattle.cache_core.specs.declared.outcome.Slot.{Slot}
-use Rattle.cache_core.specs.declared.outcome.Outcome.{Outcome}
 use Rattle.cache_core.specs.declared.design.Design.{Design}
 use Rattle.cache_core.specs.declared.design.Repl.{Repl}
-use Rattle.cache_core.specs.cache.Order.{Contents, Accesses, DirtiesByWrites}
-use Rattle.cache_core.specs.cache.Slab.{CacheValue, contents_of}
-use Rattle.cache_core.specs.internal.cache.Order.{hit_in_front, hits_in_front}
+use Rattle.cache_core.specs.cache.Order.{Contents}
 
 -- the filled slots of each segment
 abbrev pub sets_of : ℕ → List Slot → List ℕ → List (List Slot)
@@ -38,14 +34,3 @@ slab_contents d policy numbers slots filled = record {
       numbers;
   sets = sets_of d.geometry.e slots filled;
 }
-
--- an access is made if it finds its block in the first slot of its set and sends nothing down; any
--- other access changes nothing
-pub record AccessesInFront {P : Type 0} (policy : P → Option Repl) (numbers : P → ℕ → ℕ)
-    (old : CacheValue P) (ref : Ref) (result : Option Outcome) (new : CacheValue P) : Type 0 where
-  pub step : IfSome result (λ outcome.
-      Accesses (contents_of policy numbers old) ref outcome (contents_of policy numbers new))
-  pub dirty : IfSome result (λ outcome. DirtiesByWrites old.sets ref outcome new.sets)
-  pub answers : is_some result ≡ hits_in_front old.design old.sets ref
-  pub outcome : IfSome result (λ outcome. outcome ≡ hit_in_front)
-  pub kept : result ≡ None → new ≡ old

@@ -1,12 +1,11 @@
 -- One step of a system, over its contents. Only the proofs need these definitions.
-use Rattle.std.specs.Prelude.{◌≡◌, ◌≤◌, ℕ, ◌+◌, ◌*◌, ◌^◌, Bool, false, List, [], ◌∷◌, Option, Some}
+use Rattle.std.specs.Prelude.{◌≡◌, ◌≤◌, ℕ, ◌+◌, ◌*◌, ◌^◌, Bool, List, [], ◌∷◌, Option, Some}
 use Rattle.std.specs.Prelude.{None, if◌then◌else◌, MatchBool, is_some}
 use Rattle.trace_core.specs.declared.events.Ref.{Ref}
 use Rattle.trace_core.specs.Events.{is_fetch, is_write}
 use Rattle.cache_core.specs.declared.outcome.Outcome.{Outcome}
 use Rattle.cache_core.specs.declared.system.system_cache.SystemCache.{SystemCache}
 use Rattle.cache_core.specs.declared.system.below.Memory.{Memory}
-use Rattle.cache_core.specs.internal.cache.Order.{hits_in_front}
 use Rattle.cache_core.specs.system.Systems.{random_numbers_for}
 use Rattle.cache_core.specs.declared.system.plan.CacheName.{CacheName}
 use Rattle.cache_core.specs.declared.system.plan.CacheName.TheVariants.{L1I, L1D, L1U}
@@ -49,10 +48,6 @@ AllDescend (ref ∷ refs) second memory lower after =
     (mid : Option SystemCache) × (half : Memory) × Descends ref second memory mid half ×
     AllDescend refs mid half lower after
 
--- no reference
-abbrev pub nothing_down : List (Option Ref)
-nothing_down = None ∷ None ∷ []
-
 -- a reference at a first-level cache, and those that this sends down; none if it isn't there
 abbrev pub AccessesFirst : Option SystemCache → Ref → Option (List (Option Ref)) →
     Option SystemCache → Type 0
@@ -62,22 +57,9 @@ AccessesFirst cache ref (Some down) next =
     (next ≡ Some new) × (down ≡ outcome.down)
     × Enters old ref outcome new
 
--- whether a first-level cache is there, hits in front at a reference, and sends nothing down
-abbrev pub first_hits_in_front : Option SystemCache → Ref → Bool
-first_hits_in_front None ref = false
-first_hits_in_front (Some cache) ref = hits_in_front cache.cache.design cache.cache.sets ref
-
 -- the name of the first-level cache that takes a reference, if it is there
 abbrev pub first_name : Option SystemCache → Ref → CacheName
 first_name u ref = if is_some u then L1U else if is_fetch ref.access then L1I else L1D
-
--- whether the cache that takes a reference has its block in front, and sends nothing down
-abbrev pub level_hits_in_front :
-    Option SystemCache → Option SystemCache → Option SystemCache → Ref → Bool
-level_hits_in_front i d u ref =
-    if is_some u then first_hits_in_front u ref
-    else if is_fetch ref.access then first_hits_in_front i ref
-    else first_hits_in_front d ref
 
 -- The unified cache is accessed, and the others stay.
 abbrev pub AccessesUnified : Option SystemCache → Option SystemCache → Option SystemCache → Ref →

@@ -172,7 +172,7 @@ impl SlotOrder {
     }
 }
 
-/// Brings a slot to the front of its list.
+/// Brings a slot to the front of its list. Most often it is there.
 #[inline(always)]
 fn bring(lists: &mut SlotLists, set: usize, slot: usize)
     requires set { set < length lists.old.lists }
@@ -182,6 +182,9 @@ fn bring(lists: &mut SlotLists, set: usize, slot: usize)
           (with_moved InFront slot (order_of lists.old.lists set));
     } }
 {
+    if lists.first(set) == Some(slot) {
+        return;
+    }
     lists.are_apart();
     lists.remove(set, slot);
     lists.push_front(set, slot);

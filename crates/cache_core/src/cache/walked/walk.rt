@@ -5,12 +5,15 @@ ghost use Rattle.cache_core.specs.internal.cache.Order.{NoneBefore, HoldsAt};
 
 use crate::outcome::Slot;
 
-/// The index of a block among the slots, if it is there. It goes four slots at a time, since a
-/// compiler doesn't unroll a search.
+/// The index of a block among the slots, if it is there. It looks at the first by itself, which
+/// most often has it, and then goes four slots at a time, since a compiler doesn't unroll a search.
 #[inline(always)]
 pub(crate) fn find_block(slots: &[Slot], block: u64) -> Option<usize>
     ensures { result ≡ position_of block slots.now }
 {
+    if slots.first().is_some_and(|slot| slot.block == block) {
+        return Some(0);
+    }
     let mut at = 0;
     while slots.len() - at >= 4 {
         let others = others_of_four(slots, at, block);

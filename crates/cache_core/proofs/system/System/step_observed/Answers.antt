@@ -1,46 +1,35 @@
--- A reference that finds its block in the first slot of its set is a step that sends nothing down,
--- and is seen once.
-use Rattle.std.proofs.Common.{◌≡◌, List, [], ◌∷◌, ◌++◌, Some, None, true, arith, sym, ap, ◌∙◌}
-use Rattle.std.proofs.Common.{subst, refl, append-nil}
+-- A hit keeps the bounds on the counts, and is one reference at the first level and what is sent
+-- down from it. So it is seen.
+use Rattle.std.proofs.Common.{List, Some, arith, refl, sym, subst}
 use Rattle.cache_core.specs.declared.system.arrival.Arrival.{Arrival}
-use Rattle.cache_core.specs.declared.system.arrival.Arrival.TheVariants.{Cache}
-use Rattle.cache_core.specs.system.Arrivals.{Saw, first_arrivals, lower_arrivals}
+use Rattle.cache_core.specs.system.Arrivals.{Saw}
+use Rattle.cache_core.specs.system.Systems.{lower_events}
 use Rattle.cache_core.specs.system.SystemStands.{SystemStandsFor}
-use Rattle.cache_core.specs.internal.system.SystemSteps.{nothing_down}
-use Rattle.cache_core.proofs.system.Counters.{first_level_grows}
-use Rattle.cache_core.proofs.system.Observed.{seen_below}
+use Rattle.cache_core.specs.internal.system.SystemSteps.{present_refs}
+use Rattle.cache_core.proofs.system.Counters.{first_level_grows, all_grow}
+use Rattle.cache_core.proofs.system.Observed.{saw_both, seen_below}
 use Rattle.cache_core.proofs.system.SystemLaw.{first_after, step_law}
 use Rattle.cache_core.proofs.system.System.step_observed.Goals as goal
 
 pub invariant_of-self : goal.invariant_of-self
-invariant_of-self g c =
-    let first = rw c.if-access_first_level_in_front.true
-    at c.access_first_level_in_front.ensures.value in
-    grind (arith, first_level_grows)
+invariant_of-self g c = grind (arith, first_level_grows, all_grow)
 
-pub returns-then-access_first_level_in_front-clause-stands
-    : goal.returns-then-access_first_level_in_front-clause-stands
-returns-then-access_first_level_in_front-clause-stands g c = λ plan seed events good stands.
-    step_law plan seed events _ c.args.reference _ (Some nothing_down) good
+pub returns-in-Some-clause-stands : goal.returns-in-Some-clause-stands
+returns-in-Some-clause-stands g c = λ plan seed events good stands.
+    step_law plan seed events _ c.args.reference _ (Some c.in-Some.down) good
     (subst (SystemStandsFor plan seed events) (sym c.self.view_is) stands)
-    (rw c.if-access_first_level_in_front.true at c.access_first_level_in_front.ensures.value)
-    (refl, refl) (omega arith) refl
+    c.in-Some.ensures.value c.descend_all.ensures.value (omega arith) refl
 
-pub returns-then-access_first_level_in_front-clause-seen
-    : goal.returns-then-access_first_level_in_front-clause-seen
-returns-then-access_first_level_in_front-clause-seen g c = λ plan seed events good stands.
-    let ref = c.args.reference in
+pub returns-in-Some-clause-seen : goal.returns-in-Some-clause-seen
+returns-in-Some-clause-seen g c = λ plan seed events good stands.
     let s = subst (SystemStandsFor plan seed events) (sym c.self.view_is) stands in
-    let hit = c.if-access_first_level_in_front.true in
-    let value = rw hit at c.access_first_level_in_front.ensures.value in
-    let first = c.access_first_level_in_front.ensures.seen hit plan seed events good s.i s.d s.u in
-    let after = first_after plan seed events _ ref (Some nothing_down) _ _ _ good s value in
-    let lower : [] ≡ lower_arrivals plan seed events ref =
-    seen_below plan seed events ref [] after.all_sent after.untaken in
-    let once : Cache c.first_name-cache.result ref true None ∷ [] ≡
-    first_arrivals plan seed events ref ++ lower_arrivals plan seed events ref =
-    ap (λ name. Cache name ref true None ∷ []) c.first_name-cache.ensures ∙ sym first ∙
-    sym (append-nil (first_arrivals plan seed events ref)) ∙
-    ap (λ l. first_arrivals plan seed events ref ++ l) lower in
-    subst (λ (xs : List Arrival). Saw g.O.Observer.has_seen c.args.observer.now xs c.see.new.self)
-    once c.see.ensures.seen
+    let after = first_after plan seed events _ c.args.reference (Some c.in-Some.down) _ _ _ good s
+    c.in-Some.ensures.value in
+    let lower = c.descend_all.ensures.seen seed plan.second (lower_events plan seed events)
+    good.second s.second in
+    saw_both g.O.Observer.has_seen (c.in-Some.ensures.seen refl plan seed events good s.i s.d s.u)
+    (subst (λ (xs : List Arrival). Saw g.O.Observer.has_seen c.hit_first_level.new.observer xs
+    c.descend_all.new.observer)
+    (seen_below plan seed events c.args.reference (present_refs c.in-Some.down)
+    after.all_sent after.untaken)
+    lower)

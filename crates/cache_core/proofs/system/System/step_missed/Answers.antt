@@ -9,7 +9,7 @@ use Rattle.cache_core.specs.internal.system.SystemSteps.{present_refs}
 use Rattle.cache_core.proofs.system.Counters.{first_level_grows, all_grow}
 use Rattle.cache_core.proofs.system.Observed.{saw_both, seen_below, seen_bypassed}
 use Rattle.cache_core.proofs.system.SystemLaw.{first_after, step_law}
-use Rattle.cache_core.proofs.system.System.step_seen.Goals as goal
+use Rattle.cache_core.proofs.system.System.step_missed.Goals as goal
 
 pub invariant_of-self : goal.invariant_of-self
 invariant_of-self g c = grind (arith, first_level_grows, all_grow)
@@ -34,7 +34,7 @@ returns-in-Some-clause-seen g c = λ plan seed events good stands.
     let lower = c.descend_all.ensures.seen seed plan.second (lower_events plan seed events)
     good.second s.second in
     saw_both g.O.Observer.has_seen (c.in-Some.ensures.seen plan seed events good s.i s.d s.u)
-    (subst (λ (xs : List Arrival). Saw g.O.Observer.has_seen c.first_level-down.new.observer xs
+    (subst (λ (xs : List Arrival). Saw g.O.Observer.has_seen c.miss_first_level-down.new.observer xs
     c.descend_all.new.observer)
     (seen_below plan seed events c.args.reference (present_refs c.in-Some.down)
     after.all_sent after.untaken)
@@ -46,6 +46,6 @@ returns-in-None-clause-seen g c = λ plan seed events good stands.
     let after = first_after plan seed events _ c.args.reference None _ _ _ good s
     c.in-None.ensures.value in
     saw_both g.O.Observer.has_seen (c.in-None.ensures.seen plan seed events good s.i s.d s.u)
-    (subst (λ (xs : List Arrival). Saw g.O.Observer.has_seen c.first_level-down.new.observer xs
+    (subst (λ (xs : List Arrival). Saw g.O.Observer.has_seen c.miss_first_level-down.new.observer xs
     c.see.new.self)
     (seen_bypassed plan seed events c.args.reference after.untaken) c.see.ensures.seen)
