@@ -169,9 +169,6 @@ other_valued (x ∷ xs) zero fits within is =
 other_valued (x ∷ xs) (suc k) fits within is = other_valued xs k fits.1 (omega arith) is
 
 -- the lanes of others, with one more behind them
-is_other : ℕ → Bool
-is_other v = leb 16 v
-
 mask_more : (xs : List ℕ) → mask_l (map (λ v. leb 16 v) (xs ++ 16 ∷ [])) ≡
     mask_l (map (λ v. leb 16 v) xs) + 2 ^ length xs
 mask_more [] = refl
@@ -185,41 +182,23 @@ prefix_more : (xs : List ℕ) → prefix_len (λ v. not (leb 16 v)) (xs ++ 16 �
 prefix_more [] = refl
 prefix_more (x ∷ xs) = λ i. cond (not_other x i) (1 + prefix_more xs i) 0
 
-raised_other : (v : ℕ) → leb 128 (raised_by 112 v) ≡ leb 16 v
-raised_other v = by_case (ltb 255 (v + 112)) (leb 128 (v + 112)) (leb 16 v) refl refl refl
-  where
-    by_case : (s u t : Bool) → ltb 255 (v + 112) ≡ s → leb 128 (v + 112) ≡ u → leb 16 v ≡ t →
-        leb 128 (cond s 255 (v + 112)) ≡ t
-    by_case true u true is mid at = refl
-    by_case true u false is mid at =
-        absurd (omega (arith, ltb-true 255 (v + 112) is, leb-false 16 v at))
-    by_case false true true is mid at = mid
-    by_case false true false is mid at =
-        absurd (omega (arith, leb-true 128 (v + 112) mid, leb-false 16 v at))
-    by_case false false true is mid at =
-        absurd (omega (arith, leb-false 128 (v + 112) mid, leb-true 16 v at))
-    by_case false false false is mid at = mid
+others_are : (xs : List ℕ) → length xs ≡ 16 →
+    map (top 7) (zip2 (λ a b. cond (leb a b) 255 0) (replicate 16 16) xs) ≡ map (λ v. leb 16 v) xs
+others_are xs long =
+    tops_compared w8 leb (replicate 16 16) xs ∙ zip2_splat_left leb 16 16 xs long
 
-others_are : (xs ys : List ℕ) → length xs ≡ 16 → ys ≡ map (raised_by 112) xs →
-    map (top 7) (zip2 (λ a b. cond (leb a b) 255 0) (replicate 16 128) ys) ≡ map (λ v. leb 16 v) xs
-others_are xs ys long is =
-    tops_compared w8 leb (replicate 16 128) ys ∙
-    zip2_splat_left leb 128 16 ys (ap length is ∙ length-map xs (raised_by 112) ∙ long) ∙
-    ap (map (leb 128)) is ∙ map-map (leb 128) (raised_by 112) xs ∙
-    (λ i. map (λ v. raised_other v i) xs)
-
-pub count_is : (xs ys : List ℕ) → length xs ≡ 16 → ys ≡ map (raised_by 112) xs →
-    (mask_l (map (top 7) (zip2 (λ a b. cond (leb a b) 255 0) (replicate 16 128) ys)) % 2 ^ 64 +
+pub count_is : (xs : List ℕ) → length xs ≡ 16 →
+    (mask_l (map (top 7) (zip2 (λ a b. cond (leb a b) 255 0) (replicate 16 16) xs)) % 2 ^ 64 +
     65536 < 2 ^ 64)
     × (count_trailing_zeros 64 (mask_l (map (top 7) (zip2 (λ a b. cond (leb a b) 255 0)
-    (replicate 16 128) ys)) % 2 ^ 64 + 65536) ≡ prefix_len (λ v. ltb v 16) xs)
-count_is xs ys long is =
+    (replicate 16 16) xs)) % 2 ^ 64 + 65536) ≡ prefix_len (λ v. ltb v 16) xs)
+count_is xs long =
     let other = λ (v : ℕ). leb 16 v in
     let mask = mask_l (map other xs) in
     let low : mask < 65536 = omega (arith, subst (λ n. mask < 2 ^ n)
     (length-map xs other ∙ long) (mask_l-lt (map other xs))) in
     let whole : mask % 2 ^ 64 ≡ mask = omega (arith, low) in
-    let mask_same = ap (λ ms. mask_l ms % 2 ^ 64) (others_are xs ys long is) ∙ whole in
+    let mask_same = ap (λ ms. mask_l ms % 2 ^ 64) (others_are xs long) ∙ whole in
     let more : mask_l (map other (xs ++ 16 ∷ [])) ≡ mask + 65536 =
     mask_more xs ∙ ap (λ n. mask + 2 ^ n) long in
     rw mask_same (

@@ -31,9 +31,9 @@ pub(crate) fn digit_values(bytes: u8x16) -> u8x16
 pub(crate) fn digits_in_front(values: u8x16) -> usize
     ensures { result ≡ prefix_len (λ v. nat_lt v 16) values }
 {
-    let others = raised(values, 112).simd_ge(u8x16::splat(128));
+    let others = values.simd_ge(u8x16::splat(16)).to_bitmask();
     // The bit behind those of the lanes ends the count.
-    (others.to_bitmask() + 65536).trailing_zeros() as usize
+    (others + 65536).trailing_zeros() as usize
 }
 
 /// Each lane with `more` added, but at most 255.
