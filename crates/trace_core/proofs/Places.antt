@@ -1,26 +1,16 @@
 -- The number that the lanes in front write, by the places of its digits.
-use Rattle.std.proofs.Common.{◌≡◌, ℕ, zero, suc, ◌+◌, ◌-◌, ◌*◌, ◌/◌, ◌%◌, ◌^◌, ◌<◌, ◌≤◌, Bool, true}
-use Rattle.std.proofs.Common.{false, cond, eqb, leb, ltb, List, [], ◌∷◌, map, length, get_or}
-use Rattle.std.proofs.Common.{replicate, refl, sym, ap, ◌∙◌, arith, ◌⊎◌, inl, inr, bit_and, bit_or}
-use Rattle.std.proofs.Common.{w8, w64, Fits, take, rules, tests}
-use Rattle.std.specs.Simd.Lanes.{zip2, sel_l, mask_l, top, number_l, digits_l, Each1}
-use Rattle.std.proofs.lemmas.Simd.{tops_compared}
-use Rattle.std.proofs.lemmas.Bool.{cases_lt}
-use Rattle.std.proofs.Common.{ltb-true, ltb-false, ◌++◌, not, subst, pow-suc, T}
-use Rattle.std.proofs.lemmas.Simd.{map-map, zip2_splat, zip2_splat_left, zip2_of_maps, mask_l-lt}
-use Rattle.std.proofs.lemmas.Simd.{mask_l-mod, trailing_mask_l, get_or_wider, swz_l, SwzOk}
-use Rattle.std.proofs.lemmas.List.{length-map, get_or-map, length-append}
-use Rattle.std.proofs.lemmas.List.FromFn.{get_or-map-range_with_len}
-use Rattle.std.proofs.lemmas.Bool.{false≢true}
-use Rattle.std.specs.List.{range_with_len, prefix_len}
-use Rattle.std.specs.Char.{digit_value, is_digit}
-use lib.Count.{count_trailing_zeros}
+use Rattle.std.proofs.Common.{◌≡◌, ℕ, zero, suc, ◌+◌, ◌*◌, ◌/◌, ◌%◌, ◌^◌, ◌<◌, ◌≤◌}
+use Rattle.std.proofs.Common.{List, [], ◌∷◌, length, get_or}
+use Rattle.std.proofs.Common.{refl, sym, ap, arith}
+use Rattle.std.proofs.Common.{w8, Fits, take, rules}
+use Rattle.std.specs.Simd.Lanes.{number_l, Each1}
+use Rattle.std.proofs.Common.{subst}
+use Rattle.std.proofs.lemmas.Simd.{get_or_wider, swz_l, SwzOk}
 use Rattle.std.proofs.lemmas.Bool.{cond_both}
 use Rattle.std.proofs.lemmas.Int.Digits.{number_after_lt}
 use Rattle.std.proofs.Math.Nat.{pow-le-pow_right}
 use Rattle.std.proofs.Common.{length-take-le}
 use mir.Val.{zeroes}
-use Rattle.std.proofs.lemmas.Bool.{leb-true, leb-false}
 use Rattle.std.proofs.lemmas.List.{ext_get_or}
 use Rattle.std.specs.Simd.Lanes.{chunk}
 use Rattle.std.specs.Int.Digits.{number_from_digits, AllBelowBase}
@@ -85,10 +75,11 @@ below_at (x ∷ xs) (suc k) fits = below_at xs k fits.1
 turned_fit : (xs : List ℕ) (i : ℕ) (js : List ℕ) → Each1 (Fits w8) xs →
     Each1 (λ x. x < 256) (swz_l w8 16 xs i js)
 turned_fit xs i [] fits = tt
-turned_fit xs i (j ∷ js) fits =
-    (cond_both (zeroes 16 w8 j) 0 (get_or xs (16 * (i / 16) + j) 0) (λ x. x < 256)
-    (λ _. omega arith) (λ _. below_at xs (16 * (i / 16) + j) fits),
-    turned_fit xs (suc i) js fits)
+turned_fit xs i (j ∷ js) fits = (
+  cond_both (zeroes 16 w8 j) 0 (get_or xs (16 * (i / 16) + j) 0) (λ x. x < 256)
+      (λ _. omega arith) (λ _. below_at xs (16 * (i / 16) + j) fits),
+  turned_fit xs (suc i) js fits,
+)
 
 pub number_is : (xs : List ℕ) (n : ℕ) → n ≤ 16 → length xs ≡ 16 → Each1 (Fits w8) xs →
     AllBelowBase 16 (take n xs) →

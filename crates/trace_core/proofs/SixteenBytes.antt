@@ -1,28 +1,20 @@
 -- Sixteen bytes at once, lane by lane.
-use Rattle.std.proofs.Common.{◌≡◌, ℕ, zero, suc, ◌+◌, ◌-◌, ◌*◌, ◌/◌, ◌%◌, ◌^◌, ◌<◌, ◌≤◌, Bool, true}
-use Rattle.std.proofs.Common.{false, cond, eqb, leb, ltb, List, [], ◌∷◌, map, length, get_or}
-use Rattle.std.proofs.Common.{replicate, refl, sym, ap, ◌∙◌, arith, ◌⊎◌, inl, inr, bit_and, bit_or}
-use Rattle.std.proofs.Common.{w8, w64, Fits, take, rules, tests}
-use Rattle.std.specs.Simd.Lanes.{zip2, sel_l, mask_l, top, number_l, digits_l, Each1}
+use Rattle.std.proofs.Common.{◌≡◌, ℕ, zero, suc, ◌+◌, ◌-◌, ◌%◌, ◌^◌, ◌<◌, ◌≤◌, Bool, true}
+use Rattle.std.proofs.Common.{false, cond, leb, ltb, List, [], ◌∷◌, map, length, get_or}
+use Rattle.std.proofs.Common.{replicate, refl, sym, ap, ◌∙◌, arith, bit_and}
+use Rattle.std.proofs.Common.{w8, Fits, take, rules, tests}
+use Rattle.std.specs.Simd.Lanes.{zip2, sel_l, mask_l, top, Each1}
 use Rattle.std.proofs.lemmas.Simd.{tops_compared}
-use Rattle.std.proofs.lemmas.Bool.{cases_lt}
-use Rattle.std.proofs.Common.{ltb-true, ltb-false, ◌++◌, not, subst, pow-suc, T}
+use Rattle.std.proofs.Common.{ltb-true, ltb-false, ◌++◌, not, subst, pow-suc}
 use Rattle.std.proofs.lemmas.Simd.{map-map, zip2_splat, zip2_splat_left, zip2_of_maps, mask_l-lt}
-use Rattle.std.proofs.lemmas.Simd.{mask_l-mod, trailing_mask_l, get_or_wider, swz_l, SwzOk}
-use Rattle.std.proofs.lemmas.List.{length-map, get_or-map, length-append}
+use Rattle.std.proofs.lemmas.Simd.{trailing_mask_l}
+use Rattle.std.proofs.lemmas.List.{length-map, length-append}
 use Rattle.std.proofs.lemmas.List.FromFn.{get_or-map-range_with_len}
 use Rattle.std.proofs.lemmas.Bool.{false≢true}
 use Rattle.std.specs.List.{range_with_len, prefix_len}
 use Rattle.std.specs.Char.{digit_value, is_digit}
 use lib.Count.{count_trailing_zeros}
-use Rattle.std.proofs.lemmas.Bool.{cond_both}
-use Rattle.std.proofs.lemmas.Int.Digits.{number_after_lt}
-use Rattle.std.proofs.Math.Nat.{pow-le-pow_right}
 use Rattle.std.proofs.Common.{length-take-le}
-use mir.Val.{zeroes}
-use Rattle.std.proofs.lemmas.Bool.{leb-true, leb-false}
-use Rattle.std.proofs.lemmas.List.{ext_get_or}
-use Rattle.std.specs.Simd.Lanes.{chunk}
 use Rattle.std.specs.Int.Digits.{number_from_digits, AllBelowBase}
 use Rattle.std.specs.Str.Parse.{AllDigits, digits_value}
 use Rattle.std.proofs.lemmas.Int.Digits.{digits_value_is}
@@ -195,8 +187,11 @@ pub count_is : (xs : List ℕ) → length xs ≡ 16 →
 count_is xs long =
     let other = λ (v : ℕ). leb 16 v in
     let mask = mask_l (map other xs) in
-    let low : mask < 65536 = omega (arith, subst (λ n. mask < 2 ^ n)
-    (length-map xs other ∙ long) (mask_l-lt (map other xs))) in
+    let low : mask < 65536 = omega (
+      arith,
+      subst (λ n. mask < 2 ^ n)
+          (length-map xs other ∙ long) (mask_l-lt (map other xs)),
+    ) in
     let whole : mask % 2 ^ 64 ≡ mask = omega (arith, low) in
     let mask_same = ap (λ ms. mask_l ms % 2 ^ 64) (others_are xs long) ∙ whole in
     let more : mask_l (map other (xs ++ 16 ∷ [])) ≡ mask + 65536 =
@@ -269,8 +264,8 @@ read_is text ds n value room long is number values others =
     let most : n ≤ 16 = (front_small ds n long is).0 in
     let digits : (i : ℕ) → i < n → is_digit (get_or bytes i 0) 16 ≡ true =
     λ i below. true_from_ne_false (is_digit (get_or bytes i 0) 16) (λ other.
-        let high = others i (omega (arith, below, most)) other in
-        let low = prefix_at ds i (omega (arith, below, is)) in omega (arith, high, low)) in
+    let high = others i (omega (arith, below, most)) other in
+    let low = prefix_at ds i (omega (arith, below, is)) in omega (arith, high, low)) in
     let agree = values_in_front n bytes ds (omega (arith, most, all)) (omega (arith, long, all))
     digits values in
     let same : take n bytes ≡ take n text = take-take n 16 text most in

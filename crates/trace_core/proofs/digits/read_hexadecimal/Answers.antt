@@ -1,5 +1,5 @@
 -- The digits in front of sixteen bytes.
-use Rattle.std.proofs.Common.{arith, ◌≤◌, ◌^◌, length}
+use Rattle.std.proofs.Common.{arith, length}
 use Rattle.std.proofs.Math.Nat.{pow-le-pow_right}
 use Rattle.trace_core.proofs.SixteenBytes.{read_is, front_small}
 use Rattle.trace_core.proofs.digits.read_hexadecimal.Goals as goal

@@ -1,4 +1,4 @@
-use Rattle.std.proofs.Common.{◌∙◌, ap, length, get_or, subst, sym, map, ◌≤◌, arith, ◌≡◌}
+use Rattle.std.proofs.Common.{◌∙◌, ap, length, get_or, map, arith, ◌≡◌}
 use Rattle.std.proofs.lemmas.List.{length-map}
 use Rattle.trace_core.proofs.SixteenBytes.{values_are, digit_valued, other_valued, value}
 use Rattle.trace_core.proofs.nibbles.digit_values.Goals as goal
@@ -16,5 +16,8 @@ returns-clause-values c k is = ap (λ l. get_or l k 0) (result_is c) ∙
 
 pub returns-clause-others : goal.returns-clause-others
 returns-clause-others c k below is =
-    omega (arith, ap (λ l. get_or l k 0) (result_is c),
-    other_valued c.args.bytes k c.fits-bytes.1 (omega (arith, c.fits-bytes.0)) is)
+    omega (
+      arith,
+      ap (λ l. get_or l k 0) (result_is c),
+      other_valued c.args.bytes k c.fits-bytes.1 (omega (arith, c.fits-bytes.0)) is,
+    )

@@ -1,4 +1,4 @@
-use Rattle.std.proofs.Common.{arith, ◌∙◌}
+use Rattle.std.proofs.Common.{arith}
 use Rattle.trace_core.proofs.Places.{places_ok, number_is}
 use Rattle.trace_core.proofs.nibbles.number_of.Goals as goal
 
@@ -9,7 +9,7 @@ pub overflow_add-result : goal.overflow_add-result
 overflow_add-result c =
     let is = number_is c.args.values c.args.len c.requires.most c.fits-values.0 c.fits-values.1
     c.requires.below in
-    record { fits = omega (arith, is.0, is.1); }
+    record { fits = omega (arith, is.0, is.1) }
 
 pub returns : goal.returns
 returns c =
