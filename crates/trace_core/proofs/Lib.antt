@@ -14,6 +14,7 @@ pub mod Advancing
 pub mod Searches
 pub mod Numbers
 pub mod SixteenBytes
+pub mod Places
 pub mod Tasks
 pub mod Written
 pub mod Performing

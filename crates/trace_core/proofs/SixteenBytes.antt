@@ -1,63 +1,95 @@
 -- Sixteen bytes at once, lane by lane.
-use Rattle.std.proofs.Common.{◌≡◌, ℕ, zero, suc, ◌+◌, ◌-◌, ◌*◌, ◌/◌, ◌%◌, ◌^◌, ◌<◌, ◌≤◌, Bool, true}
-use Rattle.std.proofs.Common.{false, cond, eqb, leb, ltb, List, [], ◌∷◌, map, length, get_or}
-use Rattle.std.proofs.Common.{replicate, refl, sym, ap, ◌∙◌, arith, ◌⊎◌, inl, inr, bit_and, bit_or}
-use Rattle.std.proofs.Common.{w8, w64, Fits, take}
-use Rattle.std.proofs.lemmas.Bool.{false≢true}
-use Rattle.std.proofs.lemmas.Int.Digits.{number_more}
-use Rattle.std.proofs.lemmas.Nat.{and_mask, le-div, div_below}
-use Rattle.std.proofs.lemmas.List.{take_all}
-use Rattle.std.specs.Int.{from_be_bytes, bit_at, trailing_ones}
-use Rattle.std.proofs.Common.{pow_pos, subst, length-take-le, pow-suc, drop, take-append-drop}
-use Rattle.std.proofs.Common.{ltb-true, length-drop}
-use Rattle.std.specs.Str.Parse.{AllDigits, digits_value}
-use Rattle.std.proofs.lemmas.Nat.Bits.{bit_at-trailing_ones}
-use Rattle.std.proofs.lemmas.Simd.{mask_l-lt, bit_mask_l}
-use Rattle.std.proofs.lemmas.Int.Digits.{number_after_append, number_after_lt, digits_value_is}
-use Rattle.std.proofs.lemmas.List.{get_or_past, take-take}
-use Rattle.std.proofs.lemmas.Bool.{cases_lt}
-use Rattle.trace_core.specs.Fields.{WritesNumber}
-use Rattle.std.specs.List.{range_with_len}
-use Rattle.std.specs.Char.{digit_value, is_digit}
-use Rattle.std.specs.Int.Digits.{number_from_digits, number_from_digits_after, AllBelowBase}
-use Rattle.std.specs.Simd.Lanes.{zip2, sel_l, mask_l, top, number_l, digits_l, Each1}
-use Rattle.std.proofs.lemmas.Simd.{tops_compared, zip2_splat, zip2-map, map-map, bitmask_splat}
-use Rattle.std.proofs.lemmas.List.{length-map, get_or-map}
+use Rattle.std.proofs.Common.{◌≡◌, ℕ, zero, suc, ◌+◌, ◌-◌, ◌%◌, ◌^◌, ◌<◌, ◌≤◌, Bool, true}
+use Rattle.std.proofs.Common.{false, cond, leb, ltb, List, [], ◌∷◌, map, length, get_or}
+use Rattle.std.proofs.Common.{replicate, refl, sym, ap, ◌∙◌, arith, bit_and}
+use Rattle.std.proofs.Common.{w8, Fits, take, rules, tests}
+use Rattle.std.specs.Simd.Lanes.{zip2, sel_l, mask_l, top, Each1}
+use Rattle.std.proofs.lemmas.Simd.{tops_compared}
+use Rattle.std.proofs.Common.{ltb-true, ltb-false, ◌++◌, not, subst, pow-suc}
+use Rattle.std.proofs.lemmas.Simd.{map-map, zip2_splat, zip2_splat_left, zip2_of_maps, mask_l-lt}
+use Rattle.std.proofs.lemmas.Simd.{trailing_mask_l}
+use Rattle.std.proofs.lemmas.List.{length-map, length-append}
 use Rattle.std.proofs.lemmas.List.FromFn.{get_or-map-range_with_len}
+use Rattle.std.proofs.lemmas.Bool.{false≢true}
+use Rattle.std.specs.List.{range_with_len, prefix_len}
+use Rattle.std.specs.Char.{digit_value, is_digit}
+use lib.Count.{count_trailing_zeros}
+use Rattle.std.proofs.Common.{length-take-le}
+use Rattle.std.specs.Int.Digits.{number_from_digits, AllBelowBase}
+use Rattle.std.specs.Str.Parse.{AllDigits, digits_value}
+use Rattle.std.proofs.lemmas.Int.Digits.{digits_value_is}
+use Rattle.std.proofs.lemmas.List.{take-take}
+use Rattle.std.proofs.lemmas.Bool.{true_from_ne_false}
+use Rattle.trace_core.specs.Fields.{WritesNumber}
 
-abbrev pub near : ℕ → ℕ → ℕ → ℕ
-near first more c = cond (leb ((c + (256 - first)) % 256) more) 255 0
+-- a choice between two lanes
+choice_is : (t : ℕ → ℕ → Bool) (xs ys : List ℕ) → sel_l (zip2 t xs ys) xs ys ≡
+    zip2 (λ a b. cond (t a b) a b) xs ys
+choice_is t [] ys = refl
+choice_is t (x ∷ xs) [] = refl
+choice_is t (x ∷ xs) (y ∷ ys) = ap (λ l. cond (t x y) x y ∷ l) (choice_is t xs ys)
 
--- a choice of two splats
-select_splat : (p : ℕ → Bool) (xs : List ℕ) (n a b : ℕ) → length xs ≡ n →
-    sel_l (map p xs) (replicate n a) (replicate n b) ≡ map (λ x. cond (p x) a b) xs
-select_splat p [] n a b long = refl
-select_splat p (x ∷ xs) zero a b long = absurd (omega arith)
-select_splat p (x ∷ xs) (suc n) a b long =
-    ap (λ rest. cond (p x) a b ∷ rest) (select_splat p xs n a b (omega arith))
+pub lesser_is : (xs ys : List ℕ) →
+    sel_l (map (top 7) (zip2 (λ a b. cond (ltb a b) 255 0) xs ys)) xs ys ≡
+    zip2 (λ a b. cond (ltb a b) a b) xs ys
+lesser_is xs ys = ap (λ m. sel_l m xs ys) (tops_compared w8 ltb xs ys) ∙ choice_is ltb xs ys
 
-pub within_is : (xs : List ℕ) (first more : ℕ) → length xs ≡ 16
-    → sel_l (map (top 7) (zip2 (λ a b. cond (leb a b) 255 0) (zip2 (λ a b. (a + (256 - b)) % 256) xs
-    (replicate 16 first)) (replicate 16 more))) (replicate 16 255) (replicate 16 0)
-    ≡ map (near first more) xs
-within_is xs first more long =
-    let moved = λ (x : ℕ). (x + (256 - first)) % 256 in
-    let lanes = zip2_splat (λ a b. (a + (256 - b)) % 256) xs 16 first long in
-    let ms = tops_compared w8 leb (zip2 (λ a b. (a + (256 - b)) % 256) xs (replicate 16 first))
-    (replicate 16 more)
-    ∙ ap (λ l. zip2 leb l (replicate 16 more)) lanes
-    ∙ zip2_splat leb (map moved xs) 16 more (length-map xs moved ∙ long)
-    ∙ map-map (λ x. leb x more) moved xs in
-    ap (λ m. sel_l m (replicate 16 255) (replicate 16 0)) ms ∙
-    select_splat (λ x. leb (moved x) more) xs 16 255 0 long
+lowered_one : (x b : ℕ) → x < 256 → b < 256 → (cond (ltb x b) b x + (256 - b)) % 256 ≡ x - b
+lowered_one x b x_fits b_fits = by_case (ltb x b) refl
+  where
+    by_case : (t : Bool) → ltb x b ≡ t → (cond t b x + (256 - b)) % 256 ≡ x - b
+    by_case true is = let lt = ltb-true x b is in omega (arith, lt)
+    by_case false is = let le = ltb-false x b is in omega (arith, le)
 
-abbrev pub letter : ℕ → ℕ
-letter c = near 97 5 (bit_or c 32)
+lowered_lanes : (b n : ℕ) (xs : List ℕ) → b < 256 → length xs ≡ n → Each1 (Fits w8) xs →
+    zip2 (λ a c. (a + (256 - c)) % 256) (sel_l (zip2 ltb xs (replicate n b)) (replicate n b) xs)
+    (replicate n b) ≡ map (λ c. c - b) xs
+lowered_lanes b n [] small long fits = refl
+lowered_lanes b zero (x ∷ xs) small long fits = absurd (omega arith)
+lowered_lanes b (suc n) (x ∷ xs) small long fits =
+    let one = lowered_one x b fits.0.fits small in
+    let more = lowered_lanes b n xs small (omega arith) fits.1 in
+    λ i. one i ∷ more i
 
-pub letters_are : (xs : List ℕ) → length xs ≡ 16 →
-    map (near 97 5) (zip2 bit_or xs (replicate 16 32)) ≡ map letter xs
-letters_are xs long = ap (map (near 97 5)) (zip2_splat bit_or xs 16 32 long) ∙
-    map-map (near 97 5) (λ c. bit_or c 32) xs
+pub lowered_is : (xs : List ℕ) (b : ℕ) → b < 256 → length xs ≡ 16 → Each1 (Fits w8) xs →
+    zip2 (λ a c. (a + (256 - c)) % 256)
+    (sel_l (map (top 7) (zip2 (λ a c. cond (ltb a c) 255 0) xs (replicate 16 b))) (replicate 16 b) xs)
+    (replicate 16 b) ≡ map (λ c. c - b) xs
+lowered_is xs b small long fits =
+    ap (λ m. zip2 (λ a c. (a + (256 - c)) % 256) (sel_l m (replicate 16 b) xs) (replicate 16 b))
+    (tops_compared w8 ltb xs (replicate 16 b)) ∙ lowered_lanes b 16 xs small long fits
+
+raised_one : (x b : ℕ) → x < 256 → b < 256 → (x + cond (ltb b (255 - x)) b (255 - x)) % 256 ≡
+    cond (ltb 255 (x + b)) 255 (x + b)
+raised_one x b x_fits b_fits = by_case (ltb b (255 - x)) (ltb 255 (x + b)) refl refl
+  where
+    by_case : (s t : Bool) → ltb b (255 - x) ≡ s → ltb 255 (x + b) ≡ t →
+        (x + cond s b (255 - x)) % 256 ≡ cond t 255 (x + b)
+    by_case true true is at = absurd (omega (arith, ltb-true b (255 - x) is, ltb-true 255 (x + b) at))
+    by_case true false is at = omega (arith, ltb-true b (255 - x) is, ltb-false 255 (x + b) at)
+    by_case false true is at = omega (arith, ltb-false b (255 - x) is, ltb-true 255 (x + b) at)
+    by_case false false is at = omega (arith, ltb-false b (255 - x) is, ltb-false 255 (x + b) at)
+
+raised_lanes : (b n : ℕ) (xs : List ℕ) → b < 256 → length xs ≡ n → Each1 (Fits w8) xs →
+    zip2 (λ a c. (a + c) % 256) xs
+    (sel_l (zip2 ltb (replicate n b) (map (λ a. 255 - a) xs)) (replicate n b) (map (λ a. 255 - a) xs))
+    ≡ map (λ c. cond (ltb 255 (c + b)) 255 (c + b)) xs
+raised_lanes b n [] small long fits = refl
+raised_lanes b zero (x ∷ xs) small long fits = absurd (omega arith)
+raised_lanes b (suc n) (x ∷ xs) small long fits =
+    let one = raised_one x b fits.0.fits small in
+    let more = raised_lanes b n xs small (omega arith) fits.1 in
+    λ i. one i ∷ more i
+
+pub raised_is : (xs : List ℕ) (b : ℕ) → b < 256 → length xs ≡ 16 → Each1 (Fits w8) xs →
+    zip2 (λ a c. (a + c) % 256) xs
+    (sel_l (map (top 7) (zip2 (λ a c. cond (ltb a c) 255 0) (replicate 16 b)
+    (map (λ a. 255 - a) xs))) (replicate 16 b) (map (λ a. 255 - a) xs))
+    ≡ map (λ c. cond (ltb 255 (c + b)) 255 (c + b)) xs
+raised_is xs b small long fits =
+    ap (λ m. zip2 (λ a c. (a + c) % 256) xs (sel_l m (replicate 16 b) (map (λ a. 255 - a) xs)))
+    (tops_compared w8 ltb (replicate 16 b) (map (λ a. 255 - a) xs)) ∙
+    raised_lanes b 16 xs small long fits
 
 -- two functions that agree on each byte
 same_on_bytes : {A : Type 0} (d : A) (f g : ℕ → A) → map f (range_with_len 0 256) ≡ map g
@@ -66,180 +98,141 @@ same_on_bytes d f g same c below =
     sym (get_or-map-range_with_len f 0 256 c c d below (omega arith)) ∙
     ap (λ t. get_or t c d) same ∙ get_or-map-range_with_len g 0 256 c c d below (omega arith)
 
-map_same : {A : Type 0} (f g : ℕ → A) → ((c : ℕ) → c < 256 → f c ≡ g c) → (xs : List ℕ) →
-    Each1 (Fits w8) xs → map f xs ≡ map g xs
-map_same f g same [] fits = refl
-map_same f g same (x ∷ xs) fits = λ i. same x fits.0.fits i ∷ map_same f g same xs fits.1 i
+-- a byte as a decimal digit and as a letter
+abbrev pub decimal : ℕ → ℕ
+decimal c = ((c + 198) % 256 - 6 + 16) % 256
 
-abbrev either : ℕ → ℕ
-either c = bit_or (near 48 9 c) (letter c)
+abbrev pub raised_by : ℕ → ℕ → ℕ
+raised_by b c = cond (ltb 255 (c + b)) 255 (c + b)
 
-either_is : (c : ℕ) → c < 256 → eqb (either c) 255 ≡ is_digit c 16
-either_is = same_on_bytes false (λ c. eqb (either c) 255) (λ c. is_digit c 16) refl
+abbrev pub letter : ℕ → ℕ
+letter c = raised_by 10 ((bit_and c 223 + (256 - 65)) % 256)
 
-pub mask_is : (xs : List ℕ) → length xs ≡ 16 → Each1 (Fits w8) xs
-    → mask_l (map (top 7) (zip2 (λ a b. cond (eqb a b) 255 0) (zip2 bit_or (map (near 48 9) xs)
-    (map letter xs)) (replicate 16 255))) % 2 ^ 64
-    ≡ mask_l (map (λ c. is_digit c 16) xs)
-mask_is xs long fits =
-    ap (λ l. mask_l (map (top 7) (zip2 (λ a b. cond (eqb a b) 255 0) l (replicate 16 255))) % 2 ^
-    64) (zip2-map bit_or (near 48 9) letter xs)
-    ∙ bitmask_splat w8 eqb (map either xs) 16 255 (length-map xs either ∙ long) (omega arith)
-    ∙ ap mask_l (map-map (λ x. eqb x 255) either xs ∙ map_same (λ c. eqb (either c) 255)
-    (λ c. is_digit c 16) either_is xs fits)
+abbrev pub value : ℕ → ℕ
+value c = cond (ltb (decimal c) (letter c)) (decimal c) (letter c)
 
--- the value of a byte, if it is a digit
-abbrev pub nibble : ℕ → ℕ
-nibble c = (bit_and c 15 + bit_and (letter c) 9) % 256
+pub values_are : (xs low high : List ℕ) → length xs ≡ 16 →
+    low ≡ map (λ c. c - 6) (zip2 (λ a b. (a + b) % 256) xs (replicate 16 198)) →
+    high ≡ map (raised_by 10) (zip2 (λ a b. (a + (256 - b)) % 256)
+    (zip2 bit_and xs (replicate 16 223)) (replicate 16 65)) →
+    zip2 (λ a b. cond (ltb a b) a b) (zip2 (λ a b. (a + b) % 256) low (replicate 16 16)) high
+    ≡ map value xs
+values_are xs low high long low_is high_is =
+    let add = λ (a b : ℕ). (a + b) % 256 in
+    let first : low ≡ map (λ c. (c + 198) % 256 - 6) xs =
+    low_is ∙ ap (map (λ c. c - 6)) (zip2_splat add xs 16 198 long) ∙
+    map-map (λ c. c - 6) (λ c. (c + 198) % 256) xs in
+    let low_long : length low ≡ 16 =
+    ap length first ∙ length-map xs (λ c. (c + 198) % 256 - 6) ∙ long in
+    let decimals : zip2 add low (replicate 16 16) ≡ map decimal xs =
+    zip2_splat add low 16 16 low_long ∙ ap (map (λ c. (c + 16) % 256)) first ∙
+    map-map (λ c. (c + 16) % 256) (λ c. (c + 198) % 256 - 6) xs in
+    let one_case : zip2 bit_and xs (replicate 16 223) ≡ map (λ c. bit_and c 223) xs =
+    zip2_splat bit_and xs 16 223 long in
+    let case_long : length (zip2 bit_and xs (replicate 16 223)) ≡ 16 =
+    ap length one_case ∙ length-map xs (λ c. bit_and c 223) ∙ long in
+    let letters : high ≡ map letter xs =
+    high_is ∙ ap (map (raised_by 10)) (zip2_splat (λ a b. (a + (256 - b)) % 256)
+    (zip2 bit_and xs (replicate 16 223)) 16 65 case_long ∙
+    ap (map (λ c. (c + (256 - 65)) % 256)) one_case ∙
+    map-map (λ c. (c + (256 - 65)) % 256) (λ c. bit_and c 223) xs) ∙
+    map-map (raised_by 10) (λ c. (bit_and c 223 + (256 - 65)) % 256) xs in
+    zip2_of_maps (λ a b. cond (ltb a b) a b) decimal letter xs decimals letters
 
-pub nibbles_are : (xs : List ℕ) → length xs ≡ 16
-    → zip2 (λ a b. (a + b) % 256) (zip2 bit_and xs (replicate 16 15))
-    (zip2 bit_and (map letter xs) (replicate 16 9)) ≡ map nibble xs
-nibbles_are xs long =
-    let low = zip2_splat bit_and xs 16 15 long in
-    let high = zip2_splat bit_and (map letter xs) 16 9 (length-map xs letter ∙ long) ∙
-    map-map (λ x. bit_and x 9) letter xs in
-    (λ i. zip2 (λ a b. (a + b) % 256) (low i) (high i)) ∙ zip2-map (λ a b. (a + b) % 256)
-    (λ c. bit_and c 15) (λ c. bit_and (letter c) 9) xs
-
-nibble_small : (c : ℕ) → c < 256 → ltb (nibble c) 16 ≡ true
-nibble_small = same_on_bytes false (λ c. ltb (nibble c) 16) (λ _. true) refl
-
-nibble_is : (c : ℕ) → c < 256 → cond (is_digit c 16) (nibble c) 0 ≡ cond (is_digit c 16)
+value_is : (c : ℕ) → c < 256 → cond (is_digit c 16) (value c) 0 ≡ cond (is_digit c 16)
     (digit_value c) 0
-nibble_is = same_on_bytes 0 (λ c. cond (is_digit c 16) (nibble c) 0)
+value_is = same_on_bytes 0 (λ c. cond (is_digit c 16) (value c) 0)
     (λ c. cond (is_digit c 16) (digit_value c) 0) refl
 
-pub nibbles_small : (xs : List ℕ) → Each1 (Fits w8) xs → AllBelowBase 16 (map nibble xs)
-nibbles_small [] fits = tt
-nibbles_small (x ∷ xs) fits = (ltb-true _ _ (nibble_small x fits.0.fits), nibbles_small xs fits.1)
+value_high : (c : ℕ) → c < 256 → ltb (cond (is_digit c 16) 16 (value c)) 16 ≡ false
+value_high = same_on_bytes false (λ c. ltb (cond (is_digit c 16) 16 (value c)) 16) (λ _. false) refl
 
-pub nibble_value : (xs : List ℕ) (k : ℕ) → Each1 (Fits w8) xs → is_digit (get_or xs k 0) 16 ≡ true →
-    get_or (map nibble xs) k 0 ≡ digit_value (get_or xs k 0)
-nibble_value [] k fits is = absurd (false≢true is)
-nibble_value (x ∷ xs) zero fits is = let e = nibble_is x fits.0.fits in (rw is at e)
-nibble_value (x ∷ xs) (suc k) fits is = nibble_value xs k fits.1 is
+pub digit_valued : (xs : List ℕ) (k : ℕ) → Each1 (Fits w8) xs → is_digit (get_or xs k 0) 16 ≡ true →
+    get_or (map value xs) k 0 ≡ digit_value (get_or xs k 0)
+digit_valued [] k fits is = absurd (false≢true is)
+digit_valued (x ∷ xs) zero fits is = let e = value_is x fits.0.fits in (rw is at e)
+digit_valued (x ∷ xs) (suc k) fits is = digit_valued xs k fits.1 is
 
--- two digits in a lane of 16 bits, the first of them in the lower byte
-abbrev joined : List ℕ → List ℕ
-joined [] = []
-joined (a ∷ []) = []
-joined (a ∷ b ∷ ds) = (a + 256 * b) ∷ joined ds
+pub other_valued : (xs : List ℕ) (k : ℕ) → Each1 (Fits w8) xs → k < length xs →
+    is_digit (get_or xs k 0) 16 ≡ false → 16 ≤ get_or (map value xs) k 0
+other_valued [] k fits within is = absurd (omega arith)
+other_valued (x ∷ xs) zero fits within is =
+    let e = value_high x fits.0.fits in ltb-false _ _ (rw is at e)
+other_valued (x ∷ xs) (suc k) fits within is = other_valued xs k fits.1 (omega arith) is
 
--- two digits in a byte
-abbrev packed : List ℕ → List ℕ
-packed [] = []
-packed (a ∷ []) = []
-packed (a ∷ b ∷ ds) = (a * 16 + b) ∷ packed ds
+-- the lanes of others, with one more behind them
+mask_more : (xs : List ℕ) → mask_l (map (λ v. leb 16 v) (xs ++ 16 ∷ [])) ≡
+    mask_l (map (λ v. leb 16 v) xs) + 2 ^ length xs
+mask_more [] = refl
+mask_more (x ∷ xs) = omega (arith, mask_more xs, pow-suc 2 (length xs))
 
--- what is made of a lane
-abbrev pub pack : ℕ → ℕ
-pack w = bit_and ((w * 16 % 65536 + w / 256) % 65536) 255
+not_other : (v : ℕ) → not (leb 16 v) ≡ ltb v 16
+not_other v = search (rules, tests)
 
-joined_are : (k : ℕ) (ds : List ℕ) → length ds ≡ 2 * k → AllBelowBase 16 ds →
-    digits_l 65536 k (number_l 256 ds) ≡ joined ds
-joined_are zero [] long small = refl
-joined_are zero (a ∷ ds) long small = absurd (omega arith)
-joined_are (suc k) [] long small = absurd (omega arith)
-joined_are (suc k) (a ∷ []) long small = absurd (omega arith)
-joined_are (suc k) (a ∷ b ∷ ds) long small =
-    let more = number_l 256 ds in
-    let low : (a + 256 * (b + 256 * more)) % 65536 ≡ a + 256 * b =
-    omega (arith, small.0, small.1.0) in
-    let high : (a + 256 * (b + 256 * more)) / 65536 ≡ more = omega (arith, small.0, small.1.0) in
-    (λ i. low i ∷ digits_l 65536 k (high i)) ∙ ap (λ l. (a + 256 * b) ∷ l)
-    (joined_are k ds (omega arith) small.1.1)
+prefix_more : (xs : List ℕ) → prefix_len (λ v. not (leb 16 v)) (xs ++ 16 ∷ []) ≡
+    prefix_len (λ v. ltb v 16) xs
+prefix_more [] = refl
+prefix_more (x ∷ xs) = λ i. cond (not_other x i) (1 + prefix_more xs i) 0
 
-packed_are : (ds : List ℕ) → AllBelowBase 16 ds → map pack (joined ds) ≡ packed ds
-packed_are [] small = refl
-packed_are (a ∷ []) small = refl
-packed_are (a ∷ b ∷ ds) small =
-    let w = a + 256 * b in
-    let one : pack w ≡ a * 16 + b = and_mask ((w * 16 % 65536 + w / 256) % 65536) 8 ∙
-    omega (arith, small.0, small.1.0) in
-    λ i. one i ∷ packed_are ds small.1.1 i
+others_are : (xs : List ℕ) → length xs ≡ 16 →
+    map (top 7) (zip2 (λ a b. cond (leb a b) 255 0) (replicate 16 16) xs) ≡ map (λ v. leb 16 v) xs
+others_are xs long =
+    tops_compared w8 leb (replicate 16 16) xs ∙ zip2_splat_left leb 16 16 xs long
 
-length-packed : (k : ℕ) (ds : List ℕ) → length ds ≡ 2 * k → length (packed ds) ≡ k
-length-packed zero [] long = refl
-length-packed zero (a ∷ ds) long = absurd (omega arith)
-length-packed (suc k) [] long = absurd (omega arith)
-length-packed (suc k) (a ∷ []) long = absurd (omega arith)
-length-packed (suc k) (a ∷ b ∷ ds) long = ap suc (length-packed k ds (omega arith))
-
-packed_number : (k n : ℕ) (ds : List ℕ) → length ds ≡ 2 * k →
-    number_from_digits_after 256 n (packed ds) ≡ number_from_digits_after 16 n ds
-packed_number zero n [] long = refl
-packed_number zero n (a ∷ ds) long = absurd (omega arith)
-packed_number (suc k) n [] long = absurd (omega arith)
-packed_number (suc k) n (a ∷ []) long = absurd (omega arith)
-packed_number (suc k) n (a ∷ b ∷ ds) long =
-    let same : n * 256 + (a * 16 + b) ≡ (n * 16 + a) * 16 + b = omega arith in
-    ap (λ x. number_from_digits_after 256 x (packed ds)) same ∙
-    packed_number k ((n * 16 + a) * 16 + b) ds (omega arith)
-
--- eight bytes, the first of them worth most
-eight_bytes : (bs : List ℕ) → length bs ≡ 8 → from_be_bytes w64 bs ≡ number_from_digits 256 bs
-eight_bytes bs long =
-    let step = number_more 256 bs in
-    let all : number_from_digits 256 (take 8 bs) ≡ number_from_digits 256 bs =
-    ap (number_from_digits 256) (take_all 8 bs (omega arith)) in
-    omega (
+pub count_is : (xs : List ℕ) → length xs ≡ 16 →
+    (mask_l (map (top 7) (zip2 (λ a b. cond (leb a b) 255 0) (replicate 16 16) xs)) % 2 ^ 64 +
+    65536 < 2 ^ 64)
+    × (count_trailing_zeros 64 (mask_l (map (top 7) (zip2 (λ a b. cond (leb a b) 255 0)
+    (replicate 16 16) xs)) % 2 ^ 64 + 65536) ≡ prefix_len (λ v. ltb v 16) xs)
+count_is xs long =
+    let other = λ (v : ℕ). leb 16 v in
+    let mask = mask_l (map other xs) in
+    let low : mask < 65536 = omega (
       arith,
-      step 0 (omega arith),
-      step 1 (omega arith),
-      step 2 (omega arith),
-      step 3 (omega arith),
-      step 4 (omega arith),
-      step 5 (omega arith),
-      step 6 (omega arith),
-      step 7 (omega arith),
-      all,
+      subst (λ n. mask < 2 ^ n)
+          (length-map xs other ∙ long) (mask_l-lt (map other xs)),
+    ) in
+    let whole : mask % 2 ^ 64 ≡ mask = omega (arith, low) in
+    let mask_same = ap (λ ms. mask_l ms % 2 ^ 64) (others_are xs long) ∙ whole in
+    let more : mask_l (map other (xs ++ 16 ∷ [])) ≡ mask + 65536 =
+    mask_more xs ∙ ap (λ n. mask + 2 ^ n) long in
+    rw mask_same (
+      omega (arith, low),
+      ap (count_trailing_zeros 64) (sym more) ∙ trailing_mask_l other 64 (xs ++ 16 ∷ [])
+          (omega (arith, length-append xs (16 ∷ []), long)) (omega (arith, more)) ∙
+          prefix_more xs,
     )
 
-pub number_is : (ds : List ℕ) → length ds ≡ 16 → AllBelowBase 16 ds →
-    from_be_bytes w64 (map pack (digits_l 65536 8 (number_l 256 ds))) ≡ number_from_digits 16 ds
-number_is ds long small =
-    ap (λ ws. from_be_bytes w64 (map pack ws)) (joined_are 8 ds long small)
-    ∙ ap (from_be_bytes w64) (packed_are ds small)
-    ∙ eight_bytes (packed ds) (length-packed 8 ds long)
-    ∙ packed_number 8 0 ds long
-
--- the digits in front, of which a mask has a bit each
-abbrev hex : ℕ → Bool
-hex c = is_digit c 16
-
-set : (b : Bool) → cond {A = ℕ} b 1 0 ≡ 1 → b ≡ true
-set true is = refl
-set false is = absurd (omega (arith, is))
-
-pub digits_in_front : (xs : List ℕ) (n : ℕ) → length xs ≡ 16 →
-    n ≡ trailing_ones w64 (mask_l (map hex xs))
-    → (n ≤ 16) × ((i : ℕ) → i < n → is_digit (get_or xs i 0) 16 ≡ true)
-digits_in_front xs n long is = (short (cases_lt 16 n), each)
+-- the lanes that are counted are values of digits
+prefix_small : (ds : List ℕ) → (prefix_len (λ v. ltb v 16) ds ≤ length ds)
+    × AllBelowBase 16 (take (prefix_len (λ v. ltb v 16) ds) ds)
+prefix_small [] = (omega arith, tt)
+prefix_small (d ∷ ds) = by_case (ltb d 16) (prefix_small ds) refl
   where
-    mask : ℕ
-    mask = mask_l (map hex xs)
+    n : ℕ
+    n = prefix_len (λ v. ltb v 16) ds
 
-    many : length (map hex xs) ≡ 16
-    many = length-map xs hex ∙ long
+    by_case : (t : Bool) → (n ≤ length ds) × AllBelowBase 16 (take n ds) → ltb d 16 ≡ t →
+        (cond t (1 + n) 0 ≤ length (d ∷ ds)) × AllBelowBase 16 (take (cond t (1 + n) 0) (d ∷ ds))
+    by_case true more is =
+        let next : suc n ≡ 1 + n = omega arith in (
+          omega (arith, more.0),
+          subst (λ m. AllBelowBase 16 (take m (d ∷ ds))) next (ltb-true d 16 is, more.1),
+        )
+    by_case false more is = (omega arith, tt)
 
-    ones : (i : ℕ) → i < n → bit_at mask i ≡ 1
-    ones i below = (bit_at-trailing_ones w64 mask
-        (omega (arith, rw many at (mask_l-lt (map hex xs))))).2 i (omega (arith, is))
+prefix_at : (ds : List ℕ) (i : ℕ) → i < prefix_len (λ v. ltb v 16) ds → get_or ds i 0 < 16
+prefix_at [] i below = absurd (omega arith)
+prefix_at (d ∷ ds) i below = by_case i (ltb d 16) (prefix_at ds) refl below
+  where
+    by_case : (i : ℕ) (t : Bool) →
+        ((j : ℕ) → j < prefix_len (λ v. ltb v 16) ds → get_or ds j 0 < 16) → ltb d 16 ≡ t →
+        i < cond t (1 + prefix_len (λ v. ltb v 16) ds) 0 → get_or (d ∷ ds) i 0 < 16
+    by_case zero true more is below = ltb-true d 16 is
+    by_case (suc i) true more is below = more i (omega arith)
+    by_case i false more is below = absurd (omega arith)
 
-    bit : (i : ℕ) → i < n → get_or (map hex xs) i false ≡ true
-    bit i below = set (get_or (map hex xs) i false) (sym (bit_mask_l (map hex xs) i) ∙ ones i below)
-
-    short : (16 < n) ⊎ (n ≤ 16) → n ≤ 16
-    short (inl high) = absurd (false≢true
-        (sym (get_or_past (map hex xs) 16 false (omega (arith, many))) ∙ bit 16 high))
-    short (inr low) = low
-
-    each : (i : ℕ) → i < n → is_digit (get_or xs i 0) 16 ≡ true
-    each i below = sym (get_or-map hex xs i 0 false (omega (arith, long, short (cases_lt 16 n)))) ∙
-        bit i below
-
-pub values_in_front : (n : ℕ) (xs ds : List ℕ) → n ≤ length xs → length ds ≡ length xs →
+values_in_front : (n : ℕ) (xs ds : List ℕ) → n ≤ length xs → length ds ≡ length xs →
     ((i : ℕ) → i < n → is_digit (get_or xs i 0) 16 ≡ true)
     → ((i : ℕ) → is_digit (get_or xs i 0) 16 ≡ true → get_or ds i 0 ≡ digit_value (get_or xs i 0))
     → AllDigits 16 (take n xs) × (take n ds ≡ map digit_value (take n xs))
@@ -252,78 +245,33 @@ values_in_front (suc n) (x ∷ xs) (d ∷ ds) within same digits values =
     (λ i below. digits (suc i) (omega arith)) (λ i. values (suc i)) in
     ((ltb-true _ _ first, more.0), λ i. values 0 first i ∷ more.1 i)
 
--- digits that are dropped from the end
-at_least : (n : ℕ) (ds : List ℕ) → n * 16 ^ length ds ≤ number_from_digits_after 16 n ds
-at_least n [] = omega arith
-at_least n (d ∷ ds) =
-    let power = pow-suc 16 (length ds) in
-    omega (arith, at_least (n * 16 + d) ds, ap (λ p. n * p) power)
-
-fours : (k : ℕ) → 2 ^ (4 * k) ≡ 16 ^ k
-fours zero = refl
-fours (suc k) =
-    let n : 4 * suc k ≡ suc (suc (suc (suc (4 * k)))) = omega arith in
-    ap (λ m. 2 ^ m) n ∙ omega (
-      arith,
-      pow-suc 2 (suc (suc (suc (4 * k)))),
-      pow-suc 2 (suc (suc (4 * k))),
-      pow-suc 2 (suc (4 * k)),
-      pow-suc 2 (4 * k),
-      pow-suc 16 k,
-      fours k,
-    )
-
-below_drop : (n : ℕ) (ds : List ℕ) → AllBelowBase 16 ds → AllBelowBase 16 (drop n ds)
-below_drop zero ds small = small
-below_drop (suc n) [] small = tt
-below_drop (suc n) (d ∷ ds) small = below_drop n ds small.1
-
-pub front_of_number : (n : ℕ) (ds : List ℕ) → n ≤ 16 → length ds ≡ 16 → AllBelowBase 16 ds
-    → number_from_digits 16 ds / 2 ^ (64 - 4 * n) ≡ number_from_digits 16 (take n ds)
-front_of_number n ds most long small =
-    let v = number_from_digits 16 (take n ds) in
-    let back = drop n ds in
-    let whole : number_from_digits 16 ds ≡ number_from_digits_after 16 v back =
-    ap (number_from_digits 16) (sym (take-append-drop n ds)) ∙ number_after_append 16 0
-    (take n ds) back in
-    let left : length back ≡ 16 - n = length-drop n ds ∙ ap (λ l. l - n) long in
-    let exponent : 64 - 4 * n ≡ 4 * length back = omega (arith, left) in
-    let power : 2 ^ (64 - 4 * n) ≡ 16 ^ length back = ap (λ k. 2 ^ k) exponent ∙
-    fours (length back) in
-    let after = number_from_digits_after 16 v back in
-    let positive = pow_pos (64 - 4 * n) in
-    let low : v * 16 ^ length back ≤ after = at_least v back in
-    let high : after < (v + 1) * 16 ^ length back =
-    number_after_lt 16 v back (below_drop n ds small) in
-    rw (whole, power) (omega (
-      arith,
-      le-div v after (16 ^ length back)
-          (omega (arith, positive, power)) low,
-      div_below after (16 ^ length back) (v + 1)
-          (omega (arith, positive, power)) high,
-    ))
+pub front_small : (ds : List ℕ) (n : ℕ) → length ds ≡ 16 → n ≡ prefix_len (λ v. ltb v 16) ds →
+    (n ≤ 16) × AllBelowBase 16 (take n ds)
+front_small ds n long is =
+    let small = prefix_small ds in
+    rw is (omega (arith, small.0, long), small.1)
 
 -- the number that the digits in front write
 pub read_is : (text ds : List ℕ) (n value : ℕ) → 16 ≤ length text → length ds ≡ 16 →
-    AllBelowBase 16 ds
-    → n ≡ trailing_ones w64 (mask_l (map hex (take 16 text))) → value ≡ number_from_digits 16 ds
+    n ≡ prefix_len (λ v. ltb v 16) ds → value ≡ number_from_digits 16 (take n ds)
     → ((k : ℕ) → is_digit (get_or (take 16 text) k 0) 16 ≡ true →
     get_or ds k 0 ≡ digit_value (get_or (take 16 text) k 0))
-    → (n ≤ 16) × WritesNumber 16 text (value / 2 ^ (64 - 4 * n), n)
-read_is text ds n value room long small is number values =
+    → ((k : ℕ) → k < 16 → is_digit (get_or (take 16 text) k 0) 16 ≡ false → 16 ≤ get_or ds k 0)
+    → WritesNumber 16 text (value, n)
+read_is text ds n value room long is number values others =
     let bytes = take 16 text in
     let all : length bytes ≡ 16 = length-take-le 16 text room in
-    let front = digits_in_front bytes n all is in
-    let agree = values_in_front n bytes ds (omega (arith, front.0)) (omega (arith, long))
-    front.1 values in
-    let same : take n bytes ≡ take n text = take-take n 16 text front.0 in
-    let read : value / 2 ^ (64 - 4 * n) ≡ digits_value 16 (take n bytes) =
-    ap (λ v. v / 2 ^ (64 - 4 * n)) number ∙ front_of_number n ds front.0 long small ∙
-    ap (number_from_digits 16) agree.1 ∙ sym (digits_value_is 16 (take n bytes)) in (
-      front.0,
-      (
-        read ∙ ap (digits_value 16) same,
-        subst (AllDigits 16) same agree.0,
-        omega (arith, front.0),
-      ),
+    let most : n ≤ 16 = (front_small ds n long is).0 in
+    let digits : (i : ℕ) → i < n → is_digit (get_or bytes i 0) 16 ≡ true =
+    λ i below. true_from_ne_false (is_digit (get_or bytes i 0) 16) (λ other.
+    let high = others i (omega (arith, below, most)) other in
+    let low = prefix_at ds i (omega (arith, below, is)) in omega (arith, high, low)) in
+    let agree = values_in_front n bytes ds (omega (arith, most, all)) (omega (arith, long, all))
+    digits values in
+    let same : take n bytes ≡ take n text = take-take n 16 text most in
+    let read : value ≡ digits_value 16 (take n bytes) =
+    number ∙ ap (number_from_digits 16) agree.1 ∙ sym (digits_value_is 16 (take n bytes)) in (
+      read ∙ ap (digits_value 16) same,
+      subst (AllDigits 16) same agree.0,
+      omega (arith, most, room),
     )

@@ -2,3 +2,4 @@ pub mod FastLine
 pub mod Devices
 pub mod Scan
 pub mod HexadecimalDigits
+pub mod Buffer

@@ -4,7 +4,7 @@ ghost use Rattle.std.specs.Prelude.{length, slice_index, IfSome, if◌then◌els
 ghost use Rattle.std.specs.Char.{digit_value, is_digit};
 ghost use Rattle.trace_core.specs.Fields.{WritesNumber, number_written};
 
-use crate::nibbles::{digit_mask, digit_values, number_of};
+use crate::nibbles::{digit_values, digits_in_front, number_of};
 use std::simd::prelude::*;
 
 /// The number that 1 to 16 hexadecimal digits in front write, what follows them, and how many they
@@ -70,12 +70,9 @@ fn read_hexadecimal(text: &[u8]) -> (u64, usize)
     if text.len() < 16 {
         return more_digits(16, text, text.len(), (0, 0));
     }
-    let bytes = u8x16::from_slice(text);
-    let len = digit_mask(bytes).trailing_ones() as usize;
-    if len == 0 {
-        return (0, 0);
-    }
-    (number_of(digit_values(bytes)) >> (64 - 4 * len), len)
+    let values = digit_values(u8x16::from_slice(text));
+    let len = digits_in_front(values);
+    (number_of(values, len), len)
 }
 
 /// The number that the digits in front write, and how many they are; at most `most` are read. Where

@@ -11,6 +11,7 @@ ghost use Rattle.trace_core.specs.Fields.{is_blank, number_written, without_0x};
 ghost use Rattle.trace_core.specs.Line.{meaning};
 ghost use Rattle.trace_core.specs.internal.FastLine.{BeginsLine, BeginsLabel, EndsLine};
 ghost use Rattle.trace_core.specs.declared.events.Entry.TheVariants as entry;
+ghost use Rattle.trace_core.specs.declared.limits.TheConstants.{PLAIN_ROOM};
 
 use crate::digits::{split_hexadecimal, split_number};
 use crate::events::{Entry, Item, Op};
@@ -18,23 +19,17 @@ use crate::limits::MAX_LINE;
 use crate::line::{Format, din_op, lackey_op};
 use memchr::memchr;
 
-/// How many bytes a text must have for the plain form. One test of it stands for those of each
-/// part, and only the last lines of what a source delivered at once are read more slowly.
-const PLAIN_ROOM: usize = 64;
-
 /// The item of the line that a text begins with, and the index of the line's LF, if the line has
 /// the usual form: the label and the blanks as tracers write them. A line that ends after its
 /// fields has at most 30 bytes, so its length needs no test.
 #[inline(always)]
 pub(crate) fn read_plain_line(format: Format, text: &[u8]) -> Option<(Item, usize)>
+    requires { PLAIN_ROOM ≤ length text.now }
     ensures line { IfSome result (λ found. IsFirstByte (is_byte 10) text.now (Some found.1)) }
     ensures short { IfSome result (λ found. found.1 ≤ MAX_LINE) }
     ensures item { IfSome result (λ found.
         meaning format (take found.1 text.now) ≡ Ok (Some (Entry.Item found.0))) }
 {
-    if text.len() < PLAIN_ROOM {
-        return None;
-    }
     let (label, fields) = split_plain_label(format, text)?;
     let (item, at) = read_item(format, text, label, fields)?;
     if text[at] == b'\n' {

@@ -1,63 +1,116 @@
 //! Sixteen bytes at once, as hexadecimal digits.
-ghost use Rattle.std.specs.Prelude.{◌≡◌, ℕ, ◌+◌, ◌-◌, ◌%◌, true, map, nat_le, length, slice_index};
-ghost use Rattle.std.specs.Prelude.{if◌then◌else◌, bit_or, false};
+ghost use Rattle.std.specs.Prelude.{◌≡◌, ℕ, ◌+◌, ◌-◌, ◌<◌, ◌≤◌, true, false, map, nat_lt, length};
+ghost use Rattle.std.specs.Prelude.{slice_index, take, if◌then◌else◌};
+ghost use Rattle.std.specs.List.{prefix_len};
 ghost use Rattle.std.specs.Char.{digit_value, is_digit};
 ghost use Rattle.std.specs.Int.Digits.{number_from_digits, AllBelowBase};
-ghost use Rattle.std.specs.Simd.Lanes.{mask_l};
+ghost use Rattle.std.specs.Simd.Lanes.{zip2};
 ghost use Rattle.std.specs.Fmt.{digit_glyph};
 ghost use Rattle.trace_core.specs.internal.HexadecimalDigits.{nibbles, hexadecimal_digits};
 
 use std::simd::prelude::*;
 
-/// A bit for each byte that is a hexadecimal digit, the lowest for the first byte.
-#[inline(always)]
-pub(crate) fn digit_mask(bytes: u8x16) -> u64
-    ensures { result ≡ mask_l (map (λ c. is_digit c 16) bytes) }
-{
-    let digits = lanes_within(bytes, b'0', 9) | letters(bytes);
-    digits.simd_eq(u8x16::splat(255)).to_bitmask()
-}
-
-/// The values of the bytes that are hexadecimal digits, and any below 16 for the others.
+/// The values of the bytes that are hexadecimal digits, and 16 or more for the others.
 #[inline(always)]
 pub(crate) fn digit_values(bytes: u8x16) -> u8x16
     ensures lanes { length result ≡ 16 }
-    ensures below { AllBelowBase 16 result }
     ensures values { (k : ℕ) → is_digit (slice_index bytes k) 16 ≡ true →
         slice_index result k ≡ digit_value (slice_index bytes k) }
+    ensures others { (k : ℕ) → k < 16 → is_digit (slice_index bytes k) 16 ≡ false →
+        16 ≤ slice_index result k }
 {
-    (bytes & u8x16::splat(15)) + (letters(bytes) & u8x16::splat(9))
+    // `0` to `9` become 246 to 255, then 240 to 249, and then 0 to 9; no other byte is below 16.
+    let decimals = lowered(bytes + u8x16::splat(198), 6) + u8x16::splat(16);
+    // In one case, `A` to `F` become 0 to 5, and then 10 to 15.
+    let letters = (bytes & u8x16::splat(0xdf)) - u8x16::splat(b'A');
+    lesser(decimals, raised(letters, 10))
 }
 
-/// The number that sixteen digits write.
+/// How many of the lanes in front are values of digits.
 #[inline(always)]
-pub(crate) fn number_of(digits: u8x16) -> u64
-    requires { AllBelowBase 16 digits }
-    ensures { result ≡ number_from_digits 16 digits }
+pub(crate) fn digits_in_front(values: u8x16) -> usize
+    ensures { result ≡ prefix_len (λ v. nat_lt v 16) values }
 {
-    let words = u16x8::from_le_bytes(digits);
-    let pairs = ((words << u16x8::splat(4)) + (words >> u16x8::splat(8))) & u16x8::splat(255);
-    u64::from_be_bytes(pairs.cast::<u8>().to_array())
+    let others = values.simd_ge(u8x16::splat(16)).to_bitmask();
+    // The bit behind those of the lanes ends the count.
+    (others + 65536).trailing_zeros() as usize
 }
 
-/// 255 for each byte that is a letter from `a` to `f` or from `A` to `F`, and 0 for the others.
+/// Each lane with `more` added, but at most 255.
 #[inline(always)]
-fn letters(bytes: u8x16) -> u8x16
-    ensures { result ≡ map (λ c. if nat_le ((bit_or c 32 + (256 - 97)) % 256) 5 then 255 else 0)
-        bytes }
+fn raised(lanes: u8x16, more: u8) -> u8x16
+    ensures { result ≡ map (λ c. if nat_lt 255 (c + more) then 255 else c + more) lanes }
 {
-    lanes_within(bytes | u8x16::splat(32), b'a', 5)
+    lanes.saturating_add(u8x16::splat(more))
 }
 
-/// 255 for each byte that is `first` or at most `more` above it, and 0 for the others.
+/// Each lane with `less` taken away, but at least 0.
 #[inline(always)]
-fn lanes_within(bytes: u8x16, first: u8, more: u8) -> u8x16
-    ensures { result ≡ map (λ c. if nat_le ((c + (256 - first)) % 256) more then 255 else 0) bytes }
+fn lowered(lanes: u8x16, less: u8) -> u8x16
+    ensures { result ≡ map (λ c. c - less) lanes }
 {
-    (bytes - u8x16::splat(first))
-        .simd_le(u8x16::splat(more))
-        .select(u8x16::splat(255), u8x16::splat(0))
+    lanes.saturating_sub(u8x16::splat(less))
 }
+
+/// The lesser one of each two lanes.
+#[inline(always)]
+fn lesser(left: u8x16, right: u8x16) -> u8x16
+    ensures { result ≡ zip2 (λ a b. if nat_lt a b then a else b) left right }
+{
+    left.simd_min(right)
+}
+
+/// The number that the first `len` lanes write.
+#[inline(always)]
+pub(crate) fn number_of(values: u8x16, len: usize) -> u64
+    requires most { len ≤ 16 }
+    requires below { AllBelowBase 16 (take len values) }
+    ensures { result ≡ number_from_digits 16 (take len values) }
+{
+    let bytes = values.swizzle_dyn(u8x16::from_array(PLACES[len]));
+    let halves = u64x2::from_le_bytes(bytes).to_array();
+    halves[0] + (halves[1] << 4)
+}
+
+/// For each number of digits the places of the last one and of every second one before it, and then
+/// of the ones between; 128 is no place, and gives 0.
+static PLACES: [[u8; 16]; 17] = [
+    [
+        128, 128, 128, 128, 128, 128, 128, 128, 128, 128, 128, 128, 128, 128, 128, 128,
+    ],
+    [
+        0, 128, 128, 128, 128, 128, 128, 128, 128, 128, 128, 128, 128, 128, 128, 128,
+    ],
+    [
+        1, 128, 128, 128, 128, 128, 128, 128, 0, 128, 128, 128, 128, 128, 128, 128,
+    ],
+    [
+        2, 0, 128, 128, 128, 128, 128, 128, 1, 128, 128, 128, 128, 128, 128, 128,
+    ],
+    [
+        3, 1, 128, 128, 128, 128, 128, 128, 2, 0, 128, 128, 128, 128, 128, 128,
+    ],
+    [
+        4, 2, 0, 128, 128, 128, 128, 128, 3, 1, 128, 128, 128, 128, 128, 128,
+    ],
+    [
+        5, 3, 1, 128, 128, 128, 128, 128, 4, 2, 0, 128, 128, 128, 128, 128,
+    ],
+    [
+        6, 4, 2, 0, 128, 128, 128, 128, 5, 3, 1, 128, 128, 128, 128, 128,
+    ],
+    [
+        7, 5, 3, 1, 128, 128, 128, 128, 6, 4, 2, 0, 128, 128, 128, 128,
+    ],
+    [8, 6, 4, 2, 0, 128, 128, 128, 7, 5, 3, 1, 128, 128, 128, 128],
+    [9, 7, 5, 3, 1, 128, 128, 128, 8, 6, 4, 2, 0, 128, 128, 128],
+    [10, 8, 6, 4, 2, 0, 128, 128, 9, 7, 5, 3, 1, 128, 128, 128],
+    [11, 9, 7, 5, 3, 1, 128, 128, 10, 8, 6, 4, 2, 0, 128, 128],
+    [12, 10, 8, 6, 4, 2, 0, 128, 11, 9, 7, 5, 3, 1, 128, 128],
+    [13, 11, 9, 7, 5, 3, 1, 128, 12, 10, 8, 6, 4, 2, 0, 128],
+    [14, 12, 10, 8, 6, 4, 2, 0, 13, 11, 9, 7, 5, 3, 1, 128],
+    [15, 13, 11, 9, 7, 5, 3, 1, 14, 12, 10, 8, 6, 4, 2, 0],
+];
 
 /// The sixteen hexadecimal digits of a number in lower case, leading zeros too.
 #[inline(always)]

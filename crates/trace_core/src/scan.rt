@@ -1,7 +1,7 @@
 //! The loop of a reader: it takes the lines that a source delivers one by one, and asks for more
 //! bytes. What a line means is decided in `line`, and for the usual forms in `fast_line`; `reader`
 //! shows the whole to callers.
-ghost use Rattle.std.specs.Prelude.{◌≡◌, ◌≢◌, ℕ, ◌+◌, ◌<◌, ◌≤◌, List, [], Option, None, Some};
+ghost use Rattle.std.specs.Prelude.{◌≡◌, ◌≢◌, ℕ, ◌+◌, ◌-◌, ◌<◌, ◌≤◌, List, [], Option, None, Some};
 ghost use Rattle.std.specs.Prelude.{length, drop, IfNone, IfSome, OnSome};
 ghost use Rattle.std.specs.Option.{option_to_list};
 ghost use Rattle.std.specs.Io.KnownBytes.{IsAtEnd};
@@ -39,7 +39,8 @@ pub(crate) struct Scan {
     pub(crate) item: Item,
     ghost limited: { limit ≤ MAX_LINES },
     ghost within: { lines ≤ limit },
-    ghost stopped: { state ≢ reader.Open → buffer ≡ [] },
+    ghost stopped: { state ≢ reader.Open → buffer.bytes ≡ [] },
+    ghost plain: { buffer.plain ≤ limit - lines },
 }
 
 /// The result of `search`. The item itself is in the scan, since a result that fits in a register
@@ -92,10 +93,7 @@ impl Scan {
         ensures open { IfSome result (λ _. self.old.state ≡ ReaderState.Open) }
         ensures none { IfNone result (self.new ≡ self.old) }
     {
-        if self.lines == self.limit {
-            return None;
-        }
-        let (item, end) = read_plain_line(self.format, self.buffer.as_slice())?;
+        let (item, end) = read_plain_line(self.format, self.buffer.plain_text()?)?;
         self.pass_line(end + 1);
         Some(item)
     }
@@ -174,7 +172,7 @@ impl Scan {
     /// Stops for the reason that a state says, and drops the bytes that are left.
     fn stop(&mut self, state: ReaderState)
         ensures state { self.new.state ≡ state }
-        ensures buffer { self.new.buffer ≡ [] }
+        ensures buffer { self.new.buffer.bytes ≡ [] }
         ensures same { KeepsTask self.old self.new }
         ensures lines { self.new.lines ≡ self.old.lines }
     {
@@ -185,11 +183,12 @@ impl Scan {
     /// Passes over a line of so many bytes, the LF included, and returns its number.
     #[inline(always)]
     fn pass_line(&mut self, len: usize) -> u64
-        requires within { len ≤ length self.old.buffer }
+        requires some { 1 ≤ len }
+        requires within { len ≤ length self.old.buffer.bytes }
         requires below { self.old.lines < self.old.limit }
         ensures number { result ≡ self.new.lines }
         ensures lines { self.new.lines ≡ self.old.lines + 1 }
-        ensures buffer { self.new.buffer ≡ drop len self.old.buffer }
+        ensures buffer { self.new.buffer.bytes ≡ drop len self.old.buffer.bytes }
         ensures same { (self.new.format ≡ self.old.format) × (self.new.limit ≡ self.old.limit)
             × (self.new.state ≡ self.old.state) }
     {
@@ -202,7 +201,7 @@ impl Scan {
     #[inline(always)]
     fn take_line(&mut self, at: usize) -> Option<(u64, Entry)>
         requires open { self.old.state ≡ ReaderState.Open }
-        requires line { IsFirstByte (is_byte 10) self.old.buffer (Some at) }
+        requires line { IsFirstByte (is_byte 10) self.old.buffer.bytes (Some at) }
         requires below { self.old.lines < self.old.limit }
         ensures advances { (reported : Option (List ℕ)) →
             Advances reported (progress self.old) (progress self.new) [] (option_to_list result) }
@@ -230,8 +229,8 @@ impl Scan {
     #[inline(never)]
     fn refill<S: Source>(&mut self, source: &mut S) -> Option<(u64, Entry)>
         requires open { self.old.state ≡ ReaderState.Open }
-        requires no_line { IsFirstByte (is_byte 10) self.old.buffer None }
-        requires below { 0 < length self.old.buffer → self.old.lines < self.old.limit }
+        requires no_line { IsFirstByte (is_byte 10) self.old.buffer.bytes None }
+        requires below { 0 < length self.old.buffer.bytes → self.old.lines < self.old.limit }
         ensures advances { Reads (S.view source.old) (S.view source.new) self.old self.new result }
         ensures steps { StepsScan (S.view source.old) (S.view source.new) self.old self.new result }
         ensures ends { OnSome result (self.new.state ≡ ReaderState.Ended) }
@@ -243,7 +242,10 @@ impl Scan {
         }
         match self.buffer.refill(source) {
             Ok(0) => self.finish(),
-            Ok(_) => None,
+            Ok(_) => {
+                self.buffer.allow_plain(self.limit - self.lines);
+                None
+            }
             Err(DeviceFault) => {
                 self.stop(ReaderState::Failed(TraceFault::Read { line }));
                 None
@@ -256,9 +258,10 @@ impl Scan {
     #[inline(never)]
     fn finish(&mut self) -> Option<(u64, Entry)>
         requires open { self.old.state ≡ ReaderState.Open }
-        requires no_line { IsFirstByte (is_byte 10) self.old.buffer None }
-        requires below { 0 < length self.old.buffer → self.old.lines < self.old.limit }
-        requires short { length self.old.buffer ≤ MAX_LINE }
+        requires no_line { IsFirstByte (is_byte 10) self.old.buffer.bytes None }
+        requires below { 0 < length self.old.buffer.bytes → self.old.lines < self.old.limit }
+        requires short { length self.old.buffer.bytes ≤ MAX_LINE }
+        requires no_plain { self.old.buffer.plain ≡ 0 }
         ensures advances { (reported : Option (List ℕ)) → IsAtEnd reported →
             Advances reported (progress self.old) (progress self.new) [] (option_to_list result) }
         ensures state { self.new.state ≢ ReaderState.Open }

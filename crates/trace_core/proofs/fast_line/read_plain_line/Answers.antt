@@ -9,7 +9,7 @@ inside c =
       arith,
       c.in_ok-item.ensures.near.1,
       c.in_ok-label.ensures.near,
-      c.if-text-lt-PLAIN_ROOM.false,
+      c.requires,
     )
 
 pub returns-then-text-at-eq10-clause-line : goal.returns-then-text-at-eq10-clause-line

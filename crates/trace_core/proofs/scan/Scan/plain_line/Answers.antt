@@ -10,12 +10,12 @@ returns-clause-advances c = λ v.
     let found = c.in_ok-item.ensures in
     let passed = c.pass_line.ensures in
     let s = c.args.self.now in
-    let some : 0 < length s.buffer =
-    omega (arith, found.line.0.high, ap length c.as_slice.ensures.value) in (
+    let some : 0 < length s.buffer.bytes =
+    omega (arith, found.line.0.high, ap length c.in_ok-plain_text.ensures.value) in (
       [],
       Delivers-none _ _,
-      steps-item _ s (stays-open s.state s.buffer s.stopped some) _ c.in_ok-item.end
-          c.in_ok-item.item (progress c.pass_line.new.self) _ c.as_slice.ensures.value
+      steps-item _ s (stays-open s.state s.buffer.bytes s.stopped some) _ c.in_ok-item.end
+          c.in_ok-item.item (progress c.pass_line.new.self) _ c.in_ok-plain_text.ensures.value
           found.line found.item (omega arith) (omega arith) refl passed.lines
           passed.buffer passed.same,
     )
