@@ -79,7 +79,8 @@ impl FullProfile {
     /// Feeds one reference. Takes no memory and cannot fail. At most `MAX_REFERENCES` may be fed.
     pub fn feed(&mut self, r: Ref)
         requires { fed_of self.old.plain < MAX_REFERENCES }
-        ensures { self.new ≡ after_full_reference self.old r }
+        ensures step { self.new ≡ after_full_reference self.old r }
+        ensures one_more { fed_of self.new.plain ≡ fed_of self.old.plain + 1 }
     {
         self.kept.feed(r);
     }
@@ -91,6 +92,7 @@ impl FullProfile {
     pub fn feed_batch(&mut self, refs: &mut [Ref]) -> usize
         requires { fed_of self.old.plain + length refs.old ≤ MAX_REFERENCES }
         ensures step { self.new ≡ after_full_batch self.old refs.old }
+        ensures more { fed_of self.new.plain ≡ fed_of self.old.plain + result }
         ensures fed { take result refs.new ≡ unsettled self.old refs.old }
         ensures within { result ≤ length refs.new }
         ensures length { length refs.new ≡ length refs.old }
@@ -101,7 +103,8 @@ impl FullProfile {
     /// Counts this many references that were settled, and one comparison for each.
     pub fn count_settled(&mut self, count: u64)
         requires { fed_of self.old.plain + count ≤ MAX_REFERENCES }
-        ensures { self.new ≡ after_settled count self.old }
+        ensures step { self.new ≡ after_settled count self.old }
+        ensures more { fed_of self.new.plain ≡ fed_of self.old.plain + count }
     {
         self.kept.count_settled(count);
     }
