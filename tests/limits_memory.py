@@ -28,6 +28,7 @@ LONG_LISTS = (
     f"65,536 ways, {NUMBER} MB for the largest pair"
 )
 FULL = f"With `--full` a pair takes {FORMULA} bytes instead, and all pairs together {NUMBER} KiB"
+FULL_SLOTS = f"If S is at most {NUMBER} and A is {NUMBER} to {NUMBER}, a pair then takes {FORMULA}"
 BATCH = f"All pairs together take {NUMBER} KiB more"
 # of docs/speed.md
 ALL_PAIRS = f"Sweeping all {PAIRS} pairs with one way takes {NUMBER} MB"
@@ -70,7 +71,11 @@ def told_of_pair(sets, ways):
 
 def told_of_full_pair(sets, ways):
     """The same with --full."""
-    return value(told_by_the_manual(FULL)[0], sets, ways)
+    few, slots_from, slots_to, slots = told_by_the_manual(FULL_SLOTS)
+    formula, _ = told_by_the_manual(FULL)
+    if sets <= few and slots_from <= ways <= slots_to:
+        formula = slots
+    return value(formula, sets, ways)
 
 
 def told_of_cache(sets, ways, policy="l"):
@@ -140,10 +145,11 @@ def bytes_of_pairs(limits, told):
 
 
 def bytes_of_full_pairs(limits, told):
-    """In the full table each list is in rows."""
+    """The same of the full table."""
     for sets, ways in (
-        (1, 1), (2**20, 1), (1024, 2), (4096, 12), (8192, 32), (4096, 255), (1, 256), (4096, 256),
-        (1, WAYS), (64, WAYS),
+        (1, 1), (2**20, 1), (1024, 2), (4096, 11), (16, 12), (4096, 12), (4096, 16), (4096, 17),
+        (8192, 12), (8192, 16), (8192, 32), (4096, 255), (1, 256), (4096, 256), (1, WAYS),
+        (64, WAYS),
     ):
         name = f"a full sweep with S = {sets} and A = {ways}"
         limits.takes(name, full_pair(sets, ways), full_pair(16, 1), told)

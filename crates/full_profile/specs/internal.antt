@@ -3,4 +3,5 @@ pub mod KeptFull
 pub mod Marked
 pub mod Profile
 pub mod Rows
+pub mod Slotted
 pub mod Sound

@@ -1,7 +1,7 @@
 -- The block's slot, or one that is free, or else the last one's, gets the second block.
 use Rattle.std.proofs.Common.{◌∙◌, ◌+◌, ◌-◌, ◌∷◌, ap, arith}
 use Rattle.std.specs.List.{remove}
-use Rattle.profile_core.specs.internal.rests.Slots.{ordered_numbers}
+use Rattle.profile_core.specs.Slots.{ordered_numbers}
 use Rattle.profile_core.proofs.rests.SlottedBehind.{found_small, found_list}
 use Rattle.profile_core.proofs.rests.SlottedBehind.{new_held, new_list}
 use Rattle.profile_core.proofs.rests.slotted.exchange_in_slots.Goals as goal
