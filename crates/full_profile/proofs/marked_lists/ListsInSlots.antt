@@ -1,17 +1,25 @@
 -- Lists in slots: what is read of one, and one of them written anew.
-use Rattle.std.proofs.Common.{◌≡◌, ℕ, zero, suc, ◌<◌, ◌≤◌, ◌^◌, List, [], ◌∷◌, length, take}
+use Rattle.std.proofs.Common.{◌≡◌, ℕ, zero, suc, ◌-◌, ◌<◌, ◌≤◌, ◌^◌, false, cond, eqb, List, []}
+use Rattle.std.proofs.Common.{◌∷◌, length, take}
 use Rattle.std.proofs.Common.{get_or, set, refl, sym, ◌∙◌, ap, subst, arith, length-set}
 use Rattle.std.proofs.Common.{get_or-set_same, get_or-set_other}
 use Rattle.std.specs.Prelude.{replicate}
 use Rattle.std.proofs.lemmas.List.{length-take-le, get_or_read, length-replicate, set-get_or}
-use Rattle.std.proofs.lemmas.List.{get_or-replicate, ext_get_or}
+use Rattle.std.proofs.lemmas.Bool.{ne_eqb}
+use Rattle.std.proofs.lemmas.List.{get_or-replicate, ext_get_or, take_all}
+use Rattle.trace_core.specs.declared.events.Access.{Access}
+use Rattle.trace_core.specs.Events.{is_write}
+use Rattle.profile_core.specs.profile.RecencyList.{is_front, move_to_front}
 use Rattle.std.proofs.Common.{get_or-take}
 use Rattle.profile_core.proofs.Elements.{all_set, all_same}
 use Rattle.profile_core.proofs.slots.SlotLemmas.{length-ordered_numbers, blank_order}
 use Rattle.profile_core.specs.internal.rows.Rows.{rows_by_set}
 use Rattle.full_profile.specs.declared.marked_lists.slotted.ListSlots.{ListSlots}
 use Rattle.full_profile.specs.declared.marked_lists.slotted.TheConstants.{EMPTY}
-use Rattle.full_profile.specs.internal.Marked.{Marked, blocks_in, cleans_in}
+use Rattle.full_profile.specs.declared.marked_lists.MarkedTouch.TheVariants.{New, Full}
+use Rattle.full_profile.specs.internal.Marked.{Marked, blocks_in, cleans_in, cleans_after}
+use Rattle.full_profile.specs.internal.Marked.{marked_touch_of, empty_marked, without_list}
+use Rattle.full_profile.proofs.marked_lists.Emptying.{blank_of}
 use Rattle.full_profile.specs.internal.Slotted.{IsInSlots, AreSlotted, blocks_behind, cleans_behind}
 use Rattle.full_profile.specs.internal.Slotted.{listed_blocks, listed_cleans, no_list, list_at}
 use Rattle.full_profile.specs.internal.Slotted.{all_blocks, all_cleans}
@@ -25,6 +33,19 @@ blocks_behind_long {l} s = length-ordered_numbers l.slots.order l.slots.numbers 
 pub cleans_behind_long : {l : ListSlots} → IsInSlots l → length (cleans_behind l) ≡ 16
 cleans_behind_long {l} s = length-ordered_numbers l.slots.order l.cleans 16
     (omega (arith, s.order.order_len))
+
+-- a list with another length
+abbrev pub begun : ListSlots → ListSlots
+begun l = record l { len = 1 }
+
+abbrev pub ended : ListSlots → ListSlots
+ended l = record l { len = 0 }
+
+pub begun_in_slots : {l : ListSlots} → IsInSlots l → IsInSlots (begun l)
+begun_in_slots s = record { order = s.order; cleans_len = s.cleans_len }
+
+pub ended_in_slots : {l : ListSlots} → IsInSlots l → IsInSlots (ended l)
+ended_in_slots s = record { order = s.order; cleans_len = s.cleans_len }
 
 -- what is known where the list of set k is asked for
 pub record HasSlots (d k : ℕ) (fronts cleans : List ℕ) (lists : List ListSlots)
@@ -94,6 +115,11 @@ module _ {d k : ℕ} {fronts cleans : List ℕ} {lists : List ListSlots} {m : Ma
       (get_or fronts k 0 ∷ blocks_behind (list_at lists k))
       (omega (arith, blocks_behind_long in_slots, h.sound.short k, h.sound.most))
 
+  pub cleans_size : length (cleans_in m k) ≡ (list_at lists k).len
+  cleans_size = ap length cleans_are ∙ length-take-le (list_at lists k).len
+      (get_or cleans k 0 ∷ cleans_behind (list_at lists k))
+      (omega (arith, cleans_behind_long in_slots, h.sound.short k, h.sound.most))
+
   -- what is read of it
   pub list_read : {l : ListSlots} → l ≡ get_or lists k l → l ≡ list_at lists k
   list_read {l} read = get_or_read lists k l within read no_list
@@ -103,6 +129,20 @@ module _ {d k : ℕ} {fronts cleans : List ℕ} {lists : List ListSlots} {m : Ma
 
   pub clean_read : {x : ℕ} → x ≡ get_or cleans k x → x ≡ get_or cleans k 0
   clean_read {x} read = get_or_read cleans k x clean_within read 0
+
+  -- a list as it is lent
+  pub list_lent : {l : ListSlots} → l ≡ get_or lists k l → IsInSlots l
+  list_lent read = subst IsInSlots (sym (list_read read)) in_slots
+
+  pub lent_blocks : {f : ℕ} {l : ListSlots} → f ≡ get_or fronts k f → l ≡ get_or lists k l →
+      listed_blocks f l ≡ blocks_in m k
+  lent_blocks {f} {l} front read = ap (λ x. listed_blocks x l) (front_read front)
+      ∙ ap (listed_blocks (get_or fronts k 0)) (list_read read) ∙ sym blocks_are
+
+  pub lent_cleans : {c : ℕ} {l : ListSlots} → c ≡ get_or cleans k c → l ≡ get_or lists k l →
+      listed_cleans c l ≡ cleans_in m k
+  lent_cleans {c} {l} clean read = ap (λ x. listed_cleans x l) (clean_read clean)
+      ∙ ap (listed_cleans (get_or cleans k 0)) (list_read read) ∙ sym cleans_are
 
   pub first_block : get_or fronts k 0 ≡ get_or (blocks_in m k) 0 0
   first_block = first_of (list_at lists k).len (get_or fronts k 0)
@@ -222,6 +262,31 @@ module _ {d k : ℕ} {fronts cleans : List ℕ} {lists : List ListSlots} {m : Ma
         (get_or-set_other cleans k j clean 0 other)
         ∙ ap (listed_cleans (get_or cleans j 0)) (elsewhere j other)))
 
+-- a list that is emptied
+module _ {d k : ℕ} {fronts cleans : List ℕ} {lists : List ListSlots} {m : Marked}
+    (h : HasSlots d k fronts cleans lists m) {l : ListSlots} (read : l ≡ get_or lists k l) where
+  -- its front's clean depth stays
+  kept : set cleans k (get_or cleans k 0) ≡ cleans
+  kept = set-get_or cleans k 0
+
+  pub emptied_sound : AreSlotted d (set fronts k 0) cleans (set lists k (ended l))
+  emptied_sound = subst (λ cs. AreSlotted d (set fronts k 0) cs (set lists k (ended l))) kept
+      (put_sound h 0 (get_or cleans k 0) (ended l) (ended_in_slots (list_lent h read)) (omega arith)
+      (λ _. refl))
+
+  pub list_emptied : record {
+    depth = d;
+    blocks = all_blocks (set fronts k 0) (set lists k (ended l));
+    cleans = all_cleans cleans (set lists k (ended l));
+  } ≡ without_list m k
+  list_emptied = subst (λ cs. record {
+    depth = d;
+    blocks = all_blocks (set fronts k 0) (set lists k (ended l));
+    cleans = all_cleans cs (set lists k (ended l));
+  } ≡ without_list m k) kept
+      (put_lists h 0 (get_or cleans k 0) (ended l) (ended_in_slots (list_lent h read)) (omega arith)
+      (λ _. refl) [] [] refl refl)
+
 -- lists that are the same as far as n
 pub front_same : (n : ℕ) (xs ys : List ℕ) → n ≤ length xs → n ≤ length ys →
     ((k : ℕ) → k < n → get_or xs k 0 ≡ get_or ys k 0) → take n xs ≡ take n ys
@@ -262,20 +327,53 @@ module _ (d m : ℕ) (fronts cleans : List ℕ) (lists : List ListSlots)
     blank = λ k _. ap (λ fs. get_or fs k 0) no_fronts ∙ all_same m k 0;
   }
 
-  pub new_lists : record {
+  pub new_lists : ◌≡◌ {A = Marked} (record {
     depth = d;
     blocks = all_blocks fronts lists;
     cleans = all_cleans cleans lists;
-  } ≡ record { depth = d; blocks = replicate m []; cleans = replicate m [] }
+  }) (empty_marked m d)
   new_lists =
+      let lists_of : List (List ℕ) → List (List ℕ) → Marked =
+      λ bs cs. record { depth = d; blocks = bs; cleans = cs } in
       let rows : (row : ℕ → List ℕ) → ((k : ℕ) → k < m → row k ≡ []) →
       rows_by_set (length lists) row ≡ replicate m [] = λ row each.
       rows_same (length lists) row (replicate m []) (length-replicate m [] ∙ sym count)
       (λ k lt. each k (omega (arith, lt, count))
       ∙ sym (get_or-replicate m k [] [] (omega (arith, lt, count)))) in
-      ap (λ ls. record { depth = d; blocks = ls; cleans = all_cleans cleans lists })
+      ap (λ (ls : List (List ℕ)). lists_of ls (all_cleans cleans lists))
       (rows (λ i. listed_blocks (get_or fronts i 0) (list_at lists i))
       (λ k lt. ap (listed_blocks (get_or fronts k 0)) (empty_at k lt)))
-      ∙ ap (λ ls. record { depth = d; blocks = replicate {A = List ℕ} m []; cleans = ls })
+      ∙ ap (λ (ls : List (List ℕ)). lists_of (replicate m []) ls)
       (rows (λ i. listed_cleans (get_or cleans i 0) (list_at lists i))
       (λ k lt. ap (listed_cleans (get_or cleans k 0)) (empty_at k lt)))
+
+-- a list that begins with a block
+take_one : (d y : ℕ) → 2 ≤ d → take d (y ∷ []) ≡ y ∷ []
+take_one d y two = take_all d (y ∷ []) (omega arith)
+
+pub first_blocks : (d x : ℕ) (xs : List ℕ) (l : ListSlots) → 2 ≤ d → length xs ≡ 0 → l.len ≡ 1 →
+    listed_blocks x l ≡ take d (move_to_front x xs)
+first_blocks d x xs l two none one =
+    ap (λ n. take n (x ∷ blocks_behind l)) one ∙ sym (take_one d x two)
+    ∙ ap (λ ys. take d (move_to_front x ys)) (sym (blank_of xs none))
+
+pub first_cleans : (d x c : ℕ) (access : Access) (xs ms : List ℕ) (l : ListSlots) → 2 ≤ d →
+    length xs ≡ 0 → length ms ≡ 0 → l.len ≡ 1 → c ≡ cond (is_write access) 0 d →
+    listed_cleans c l ≡ cleans_after d access x xs ms
+first_cleans d x c access xs ms l two none no_cleans one is =
+    ap (λ n. take n (c ∷ cleans_behind l)) one ∙ sym (take_one d c two)
+    ∙ ap (λ v. take d (v ∷ [])) is
+    ∙ ap (λ ys. cleans_after d access x ys []) (sym (blank_of xs none))
+    ∙ ap (cleans_after d access x xs) (sym (blank_of ms no_cleans))
+
+pub first_touch : (d x : ℕ) (xs ms : List ℕ) → 2 ≤ d → length xs ≡ 0 →
+    New 0 ≡ marked_touch_of d x xs ms
+first_touch d x xs ms two none =
+    ap (λ b. cond b (Full (get_or ms (d - 1) 0)) (New 0)) (sym (ne_eqb 0 d (λ e. absurd (omega arith))))
+    ∙ ap (λ ys. marked_touch_of d x ys ms) (sym (blank_of xs none))
+
+-- the front is another block
+pub not_front : (n f x : ℕ) (xs : List ℕ) → 1 ≤ n → is_front x (take n (f ∷ xs)) ≡ false →
+    eqb f x ≡ false
+not_front zero f x xs some other = absurd (omega arith)
+not_front (suc n) f x xs some other = other

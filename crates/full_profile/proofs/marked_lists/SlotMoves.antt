@@ -2,7 +2,7 @@
 -- and what the list is once the block is in front.
 use Rattle.std.proofs.Common.{◌≡◌, ℕ, zero, suc, ◌+◌, ◌-◌, ◌<◌, ◌≤◌, Bool, true, false, cond, eqb}
 use Rattle.std.proofs.Common.{max, min, List, [], ◌∷◌, length, take, get_or, refl, sym, ◌∙◌, ap}
-use Rattle.std.proofs.Common.{arith, eq-eqb, get_or-take}
+use Rattle.std.proofs.Common.{arith, eq-eqb, get_or-take, not, one-add}
 use Rattle.std.specs.List.{remove}
 use Rattle.std.proofs.lemmas.Bool.{false≢true, ne_eqb}
 use Rattle.std.proofs.lemmas.List.{take_all, take-take, length-take-le}
@@ -12,12 +12,30 @@ use Rattle.profile_core.specs.declared.set_lists.recency.Standing.TheVariants as
 use Rattle.profile_core.specs.profile.RecencyList.{index_of, is_in}
 use Rattle.profile_core.specs.internal.set_lists.Moves.{standing_of}
 use Rattle.profile_core.proofs.profile.Feeding.{FoundAt, FoundNowhere, found_behind, found_nowhere}
-use Rattle.profile_core.proofs.rests.SlottedBehind.{removed_take, kept_take}
-use Rattle.profile_core.proofs.rows.Shifting.{index_behind, is_found, is_absent, length-remove}
-use Rattle.profile_core.proofs.rows.Shifting.{remove_end}
 use Rattle.full_profile.specs.State.{clean_in_front}
 use Rattle.full_profile.specs.declared.marked_lists.MarkedTouch.TheVariants.{Behind, New, Full}
 use Rattle.full_profile.specs.internal.Marked.{marked_touch_of}
+use Rattle.full_profile.proofs.marked_lists.Shifting.{is_found, is_absent, length-remove}
+use Rattle.full_profile.proofs.marked_lists.Shifting.{remove_end}
+
+removed_take : (h p : ℕ) (xs : List ℕ) → p ≤ h →
+    take h (remove xs p) ≡ remove (take (suc h) xs) p
+removed_take zero zero [] le = refl
+removed_take (suc h) zero [] le = refl
+removed_take zero (suc p) [] le = absurd (omega arith)
+removed_take (suc h) (suc p) [] le = refl
+removed_take h zero (x ∷ xs) le = refl
+removed_take zero (suc p) (x ∷ xs) le = absurd (omega arith)
+removed_take (suc h) (suc p) (x ∷ xs) le = ap (λ ys. x ∷ ys) (removed_take h p xs (omega arith))
+
+kept_take : (q : ℕ) (xs : List ℕ) → take q (remove xs q) ≡ take q xs
+kept_take zero xs = refl
+kept_take (suc q) [] = refl
+kept_take (suc q) (x ∷ xs) = ap (λ ys. x ∷ ys) (kept_take q xs)
+
+index_behind : (x y : ℕ) (ys : List ℕ) → (y ≡ x → ⊥) → index_of x (y ∷ ys) ≡ suc (index_of x ys)
+index_behind x y ys ne = ap (λ b. cond (not b) (1 + index_of x ys) 0) (ne_eqb y x ne) ∙
+    one-add (index_of x ys)
 
 -- Blocks or clean depths: `f` in front, and `zs` in sixteen slots. `f` goes to a slot, which comes
 -- to the front of the others, and `y` takes its place.
@@ -206,6 +224,6 @@ module _ (x f fc n d : ℕ) (xs ms : List ℕ) (all : length xs ≡ 16) (some : 
           (omega (arith, fits, full))
 
 -- a list that is put together of what was written
-pub brought : {n n' y y' f f' p : ℕ} {zs zs' : List ℕ} → n' ≡ n → y' ≡ y →
+pub brought : {n n' y y' f f' : ℕ} (p : ℕ) (zs : List ℕ) {zs' : List ℕ} → n' ≡ n → y' ≡ y →
     zs' ≡ f' ∷ remove zs p → f' ≡ f → take n' (y' ∷ zs') ≡ take n (y ∷ f ∷ remove zs p)
-brought len front behind second = cc
+brought p zs len front behind second = cc

@@ -90,7 +90,7 @@ impl ListSlots {
             Standing::Behind(place) => {
                 let clean = self.put(place, second, *front_clean);
                 *front_clean = clean_if_read(access, clean.max(place as u8 + 1));
-                MarkedTouch::Behind(place + 1, u32::from(clean))
+                MarkedTouch::Behind(place + 1, clean as u32)
             }
             Standing::New(behind) => {
                 let place = behind.min(depth - 2);
@@ -100,7 +100,7 @@ impl ListSlots {
                     self.len += 1;
                     MarkedTouch::New(held)
                 } else {
-                    MarkedTouch::Full(u32::from(last))
+                    MarkedTouch::Full(last as u32)
                 }
             }
         }
@@ -112,10 +112,10 @@ impl ListSlots {
         requires most { self.now.len ≤ 16 }
         ensures { take self.now.len result ≡ listed_cleans front_clean self.now }
     {
-        let mut cleans = [u32::from(front_clean); MOST];
+        let mut cleans = [front_clean as u32; MOST];
         for index in 1..self.len as usize {
             let slot = self.slots.order[index - 1];
-            cleans[index] = u32::from(self.cleans[slot as usize]);
+            cleans[index] = self.cleans[slot as usize] as u32;
         }
         cleans
     }
@@ -197,12 +197,12 @@ impl ListStore for SlottedLists {
 
     #[inline(always)]
     fn held(&self, set: usize) -> u32 {
-        u32::from(self.lists[set].len)
+        self.lists[set].len as u32
     }
 
     #[inline(always)]
     fn front_clean(&self, set: usize) -> u32 {
-        u32::from(self.front_cleans[set])
+        self.front_cleans[set] as u32
     }
 
     #[inline(always)]

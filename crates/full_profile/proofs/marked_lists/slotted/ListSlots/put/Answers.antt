@@ -5,11 +5,12 @@ use Rattle.profile_core.specs.Slots.{ordered_numbers}
 use Rattle.profile_core.proofs.slots.SlotLemmas.{ordered_numbers_at, turned, put_entry}
 use Rattle.full_profile.proofs.marked_lists.slotted.ListSlots.put.Goals as goal
 
-pub bounds-replace-slot : goal.bounds-replace-slot
-bounds-replace-slot c = omega (
+pub bounds-self-slot : goal.bounds-self-slot
+bounds-self-slot c = omega (
   arith,
   c.put-slot.ensures.slot,
   c.requires.sound.order.within c.args.place,
+  c.requires.sound.cleans_len,
 )
 
 pub returns-clause-sound : goal.returns-clause-sound
