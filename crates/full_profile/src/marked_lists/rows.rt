@@ -6,7 +6,7 @@ ghost use Rattle.full_profile.specs.internal.Marked.{empty_marked};
 use crate::copies::{Copies, Emptying};
 use crate::marked_lists::MarkedTouch;
 use crate::marked_lists::row::bring_in_row;
-use crate::marked_lists::touched::ListStore;
+use crate::marked_lists::touched::{ListStore, TouchedLists};
 use std::alloc::{AllocError, Global};
 use std::marker::Model;
 use trace_core::Access;
@@ -37,8 +37,7 @@ impl Model for ListRows {
 }
 
 impl ListRows {
-    /// Empty lists for a number of sets. It takes 12 bytes for each of `sets * depth` blocks, and 4
-    /// for each set.
+    /// Empty lists for a number of sets.
     pub fn new(alloc: Global, sets: usize, depth: usize) -> Result<ListRows, AllocError>
         requires some { 1 ≤ depth }
         requires small { sets * depth ≤ 2 ^ 22 }
@@ -50,6 +49,24 @@ impl ListRows {
             cleans: vec![in alloc; 0; sets * depth]?,
             lens: vec![in alloc; 0; sets]?,
         })
+    }
+}
+
+impl TouchedLists<ListRows> {
+    /// Empty lists in rows for a number of sets. It takes 12 bytes for each of `sets * depth`
+    /// blocks, and 4 and a quarter for each set.
+    pub fn in_rows(
+        alloc: Global,
+        sets: usize,
+        depth: usize,
+    ) -> Result<TouchedLists<ListRows>, AllocError>
+        requires filled { 1 ≤ sets }
+        requires some { 1 ≤ depth }
+        requires small { sets * depth ≤ 2 ^ 22 }
+        ensures { IfOk result (λ lists. lists ≡ empty_marked sets depth) }
+    {
+        let rows = ListRows::new(alloc, sets, depth)?;
+        TouchedLists::new(alloc, rows, sets)
     }
 }
 

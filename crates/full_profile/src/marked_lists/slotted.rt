@@ -11,7 +11,7 @@ ghost use Rattle.full_profile.specs.internal.Slotted.{IsInSlots, blocks_behind, 
 ghost use Rattle.full_profile.specs.internal.Slotted.{listed_blocks, listed_cleans};
 
 use crate::copies::{Copies, Emptying};
-use crate::marked_lists::touched::ListStore;
+use crate::marked_lists::touched::{ListStore, TouchedLists};
 use crate::marked_lists::{MarkedTouch, writes};
 use profile_core::Standing;
 use profile_core::slots::{BLANK, SLOTS, Slots};
@@ -155,7 +155,7 @@ impl Model for SlottedLists {
 }
 
 impl SlottedLists {
-    /// Empty lists for a number of sets. It takes 193 bytes for each set.
+    /// Empty lists for a number of sets.
     pub fn new(alloc: Global, sets: usize, depth: usize) -> Result<SlottedLists, AllocError>
         requires two { 2 ≤ depth }
         requires most { depth ≤ 16 }
@@ -180,6 +180,23 @@ impl SlottedLists {
         self.fronts[set] = block;
         self.front_cleans[set] = clean_if_read(access, self.depth as u8);
         self.lists[set].len = 1;
+    }
+}
+
+impl TouchedLists<SlottedLists> {
+    /// Empty lists in slots for a number of sets. It takes 193 and a quarter bytes for each.
+    pub fn in_slots(
+        alloc: Global,
+        sets: usize,
+        depth: usize,
+    ) -> Result<TouchedLists<SlottedLists>, AllocError>
+        requires two { 2 ≤ depth }
+        requires most { depth ≤ 16 }
+        requires few { sets ≤ 2 ^ 22 }
+        ensures { IfOk result (λ lists. lists ≡ empty_marked sets depth) }
+    {
+        let lists = SlottedLists::new(alloc, sets, depth)?;
+        TouchedLists::new(alloc, lists, sets)
     }
 }
 

@@ -33,11 +33,10 @@ impl KeptFull {
     {
         let (sets, depth) = (geometry.sets() as usize, geometry.e() as usize);
         if depth >= SLOTTED_FROM && depth <= MOST && sets <= MANY_SETS {
-            let lists = SlottedLists::new(alloc, sets, depth)?;
-            let lists = TouchedLists::new(alloc, lists, sets)?;
+            let lists = TouchedLists::in_slots(alloc, sets, depth)?;
             return Ok(KeptFull::Slots(FullStackProfile::new(alloc, geometry, lists)?));
         }
-        let lists = TouchedLists::new(alloc, ListRows::new(alloc, sets, depth)?, sets)?;
+        let lists = TouchedLists::in_rows(alloc, sets, depth)?;
         Ok(KeptFull::Rows(FullStackProfile::new(alloc, geometry, lists)?))
     }
 }
