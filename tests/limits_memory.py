@@ -27,8 +27,10 @@ LONG_LISTS = (
     f"If A is {NUMBER} or more, it takes at most {FORMULA} bytes: {NUMBER} MB for one set of "
     f"65,536 ways, {NUMBER} MB for the largest pair"
 )
-FULL = f"With `--full` a pair takes {FORMULA} bytes instead, and all pairs together {NUMBER} KiB"
-FULL_SLOTS = f"If S is at most {NUMBER} and A is {NUMBER} to {NUMBER}, a pair then takes {FORMULA}"
+FULL = (
+    f"With `--full` a pair takes {FORMULA} bytes instead, with slots {FORMULA}, and all pairs "
+    f"together {NUMBER} KiB"
+)
 BATCH = f"All pairs together take {NUMBER} KiB more"
 # of docs/speed.md
 ALL_PAIRS = f"Sweeping all {PAIRS} pairs with one way takes {NUMBER} MB"
@@ -71,8 +73,8 @@ def told_of_pair(sets, ways):
 
 def told_of_full_pair(sets, ways):
     """The same with --full."""
-    few, slots_from, slots_to, slots = told_by_the_manual(FULL_SLOTS)
-    formula, _ = told_by_the_manual(FULL)
+    few, slots_from, slots_to, *_ = told_by_the_manual(SLOTS)
+    formula, slots, _ = told_by_the_manual(FULL)
     if sets <= few and slots_from <= ways <= slots_to:
         formula = slots
     return value(formula, sets, ways)
@@ -190,7 +192,7 @@ def bytes_of_caches(limits, told):
 def bytes_of_buffers(limits, large):
     [batch] = told_by_the_manual(BATCH)
     [buffer, same] = told_by_the_manual(BUFFERS, "docs/speed.md")
-    _, of_full = told_by_the_manual(FULL)
+    *_, of_full = told_by_the_manual(FULL)
     runs = pair(1, 1)[0], full_pair(1, 1)[0], cache("din", 1, 1)[0], ["--help"]
     sweep, full, din, none = (limits.asked(arguments, large)[0] / 1024 for arguments in runs)
     limits.equal("KiB of two buffers", din - none, 2 * buffer)

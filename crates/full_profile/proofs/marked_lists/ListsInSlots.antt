@@ -184,7 +184,8 @@ module _ {d k : ℕ} {fronts cleans : List ℕ} {lists : List ListSlots} {m : Ma
       let l = list_at lists k in
       let row = λ (cs : List ℕ) (i : ℕ). listed_cleans (get_or cs i 0) (list_at lists i) in
       ap (λ ls. record { depth = d; blocks = all_blocks fronts lists; cleans = ls })
-      (rows_put (length lists) k (row cleans) (row (set cleans k x)) (set (cleans_in m k) 0 x) within
+      (rows_put (length lists) k (row cleans) (row (set cleans k x)) (set (cleans_in m k) 0 x)
+      within
       (ap (λ c. listed_cleans c l) (get_or-set_same cleans k x 0 clean_within)
       ∙ first_set l.len (get_or cleans k 0) x (cleans_behind l)
       ∙ ap (λ ls. set ls 0 x) (sym cleans_are))
@@ -369,7 +370,8 @@ first_cleans d x c access xs ms l two none no_cleans one is =
 pub first_touch : (d x : ℕ) (xs ms : List ℕ) → 2 ≤ d → length xs ≡ 0 →
     New 0 ≡ marked_touch_of d x xs ms
 first_touch d x xs ms two none =
-    ap (λ b. cond b (Full (get_or ms (d - 1) 0)) (New 0)) (sym (ne_eqb 0 d (λ e. absurd (omega arith))))
+    ap (λ b. cond b (Full (get_or ms (d - 1) 0)) (New 0))
+    (sym (ne_eqb 0 d (λ e. absurd (omega arith))))
     ∙ ap (λ ys. marked_touch_of d x ys ms) (sym (blank_of xs none))
 
 -- the front is another block

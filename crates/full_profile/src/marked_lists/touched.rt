@@ -61,9 +61,8 @@ pub trait ListStore: Drop {
         requires set { set < length (view self.old).blocks }
         requires above_within { (view self.old).depth < length copies.old.above }
         requires within { (view self.old).depth < length copies.old.up_to }
-        requires above_few
-            { sum copies.old.above + length (cleans_in (view self.old) set) < 2 ^ 63 }
-        requires few { sum copies.old.up_to + length (cleans_in (view self.old) set) < 2 ^ 63 }
+        requires above { sum copies.old.above + length (cleans_in (view self.old) set) < 2 ^ 63 }
+        requires up_to { sum copies.old.up_to + length (cleans_in (view self.old) set) < 2 ^ 63 }
         ensures lists { view self.new ≡ without_list (view self.old) set }
         ensures copies { copies.new ≡ with_copies_of (up_to_of emptying (view self.old).depth) 0
             (cleans_in (view self.old) set) copies.old };
@@ -144,12 +143,7 @@ impl<S: ListStore> MarkedLists for TouchedLists<S> {
 }
 
 /// Empties the lists of the listed sets; those of all other sets are empty already.
-fn empty_listed<S: ListStore>(
-    lists: &mut S,
-    sets: &[u32],
-    emptying: Emptying,
-    copies: &mut Copies,
-)
+fn empty_listed<S: ListStore>(lists: &mut S, sets: &[u32], emptying: Emptying, copies: &mut Copies)
     requires filled { ListsFilled sets.now (map length (S.view lists.old).blocks) }
     requires beside { AreAlike (S.view lists.old) }
     requires room { CanTake (S.view lists.old).depth (S.view lists.old).cleans copies.old }

@@ -125,101 +125,101 @@ turned p xs = get_or xs p 0 ∷ remove xs p
 
 -- the slot of place p is written, and comes to the front
 module _ (p : ℕ) (marks order numbers : List ℕ) (o : IsOrder marks order numbers) (lt : p < 16)
-    where
-  abbrev slot : ℕ
-  slot = get_or order p 0
+  where
+    abbrev slot : ℕ
+    slot = get_or order p 0
 
-  in_order : p < length order
-  in_order = omega (arith, o.order_len, lt)
+    in_order : p < length order
+    in_order = omega (arith, o.order_len, lt)
 
-  pub turned_long : length (turned p order) ≡ 16
-  turned_long = length-remove order p in_order ∙ o.order_len
+    pub turned_long : length (turned p order) ≡ 16
+    turned_long = length-remove order p in_order ∙ o.order_len
 
-  -- where the entry at k of the others stood
-  behind_lt : (k : ℕ) → suc k < 16 → source p (suc k) < 16
-  behind_lt k h = source-lt p (suc k) 16 lt h
+    -- where the entry at k of the others stood
+    behind_lt : (k : ℕ) → suc k < 16 → source p (suc k) < 16
+    behind_lt k h = source-lt p (suc k) 16 lt h
 
-  behind_not : (k : ℕ) → source p (suc k) ≡ p → ⊥
-  behind_not k e = absurd (omega (arith, source_once p (suc k) 0 e))
+    behind_not : (k : ℕ) → source p (suc k) ≡ p → ⊥
+    behind_not k e = absurd (omega (arith, source_once p (suc k) 0 e))
 
-  -- `entries` are one for each slot, which is written with v
-  module _ (entries : List ℕ) (long : length entries ≡ 16) (v : ℕ) where
-    abbrev written : List ℕ
-    written = set entries slot v
+    -- `entries` are one for each slot, which is written with v
+    module _ (entries : List ℕ) (long : length entries ≡ 16) (v : ℕ) where
+      abbrev written : List ℕ
+      written = set entries slot v
 
-    in_entries : slot < length entries
-    in_entries = omega (arith, long, o.within p)
+      in_entries : slot < length entries
+      in_entries = omega (arith, long, o.within p)
 
-    front_entry : get_or written slot 0 ≡ v
-    front_entry = get_or-set_same entries slot v 0 in_entries
+      front_entry : get_or written slot 0 ≡ v
+      front_entry = get_or-set_same entries slot v 0 in_entries
 
-    other_entry : (k : ℕ) → suc k < 16 →
-        get_or written (get_or order (source p (suc k)) 0) 0 ≡
-        get_or entries (get_or order (source p (suc k)) 0) 0
-    other_entry k h = get_or-set_other entries slot (get_or order (source p (suc k)) 0) v 0
-        (λ e. behind_not k (o.once (source p (suc k)) p (behind_lt k h) lt e))
+      other_entry : (k : ℕ) → suc k < 16 →
+          get_or written (get_or order (source p (suc k)) 0) 0 ≡
+          get_or entries (get_or order (source p (suc k)) 0) 0
+      other_entry k h = get_or-set_other entries slot (get_or order (source p (suc k)) 0) v 0
+          (λ e. behind_not k (o.once (source p (suc k)) p (behind_lt k h) lt e))
 
-    whole_long : length (ordered_numbers order entries 16) ≡ 16
-    whole_long = length-ordered_numbers order entries 16 (omega (arith, o.order_len))
+      whole_long : length (ordered_numbers order entries 16) ≡ 16
+      whole_long = length-ordered_numbers order entries 16 (omega (arith, o.order_len))
 
-    put_at : (k : ℕ) → k < 16 → get_or (ordered_numbers (turned p order) written 16) k 0 ≡
-        get_or (v ∷ remove (ordered_numbers order entries 16) p) k 0
-    put_at zero h = ordered_numbers_at (turned p order) written 16 zero
-        (omega (arith, turned_long)) h ∙ front_entry
-    put_at (suc k) h =
-        ordered_numbers_at (turned p order) written 16 (suc k) (omega (arith, turned_long)) h
-        ∙ ap (λ s. get_or written s 0) (turned_at p (suc k) order in_order)
-        ∙ other_entry k h
-        ∙ sym (ordered_numbers_at order entries 16 (source p (suc k)) (omega (arith, o.order_len))
-        (behind_lt k h))
-        ∙ sym (turned_at p (suc k) (ordered_numbers order entries 16)
-        (omega (arith, whole_long, lt)))
+      put_at : (k : ℕ) → k < 16 → get_or (ordered_numbers (turned p order) written 16) k 0 ≡
+          get_or (v ∷ remove (ordered_numbers order entries 16) p) k 0
+      put_at zero h = ordered_numbers_at (turned p order) written 16 zero
+          (omega (arith, turned_long)) h ∙ front_entry
+      put_at (suc k) h =
+          ordered_numbers_at (turned p order) written 16 (suc k) (omega (arith, turned_long)) h
+          ∙ ap (λ s. get_or written s 0) (turned_at p (suc k) order in_order)
+          ∙ other_entry k h
+          ∙ sym (ordered_numbers_at order entries 16 (source p (suc k)) (omega (arith, o.order_len))
+          (behind_lt k h))
+          ∙ sym (turned_at p (suc k) (ordered_numbers order entries 16)
+          (omega (arith, whole_long, lt)))
 
-    pub put_entry : ordered_numbers (turned p order) written 16 ≡
-        v ∷ remove (ordered_numbers order entries 16) p
-    put_entry =
-        let all : length (ordered_numbers (turned p order) written 16) ≡ 16 =
-        length-ordered_numbers (turned p order) written 16 (omega (arith, turned_long)) in
-        ext_get_or 0 (ordered_numbers (turned p order) written 16)
-        (v ∷ remove (ordered_numbers order entries 16) p)
-        (all ∙ sym (length-remove (ordered_numbers order entries 16) p
-        (omega (arith, whole_long, lt)) ∙
-        whole_long))
-        (λ k h. put_at k (omega (arith, h, all)))
+      pub put_entry : ordered_numbers (turned p order) written 16 ≡
+          v ∷ remove (ordered_numbers order entries 16) p
+      put_entry =
+          let all : length (ordered_numbers (turned p order) written 16) ≡ 16 =
+          length-ordered_numbers (turned p order) written 16 (omega (arith, turned_long)) in
+          ext_get_or 0 (ordered_numbers (turned p order) written 16)
+          (v ∷ remove (ordered_numbers order entries 16) p)
+          (all ∙ sym (length-remove (ordered_numbers order entries 16) p
+          (omega (arith, whole_long, lt)) ∙
+          whole_long))
+          (λ k h. put_at k (omega (arith, h, all)))
 
-  -- number y and its mark
-  module _ (y mark : ℕ) (is : mark ≡ mark_of y) where
-    abbrev numbers_then : List ℕ
-    numbers_then = set numbers slot y
+    -- number y and its mark
+    module _ (y mark : ℕ) (is : mark ≡ mark_of y) where
+      abbrev numbers_then : List ℕ
+      numbers_then = set numbers slot y
 
-    in_marks : p < length marks
-    in_marks = omega (arith, o.marks_len, lt)
+      in_marks : p < length marks
+      in_marks = omega (arith, o.marks_len, lt)
 
-    marked_at : (k : ℕ) → k < 16 → get_or (mark ∷ remove marks p) k 0 ≡
-        mark_of (get_or numbers_then (get_or (turned p order) k 0) 0)
-    marked_at zero h = is ∙ ap mark_of (sym (front_entry numbers o.numbers_len y))
-    marked_at (suc k) h =
-        turned_at p (suc k) marks in_marks
-        ∙ o.marked (source p (suc k)) (behind_lt k h)
-        ∙ ap mark_of (sym (other_entry numbers o.numbers_len y k h))
-        ∙ ap (λ s. mark_of (get_or numbers_then s 0)) (sym (turned_at p (suc k) order in_order))
+      marked_at : (k : ℕ) → k < 16 → get_or (mark ∷ remove marks p) k 0 ≡
+          mark_of (get_or numbers_then (get_or (turned p order) k 0) 0)
+      marked_at zero h = is ∙ ap mark_of (sym (front_entry numbers o.numbers_len y))
+      marked_at (suc k) h =
+          turned_at p (suc k) marks in_marks
+          ∙ o.marked (source p (suc k)) (behind_lt k h)
+          ∙ ap mark_of (sym (other_entry numbers o.numbers_len y k h))
+          ∙ ap (λ s. mark_of (get_or numbers_then s 0)) (sym (turned_at p (suc k) order in_order))
 
-    pub put_order : IsOrder (mark ∷ remove marks p) (turned p order) numbers_then
-    put_order = record {
-      marks_len = length-remove marks p in_marks ∙ o.marks_len;
-      order_len = turned_long;
-      numbers_len = length-set numbers slot y ∙ o.numbers_len;
-      within = λ k. subst (λ s. s < 16) (sym (turned_at p k order in_order))
-          (o.within (source p k));
-      once = λ i k a b e. source_once p i k (o.once (source p i) (source p k)
-          (source-lt p i 16 lt a) (source-lt p k 16 lt b)
-          (sym (turned_at p i order in_order) ∙ e ∙ turned_at p k order in_order));
-      marked = marked_at;
-    }
+      pub put_order : IsOrder (mark ∷ remove marks p) (turned p order) numbers_then
+      put_order = record {
+        marks_len = length-remove marks p in_marks ∙ o.marks_len;
+        order_len = turned_long;
+        numbers_len = length-set numbers slot y ∙ o.numbers_len;
+        within = λ k. subst (λ s. s < 16) (sym (turned_at p k order in_order))
+            (o.within (source p k));
+        once = λ i k a b e. source_once p i k (o.once (source p i) (source p k)
+            (source-lt p i 16 lt a) (source-lt p k 16 lt b)
+            (sym (turned_at p i order in_order) ∙ e ∙ turned_at p k order in_order));
+        marked = marked_at;
+      }
 
-    pub put_numbers : ordered_numbers (turned p order) numbers_then 16 ≡
-        y ∷ remove (ordered_numbers order numbers 16) p
-    put_numbers = put_entry numbers o.numbers_len y
+      pub put_numbers : ordered_numbers (turned p order) numbers_then 16 ≡
+          y ∷ remove (ordered_numbers order numbers 16) p
+      put_numbers = put_entry numbers o.numbers_len y
 
 -- the order of no block
 abbrev pub counted_slots : List ℕ

@@ -74,12 +74,12 @@ lent_is c =
 pub add_list-requires-clause-above_few : goal.add_list-requires-clause-above_few
 add_list-requires-clause-above_few c =
     let at = (goal.at.add_list-requires-clause-above_few c).After-deref in
-    omega (arith, ap length (lent_is at), c.requires.above_few)
+    omega (arith, ap length (lent_is at), c.requires.above)
 
 pub add_list-requires-clause-few : goal.add_list-requires-clause-few
 add_list-requires-clause-few c =
     let at = (goal.at.add_list-requires-clause-few c).After-deref in
-    omega (arith, ap length (lent_is at), c.requires.few)
+    omega (arith, ap length (lent_is at), c.requires.up_to)
 
 pub index_mut-requires : goal.index_mut-requires
 index_mut-requires c =

@@ -6,7 +6,8 @@ use Rattle.full_profile.specs.internal.Marked.{blocks_in, cleans_in}
 use Rattle.full_profile.specs.internal.Slotted.{IsInSlots}
 use Rattle.full_profile.proofs.marked_lists.ListsInSlots.{known, within, front_within, clean_within}
 use Rattle.full_profile.proofs.marked_lists.ListsInSlots.{depth_is, list_lent, put_sound, put_lists}
-use Rattle.full_profile.proofs.marked_lists.ListsInSlots.{first_blocks, first_cleans, blocks_size, cleans_size}
+use Rattle.full_profile.proofs.marked_lists.ListsInSlots.{first_blocks, first_cleans, blocks_size}
+use Rattle.full_profile.proofs.marked_lists.ListsInSlots.{cleans_size}
 use Rattle.full_profile.proofs.marked_lists.ListsInSlots.{begun, begun_in_slots}
 use Rattle.full_profile.proofs.marked_lists.slotted.SlottedLists.begin.Goals as goal
 

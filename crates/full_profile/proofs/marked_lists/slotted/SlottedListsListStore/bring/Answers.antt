@@ -6,8 +6,10 @@ use Rattle.std.proofs.Common.{take, false}
 use Rattle.full_profile.specs.internal.Marked.{blocks_in, cleans_in, marked_touch_of, cleans_after}
 use Rattle.full_profile.specs.internal.Slotted.{blocks_behind, listed_blocks, listed_cleans}
 use Rattle.full_profile.proofs.marked_lists.ListsInSlots.{known, within, front_within, clean_within}
-use Rattle.full_profile.proofs.marked_lists.ListsInSlots.{depth_is, list_read, list_lent, lent_blocks, lent_cleans}
-use Rattle.full_profile.proofs.marked_lists.ListsInSlots.{blocks_size, put_sound, put_lists, first_touch, not_front}
+use Rattle.full_profile.proofs.marked_lists.ListsInSlots.{depth_is, list_read, list_lent}
+use Rattle.full_profile.proofs.marked_lists.ListsInSlots.{lent_blocks, lent_cleans}
+use Rattle.full_profile.proofs.marked_lists.ListsInSlots.{blocks_size, put_sound, put_lists}
+use Rattle.full_profile.proofs.marked_lists.ListsInSlots.{first_touch, not_front}
 use Rattle.full_profile.proofs.marked_lists.slotted.SlottedListsListStore.bring.Goals as goal
 
 pub index-requires : goal.index-requires

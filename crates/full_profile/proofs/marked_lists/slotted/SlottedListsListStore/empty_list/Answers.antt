@@ -5,7 +5,8 @@ use Rattle.full_profile.specs.declared.marked_lists.slotted.ListSlots.{ListSlots
 use Rattle.full_profile.specs.internal.Copies.{with_copies_of, up_to_of}
 use Rattle.full_profile.specs.internal.Marked.{blocks_in, cleans_in}
 use Rattle.full_profile.proofs.marked_lists.ListsInSlots.{known, within, front_within, clean_within}
-use Rattle.full_profile.proofs.marked_lists.ListsInSlots.{depth_is, list_read, list_lent, lent_cleans}
+use Rattle.full_profile.proofs.marked_lists.ListsInSlots.{depth_is, list_read, list_lent}
+use Rattle.full_profile.proofs.marked_lists.ListsInSlots.{lent_cleans}
 use Rattle.full_profile.proofs.marked_lists.ListsInSlots.{emptied_sound, list_emptied}
 use Rattle.full_profile.proofs.marked_lists.ListsInSlots.{cleans_size}
 use Rattle.full_profile.proofs.marked_lists.slotted.SlottedListsListStore.empty_list.Goals as goal
@@ -84,12 +85,12 @@ add_list-requires-clause-short c =
 pub add_list-requires-clause-above_few : goal.add_list-requires-clause-above_few
 add_list-requires-clause-above_few c =
     let at = (goal.at.add_list-requires-clause-above_few c).After-cleans-cleans in
-    omega (arith, ap length (lent_is at), c.requires.above_few)
+    omega (arith, ap length (lent_is at), c.requires.above)
 
 pub add_list-requires-clause-few : goal.add_list-requires-clause-few
 add_list-requires-clause-few c =
     let at = (goal.at.add_list-requires-clause-few c).After-cleans-cleans in
-    omega (arith, ap length (lent_is at), c.requires.few)
+    omega (arith, ap length (lent_is at), c.requires.up_to)
 
 pub index_mut-requires : goal.index_mut-requires
 index_mut-requires c = omega (

@@ -1,6 +1,7 @@
 -- The front of an empty list is 0.
 use Rattle.std.proofs.Common.{◌∙◌, arith}
-use Rattle.full_profile.proofs.marked_lists.ListsInSlots.{known, front_within, front_read, first_block}
+use Rattle.full_profile.proofs.marked_lists.ListsInSlots.{known, front_within, front_read}
+use Rattle.full_profile.proofs.marked_lists.ListsInSlots.{first_block}
 use Rattle.full_profile.proofs.marked_lists.slotted.SlottedListsListStore.front.Goals as goal
 
 pub index-requires : goal.index-requires

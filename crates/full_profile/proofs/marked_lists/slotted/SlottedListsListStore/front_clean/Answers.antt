@@ -1,6 +1,7 @@
 -- The clean depth of the front is kept apart.
 use Rattle.std.proofs.Common.{◌∙◌, arith}
-use Rattle.full_profile.proofs.marked_lists.ListsInSlots.{known, clean_within, clean_read, first_clean}
+use Rattle.full_profile.proofs.marked_lists.ListsInSlots.{known, clean_within, clean_read}
+use Rattle.full_profile.proofs.marked_lists.ListsInSlots.{first_clean}
 use Rattle.full_profile.proofs.marked_lists.slotted.SlottedListsListStore.front_clean.Goals as goal
 
 pub index-requires : goal.index-requires
