@@ -4,3 +4,5 @@ pub mod Parts
 pub mod ListsInRows
 pub mod Emptying
 pub mod Touching
+pub mod SlotMoves
+pub mod ListsInSlots

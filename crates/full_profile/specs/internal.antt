@@ -1,5 +1,7 @@
 pub mod Copies
+pub mod KeptFull
 pub mod Marked
 pub mod Profile
 pub mod Rows
+pub mod Slotted
 pub mod Sound
