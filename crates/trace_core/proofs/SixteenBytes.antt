@@ -53,7 +53,8 @@ lowered_lanes b (suc n) (x ∷ xs) small long fits =
 
 pub lowered_is : (xs : List ℕ) (b : ℕ) → b < 256 → length xs ≡ 16 → Each1 (Fits w8) xs →
     zip2 (λ a c. (a + (256 - c)) % 256)
-    (sel_l (map (top 7) (zip2 (λ a c. cond (ltb a c) 255 0) xs (replicate 16 b))) (replicate 16 b) xs)
+    (sel_l (map (top 7) (zip2 (λ a c. cond (ltb a c) 255 0) xs (replicate 16 b)))
+    (replicate 16 b) xs)
     (replicate 16 b) ≡ map (λ c. c - b) xs
 lowered_is xs b small long fits =
     ap (λ m. zip2 (λ a c. (a + (256 - c)) % 256) (sel_l m (replicate 16 b) xs) (replicate 16 b))
@@ -65,14 +66,16 @@ raised_one x b x_fits b_fits = by_case (ltb b (255 - x)) (ltb 255 (x + b)) refl 
   where
     by_case : (s t : Bool) → ltb b (255 - x) ≡ s → ltb 255 (x + b) ≡ t →
         (x + cond s b (255 - x)) % 256 ≡ cond t 255 (x + b)
-    by_case true true is at = absurd (omega (arith, ltb-true b (255 - x) is, ltb-true 255 (x + b) at))
+    by_case true true is at = absurd
+        (omega (arith, ltb-true b (255 - x) is, ltb-true 255 (x + b) at))
     by_case true false is at = omega (arith, ltb-true b (255 - x) is, ltb-false 255 (x + b) at)
     by_case false true is at = omega (arith, ltb-false b (255 - x) is, ltb-true 255 (x + b) at)
     by_case false false is at = omega (arith, ltb-false b (255 - x) is, ltb-false 255 (x + b) at)
 
 raised_lanes : (b n : ℕ) (xs : List ℕ) → b < 256 → length xs ≡ n → Each1 (Fits w8) xs →
     zip2 (λ a c. (a + c) % 256) xs
-    (sel_l (zip2 ltb (replicate n b) (map (λ a. 255 - a) xs)) (replicate n b) (map (λ a. 255 - a) xs))
+    (sel_l (zip2 ltb (replicate n b) (map (λ a. 255 - a) xs)) (replicate n b)
+    (map (λ a. 255 - a) xs))
     ≡ map (λ c. cond (ltb 255 (c + b)) 255 (c + b)) xs
 raised_lanes b n [] small long fits = refl
 raised_lanes b zero (x ∷ xs) small long fits = absurd (omega arith)

@@ -22,20 +22,20 @@ hit-requires-clause-at g c =
 
 pub returns-clause-slab : goal.returns-clause-slab
 returns-clause-slab g c =
-    hit_kept c.args.design c.args.filled.now c.set_of-number.result c.e-ways.result c.args.slots.now
-    c.hit.new.set c.requires.slab c.e-ways.ensures.value c.set_of-number.ensures.within
-    (omega arith) c.hit.ensures.addresses
+    hit_kept c.args.design c.args.filled.now c.set_of-number.result c.e-ways.result
+    c.args.slots.now c.hit.new.set c.requires.slab c.e-ways.ensures.value
+    c.set_of-number.ensures.within (omega arith) c.hit.ensures.addresses
 
 pub returns-clause-access : goal.returns-clause-access
 returns-clause-access g c =
-    hit_access c.args.design c.args.filled.now c.set_of-number.result c.e-ways.result c.args.slots.now
-    c.hit.new.set c.requires.slab c.e-ways.ensures.value c.set_of-number.ensures.within
-    (omega arith) _ _ _ _ c.args.reference c.hit.result c.hit.ensures.visit
+    hit_access c.args.design c.args.filled.now c.set_of-number.result c.e-ways.result
+    c.args.slots.now c.hit.new.set c.requires.slab c.e-ways.ensures.value
+    c.set_of-number.ensures.within (omega arith) _ _ _ _ c.args.reference c.hit.result c.hit.ensures.visit
     c.set_of-number.ensures.value c.hit.ensures.policy
 
 pub returns-clause-dirty : goal.returns-clause-dirty
 returns-clause-dirty g c =
-    hit_dirty c.args.design c.args.filled.now c.set_of-number.result c.e-ways.result c.args.slots.now
-    c.hit.new.set c.requires.slab c.e-ways.ensures.value c.set_of-number.ensures.within
-    (omega arith) _ (g.P.Replacement.policy c.args.policy.now) _ _
+    hit_dirty c.args.design c.args.filled.now c.set_of-number.result c.e-ways.result
+    c.args.slots.now c.hit.new.set c.requires.slab c.e-ways.ensures.value
+    c.set_of-number.ensures.within (omega arith) _ (g.P.Replacement.policy c.args.policy.now) _ _
     c.args.reference c.hit.result c.hit.ensures.visit
