@@ -1,7 +1,7 @@
 -- What a profile answers is what the definitions say of the events that it stands for.
-use Rattle.std.proofs.Common.{◌≡◌, ℕ, ◌+◌, ◌*◌, ◌≤◌, ◌^◌, Bool, true, false, not, ◌&&◌, cond, eqb}
+use Rattle.std.proofs.Common.{◌≡◌, ℕ, ◌+◌, ◌*◌, ◌≤◌, Bool, true, false, not, ◌&&◌, cond, eqb}
 use Rattle.std.proofs.Common.{ltb, leb, min, List, [], ◌∷◌, length, take, drop, map, sum, refl, sym}
-use Rattle.std.proofs.Common.{◌∙◌, ap, subst, arith, get_or, length-take}
+use Rattle.std.proofs.Common.{◌∙◌, ap, subst, arith, get_or}
 use Rattle.std.specs.List.{count_by, sum_by, range_with_len}
 use Rattle.std.proofs.lemmas.Bool.Decides.{nat_tests}
 use Rattle.std.proofs.lemmas.List.{take_all}
@@ -11,10 +11,10 @@ use Rattle.trace_core.specs.declared.events.Event.{Event}
 use Rattle.trace_core.specs.declared.events.Event.TheVariants as event
 use Rattle.cache_core.specs.Geometry.{GeometryValue, block_of}
 use Rattle.cache_core.specs.Windows.{Occurrence, distinct_of_set, has_last, distance, blocks_seen}
-use Rattle.cache_core.specs.Windows.{is_hit, window, occurrences, probes, held, counts}
+use Rattle.cache_core.specs.Windows.{is_hit, window, occurrences, probes, counts}
 use Rattle.cache_core.proofs.Occurrences.{occurrences_from, occurrences-from}
 use Rattle.cache_core.specs.declared.outcome.Counts.{Counts}
-use Rattle.profile_core.specs.profile.State.{ProfileState, fed_of, held_of, counts_at}
+use Rattle.profile_core.specs.profile.State.{ProfileState, fed_of, counts_at}
 use Rattle.profile_core.specs.profile.ProfileStandsFor.{ProfileStandsFor}
 use Rattle.profile_core.proofs.profile.Sums.{sum-counts}
 use Rattle.profile_core.proofs.profile.Steps.{Finds, finds}

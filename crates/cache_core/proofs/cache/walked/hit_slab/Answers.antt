@@ -30,7 +30,8 @@ pub returns-clause-access : goal.returns-clause-access
 returns-clause-access g c =
     hit_access c.args.design c.args.filled.now c.set_of-number.result c.e-ways.result
     c.args.slots.now c.hit.new.set c.requires.slab c.e-ways.ensures.value
-    c.set_of-number.ensures.within (omega arith) _ _ _ _ c.args.reference c.hit.result c.hit.ensures.visit
+    c.set_of-number.ensures.within (omega arith) _ _ _ _ c.args.reference c.hit.result
+    c.hit.ensures.visit
     c.set_of-number.ensures.value c.hit.ensures.policy
 
 pub returns-clause-dirty : goal.returns-clause-dirty
