@@ -1,4 +1,5 @@
 pub mod Copies
+pub mod KeptFull
 pub mod Marked
 pub mod Profile
 pub mod Rows
