@@ -4,3 +4,6 @@ pub mod Parts
 pub mod ListsInRows
 pub mod Emptying
 pub mod Touching
+pub mod TwoParts
+pub mod LongLists
+pub mod LongBringing

@@ -36,7 +36,7 @@ length-joined (xs ∷ near) [] = refl
 length-joined (xs ∷ near) (d ∷ far) = ap suc (length-joined near far)
 
 -- the list of set k written anew
-joined-set : {V : Type 0} (near : List (List ℕ)) (far : List (Deep V)) (k : ℕ) (xs : List ℕ) (d : Deep V) →
+pub joined-set : {V : Type 0} (near : List (List ℕ)) (far : List (Deep V)) (k : ℕ) (xs : List ℕ) (d : Deep V) →
     k < length near → k < length far
     → whole_lists (set near k xs) (set far k d) ≡ set (whole_lists near far) k (xs ++ d.blocks)
 joined-set [] far k xs d lt within = absurd (omega arith)
@@ -289,10 +289,11 @@ module _ {V : Type 0} {near : Lists} {beyond : ℕ} {far : List (Deep V)} (s : A
   pub far_held : sum_by (λ (d : Deep V). length d.blocks) far ≤ length near.lists * beyond
   far_held = omega (arith, far_sum far beyond s.rest_short, mul-le-mul_right beyond far_few)
 
-abbrev empty_list : (V : Type 0) → ℕ → Deep V
+-- no blocks yet
+abbrev pub empty_list : (V : Type 0) → ℕ → Deep V
 empty_list V cap = record { cap = cap; blocks = []; values = [] }
 
-empty_rest : (V : Type 0) (n cap k : ℕ) → rest_of (replicate n (empty_list V cap)) k ≡ []
+pub empty_rest : (V : Type 0) (n cap k : ℕ) → rest_of (replicate n (empty_list V cap)) k ≡ []
 empty_rest V zero cap k = refl
 empty_rest V (suc n) cap zero = refl
 empty_rest V (suc n) cap (suc k) = empty_rest V n cap k
