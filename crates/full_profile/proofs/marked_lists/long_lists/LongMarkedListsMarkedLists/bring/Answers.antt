@@ -33,3 +33,65 @@ exchange-requires-clause-short c =
     let h = known c.self.invariant c.self.view_is c.requires in
     rest_small h c.args.block c.in-Full.ensures.found c.last.ensures c.index_mut.result.now
     (far_read h c.index_mut.ensures.value)
+
+-- the row is full, and the block was not in it
+module _ (c : In-Full) where
+  whole_found : c.exchange-touch.result ≡ marked_touch_of c.args.self.now.depth c.args.block
+      (blocks_in c.args.self.now c.args.set) (cleans_in c.args.self.now c.args.set)
+  whole_found =
+      let h = known c.self.invariant c.self.view_is c.requires in
+      c.exchange-touch.ensures.found
+      ∙ full_found h c.args.block c.in-Full.ensures.found c.last-last.ensures c.depth-row.result
+      c.index_mut.result.now c.depth-row.ensures (far_read h c.index_mut.ensures.value)
+
+pub front_clean-requires-clause-small : goal.front_clean-requires-clause-small
+front_clean-requires-clause-small c =
+    let h = known c.self.invariant c.self.view_is c.requires in
+    omega (arith, c.depth-depth.ensures, depth_is h, h.sound.small)
+
+pub front_clean-requires-clause-within : goal.front_clean-requires-clause-within
+front_clean-requires-clause-within c =
+    let h = known c.self.invariant c.self.view_is c.requires in
+    let m = c.args.self.now in
+    subst (λ d. IsWithin d c.exchange-touch.result) (sym c.depth-depth.ensures)
+    (found_within m.depth c.args.block (blocks_in m c.args.set) (cleans_in m c.args.set)
+    (whole_long h) (whole_found c))
+
+pub mark_front-requires-clause-within : goal.mark_front-requires-clause-within
+mark_front-requires-clause-within c =
+    brought_set (known c.self.invariant c.self.view_is c.requires) c.args.block c.args.access
+    c.bring-touch.ensures.moved
+
+pub mark_front-requires-clause-some : goal.mark_front-requires-clause-some
+mark_front-requires-clause-some c =
+    brought_some (known c.self.invariant c.self.view_is c.requires) c.args.block c.args.access
+    c.bring-touch.ensures.moved
+
+pub invariant_of-self : goal.invariant_of-self
+invariant_of-self c =
+    let h = known c.self.invariant c.self.view_is c.requires in
+    let read = far_read h c.index_mut.ensures.value in
+    let put = full_written h c.args.block c.in-Full.ensures.found c.last-last.ensures c.args.access
+    c.front_clean.result (whole_found c)
+    (c.front_clean.ensures ∙ ap (λ d. front_clean_of d c.args.access c.exchange-touch.result)
+    c.depth-depth.ensures)
+    c.bring-touch.ensures.moved c.mark_front.ensures c.exchange-touch.new.rest
+    (c.exchange-touch.ensures.moved
+    ∙ ap (λ d. list_after_exchange d c.args.block c.last-last.result c.in-Full.clean) read) in
+    put.sound
+
+pub returns-in-Full-clause-found : goal.returns-in-Full-clause-found
+returns-in-Full-clause-found c = whole_found c
+
+pub returns-in-Full-clause-moved : goal.returns-in-Full-clause-moved
+returns-in-Full-clause-moved c =
+    let h = known c.self.invariant c.self.view_is c.requires in
+    let read = far_read h c.index_mut.ensures.value in
+    let put = full_written h c.args.block c.in-Full.ensures.found c.last-last.ensures c.args.access
+    c.front_clean.result (whole_found c)
+    (c.front_clean.ensures ∙ ap (λ d. front_clean_of d c.args.access c.exchange-touch.result)
+    c.depth-depth.ensures)
+    c.bring-touch.ensures.moved c.mark_front.ensures c.exchange-touch.new.rest
+    (c.exchange-touch.ensures.moved
+    ∙ ap (λ d. list_after_exchange d c.args.block c.last-last.result c.in-Full.clean) read) in
+    put.seen

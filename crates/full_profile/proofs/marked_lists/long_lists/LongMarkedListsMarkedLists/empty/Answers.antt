@@ -1,0 +1,65 @@
+-- The list of each set is emptied.
+use Rattle.std.proofs.Common.{◌≡◌, ◌∙◌, ◌<◌, ℕ, [], get_or, set, length, ap, arith, inl, inr, subst}
+use Rattle.std.proofs.Common.{get_or-set_same, get_or-set_other}
+use Rattle.std.proofs.lemmas.Bool.{cases_eq}
+use Rattle.full_profile.specs.internal.Marked.{blocks_in, AreAlike}
+use Rattle.full_profile.proofs.marked_lists.Emptying.{one_less, none_left, all_counted, all_left}
+use Rattle.full_profile.proofs.marked_lists.Emptying.{none_behind}
+use Rattle.full_profile.proofs.marked_lists.LongLists.{whole_alike, whole_count}
+use Rattle.full_profile.proofs.marked_lists.long_lists.LongMarkedListsMarkedLists.empty.Goals as goal
+use Rattle.full_profile.proofs.marked_lists.long_lists.LongMarkedListsMarkedLists.empty.Goals.{After-loop-set}
+
+pub loop-set-init : goal.loop-set-init
+loop-set-init c = record {
+  left = all_left c.args.emptying c.args.self.now c.args.copies.now
+      (subst AreAlike c.self.view_is (whole_alike c.self.invariant)) c.requires;
+  passed = λ k lt. absurd (omega (arith, lt));
+}
+
+pub loop-set-preserved : goal.loop-set-preserved
+loop-set-preserved c =
+    let n : ℕ = c.loop-set.set in
+    let now = c.loop-set.self in
+    let within : n < length now.blocks = omega (
+      arith,
+      c.loop-set-test.true,
+      c.loop-set.invariant.left.set_count,
+      c.len-set-end.ensures,
+      c.self.inside.far.ok.0,
+      whole_count c.self.invariant,
+      ap (λ m. length m.blocks) c.self.view_is,
+    ) in
+    record {
+      left = one_less c.loop-set.invariant.left n within c.empty_list.new.self
+          c.empty_list.new.copies c.empty_list.ensures.lists c.empty_list.ensures.copies;
+      passed = λ k lt.
+          ap (λ m. blocks_in m k) c.empty_list.ensures.lists ∙ elim (cases_eq k n) [
+            | inl same ↦ ap (λ j. get_or (set now.blocks n []) j []) same ∙
+                get_or-set_same now.blocks n [] [] within
+            | inr other ↦ get_or-set_other now.blocks n k [] [] other ∙
+                c.loop-set.invariant.passed k (omega (arith, lt, other))
+          ];
+    }
+
+none_there : (c : After-loop-set) → (k : ℕ) → blocks_in c.loop-set.self k ≡ []
+none_there c = none_behind c.loop-set.self.blocks c.loop-set.set
+    (omega (
+      arith,
+      c.loop-set-test.false,
+      c.loop-set.invariant.left.set_count,
+      c.len-set-end.ensures,
+      c.self.inside.far.ok.0,
+      whole_count c.self.invariant,
+      ap (λ m. length m.blocks) c.self.view_is,
+    ))
+    c.loop-set.invariant.passed
+
+pub returns-clause-lists : goal.returns-clause-lists
+returns-clause-lists c =
+    none_left c.loop-set.invariant.left
+    (none_there (goal.at.returns-clause-lists c).After-loop-set)
+
+pub returns-clause-copies : goal.returns-clause-copies
+returns-clause-copies c =
+    all_counted c.loop-set.invariant.left
+    (none_there (goal.at.returns-clause-copies c).After-loop-set)
