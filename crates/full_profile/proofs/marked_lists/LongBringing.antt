@@ -338,7 +338,6 @@ module _ {near : Marked} {beyond : ℕ} {far : List (Deep ℕ)} {k : ℕ} {m : M
     full_written {touch} access c at is {near'} {near''} moved marked d put_is =
         let made = brought_is h x c access moved marked in
         let split = (full_renewed is_full d clean put_is (ap plain_lists made)).sound in
-        let old : Deep ℕ = get_or far k nothing in
         let bs : List ℕ = take near.depth (move_to_front x (row h)) in
         let cs : List ℕ = take near.depth (c ∷ remove (marks h) index) in
         let d_blocks : d.blocks ≡ take beyond (last ∷ remove (rest h) behind) =
@@ -412,27 +411,27 @@ module _ {near : Marked} {beyond : ℕ} {far : List (Deep ℕ)} {k : ℕ} {m : M
       let same : set far k d ≡ far = set-get_or far k nothing in
       let in_row : 0 < length (marks h) = omega (arith, marks_long h, some_in_row some) in
       let cs : List ℕ = set (marks h) 0 c in
-      let of : List (List ℕ) → Marked = λ bs. record near {
+      let made : List (List ℕ) → Marked = λ bs. record near {
         blocks = bs;
         cleans = set near.cleans k cs;
       } in
       let kept : set near.blocks k (row h) ≡ near.blocks = set-get_or near.blocks k [] in
       let put = written h (row h) cs d (length-set (marks h) 0 c ∙ marks_long h) (values_long h)
-      (subst (λ f. AreSplit (plain_lists (of (set near.blocks k (row h)))) beyond f) (sym same)
-      (subst (λ bs. AreSplit (plain_lists (of bs)) beyond far) (sym kept) h.sound.split)) in
+      (subst (λ f. AreSplit (plain_lists (made (set near.blocks k (row h)))) beyond f) (sym same)
+      (subst (λ bs. AreSplit (plain_lists (made bs)) beyond far) (sym kept) h.sound.split)) in
       let blocks : set m.blocks k (row h ++ rest h) ≡ m.blocks =
       ap (set m.blocks k) (sym (blocks_are h)) ∙ set-get_or m.blocks k [] in
       let cleans : cs ++ values h ≡ set (cleans_in m k) 0 c =
       sym (first_set c (marks h) (values h) in_row) ∙ ap (λ l. set l 0 c) (sym (cleans_are h)) in
       subst (λ n. IsWritten n beyond far (after_mark_in_front m k c)) (sym marked)
-      (subst (λ bs. IsWritten (of bs) beyond far (after_mark_in_front m k c)) kept
-      (subst (λ f. IsWritten (of (set near.blocks k (row h))) beyond f
+      (subst (λ bs. IsWritten (made bs) beyond far (after_mark_in_front m k c)) kept
+      (subst (λ f. IsWritten (made (set near.blocks k (row h))) beyond f
       (after_mark_in_front m k c)) same
-      (subst (λ bs. IsWritten (of (set near.blocks k (row h))) beyond (set far k d) (record m {
+      (subst (λ bs. IsWritten (made (set near.blocks k (row h))) beyond (set far k d) (record m {
         blocks = bs;
         cleans = set m.cleans k (set (cleans_in m k) 0 c);
       })) blocks
-      (subst (λ l. IsWritten (of (set near.blocks k (row h))) beyond (set far k d) (record m {
+      (subst (λ l. IsWritten (made (set near.blocks k (row h))) beyond (set far k d) (record m {
         blocks = set m.blocks k (row h ++ rest h);
         cleans = set m.cleans k l;
       })) cleans put))))

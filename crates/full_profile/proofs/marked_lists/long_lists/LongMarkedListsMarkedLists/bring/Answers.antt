@@ -10,6 +10,7 @@ use Rattle.full_profile.proofs.marked_lists.LongBringing.{full_apart, full_found
 use Rattle.full_profile.proofs.marked_lists.LongBringing.{settled_found, settled_written}
 use Rattle.full_profile.proofs.marked_lists.LongBringing.{found_within}
 use Rattle.full_profile.proofs.marked_lists.long_lists.LongMarkedListsMarkedLists.bring.Goals as goal
+use Rattle.full_profile.proofs.marked_lists.long_lists.LongMarkedListsMarkedLists.bring.Goals.{After-exchange-touch}
 
 pub last-requires : goal.last-requires
 last-requires c = near_set (known c.self.invariant c.self.view_is c.requires)
@@ -35,7 +36,7 @@ exchange-requires-clause-short c =
     (far_read h c.index_mut.ensures.value)
 
 -- the row is full, and the block was not in it
-module _ (c : In-Full) where
+module _ (c : After-exchange-touch) where
   whole_found : c.exchange-touch.result ≡ marked_touch_of c.args.self.now.depth c.args.block
       (blocks_in c.args.self.now c.args.set) (cleans_in c.args.self.now c.args.set)
   whole_found =
@@ -55,7 +56,7 @@ front_clean-requires-clause-within c =
     let m = c.args.self.now in
     subst (λ d. IsWithin d c.exchange-touch.result) (sym c.depth-depth.ensures)
     (found_within m.depth c.args.block (blocks_in m c.args.set) (cleans_in m c.args.set)
-    (whole_long h) (whole_found c))
+    (whole_long h) (whole_found (goal.at.front_clean-requires-clause-within c).After-exchange-touch))
 
 pub mark_front-requires-clause-within : goal.mark_front-requires-clause-within
 mark_front-requires-clause-within c =
@@ -72,7 +73,7 @@ invariant_of-self c =
     let h = known c.self.invariant c.self.view_is c.requires in
     let read = far_read h c.index_mut.ensures.value in
     let put = full_written h c.args.block c.in-Full.ensures.found c.last-last.ensures c.args.access
-    c.front_clean.result (whole_found c)
+    c.front_clean.result (whole_found (goal.at.invariant_of-self c).After-exchange-touch)
     (c.front_clean.ensures ∙ ap (λ d. front_clean_of d c.args.access c.exchange-touch.result)
     c.depth-depth.ensures)
     c.bring-touch.ensures.moved c.mark_front.ensures c.exchange-touch.new.rest
@@ -81,14 +82,15 @@ invariant_of-self c =
     put.sound
 
 pub returns-in-Full-clause-found : goal.returns-in-Full-clause-found
-returns-in-Full-clause-found c = whole_found c
+returns-in-Full-clause-found c =
+    whole_found (goal.at.returns-in-Full-clause-found c).After-exchange-touch
 
 pub returns-in-Full-clause-moved : goal.returns-in-Full-clause-moved
 returns-in-Full-clause-moved c =
     let h = known c.self.invariant c.self.view_is c.requires in
     let read = far_read h c.index_mut.ensures.value in
     let put = full_written h c.args.block c.in-Full.ensures.found c.last-last.ensures c.args.access
-    c.front_clean.result (whole_found c)
+    c.front_clean.result (whole_found (goal.at.returns-in-Full-clause-moved c).After-exchange-touch)
     (c.front_clean.ensures ∙ ap (λ d. front_clean_of d c.args.access c.exchange-touch.result)
     c.depth-depth.ensures)
     c.bring-touch.ensures.moved c.mark_front.ensures c.exchange-touch.new.rest
