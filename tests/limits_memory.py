@@ -27,10 +27,7 @@ LONG_LISTS = (
     f"If A is {NUMBER} or more, it takes at most {FORMULA} bytes: {NUMBER} MB for one set of "
     f"65,536 ways, {NUMBER} MB for the largest pair"
 )
-FULL = (
-    f"With `--full` a pair takes {FORMULA} bytes instead, with A of {NUMBER} or more at most "
-    f"{FORMULA}, and all pairs together {NUMBER} KiB"
-)
+FULL = f"With `--full` a pair takes {FORMULA} bytes instead, and all pairs together {NUMBER} KiB"
 BATCH = f"All pairs together take {NUMBER} KiB more"
 # of docs/speed.md
 ALL_PAIRS = f"Sweeping all {PAIRS} pairs with one way takes {NUMBER} MB"
@@ -73,8 +70,7 @@ def told_of_pair(sets, ways):
 
 def told_of_full_pair(sets, ways):
     """The same with --full."""
-    formula, deep, most, _ = told_by_the_manual(FULL)
-    return value(most if ways >= deep else formula, sets, ways)
+    return value(told_by_the_manual(FULL)[0], sets, ways)
 
 
 def told_of_cache(sets, ways, policy="l"):
@@ -144,17 +140,13 @@ def bytes_of_pairs(limits, told):
 
 
 def bytes_of_full_pairs(limits, told):
-    """In the full table lists are in rows, the long ones only in part."""
+    """In the full table each list is in rows."""
     for sets, ways in (
-        (1, 1), (2**20, 1), (1024, 2), (4096, 12), (8192, 32), (4096, 255),
+        (1, 1), (2**20, 1), (1024, 2), (4096, 12), (8192, 32), (4096, 255), (1, 256), (4096, 256),
+        (1, WAYS), (64, WAYS),
     ):
         name = f"a full sweep with S = {sets} and A = {ways}"
         limits.takes(name, full_pair(sets, ways), full_pair(16, 1), told)
-    for sets, ways, least in (
-        (1, 256, 0.95), (4096, 256, 0.87), (1, WAYS, 0.995), (64, WAYS, 0.995),
-    ):
-        name = f"a full sweep with S = {sets} and A = {ways}"
-        limits.takes(name, full_pair(sets, ways), full_pair(16, 1), told, least=least)
 
 
 def bytes_of_tables(limits, told):
@@ -192,7 +184,7 @@ def bytes_of_caches(limits, told):
 def bytes_of_buffers(limits, large):
     [batch] = told_by_the_manual(BATCH)
     [buffer, same] = told_by_the_manual(BUFFERS, "docs/speed.md")
-    *_, of_full = told_by_the_manual(FULL)
+    _, of_full = told_by_the_manual(FULL)
     runs = pair(1, 1)[0], full_pair(1, 1)[0], cache("din", 1, 1)[0], ["--help"]
     sweep, full, din, none = (limits.asked(arguments, large)[0] / 1024 for arguments in runs)
     limits.equal("KiB of two buffers", din - none, 2 * buffer)

@@ -4,6 +4,3 @@ pub mod Parts
 pub mod ListsInRows
 pub mod Emptying
 pub mod Touching
-pub mod TwoParts
-pub mod LongLists
-pub mod LongBringing

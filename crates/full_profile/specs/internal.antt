@@ -1,6 +1,5 @@
 pub mod Copies
 pub mod KeptFull
-pub mod LongMarked
 pub mod Marked
 pub mod Profile
 pub mod Rows

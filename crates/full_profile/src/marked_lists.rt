@@ -1,5 +1,4 @@
 //! Recency lists with a clean depth beside each block, in whatever way they are kept.
-pub(crate) mod long_lists;
 pub(crate) mod row;
 pub(crate) mod rows;
 

@@ -52,7 +52,6 @@ macro_rules! in_any_way {
     ($kept:expr, $profile:ident => $result:expr) => {
         match $kept {
             KeptFull::Rows($profile) => $result,
-            KeptFull::Long($profile) => $result,
         }
     };
 }

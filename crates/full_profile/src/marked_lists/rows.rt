@@ -1,12 +1,12 @@
 //! Recency lists in rows, the plainest way: blocks in one array, their clean depths in another, and
 //! a length for each list.
 ghost use Rattle.std.specs.Prelude.{◌≡◌, ◌+◌, ◌*◌, ◌^◌, ◌<◌, ◌≤◌, [], IfOk, length, map, slice_set};
-ghost use Rattle.std.specs.Prelude.{slice_index, sum, sum_by, ◌-◌, ℕ};
+ghost use Rattle.std.specs.Prelude.{slice_index, sum, sum_by, ℕ};
 ghost use Rattle.cache_core.specs.Touched.{ListsFilled};
 ghost use Rattle.full_profile.specs.internal.Copies.{with_copies_of, with_all_copies, up_to_of};
 ghost use Rattle.full_profile.specs.internal.Marked.{blocks_in, cleans_in, empty_marked};
 ghost use Rattle.full_profile.specs.internal.Marked.{marked_touch_of};
-ghost use Rattle.full_profile.specs.internal.Marked.{after_access, after_mark_in_front, emptied};
+ghost use Rattle.full_profile.specs.internal.Marked.{after_access, after_write_in_front, emptied};
 ghost use Rattle.full_profile.specs.internal.Marked.{without_list, AreAlike};
 ghost use Rattle.full_profile.specs.internal.Copies.{CanTake};
 
@@ -21,7 +21,7 @@ use trace_core::Access;
 /// A row for each set, in the order of the sets. The list of a set is what its row begins with. The
 /// first block of a row whose list is empty is 0.
 #[derive(Drop)]
-pub struct ListRows {
+struct ListRows {
     depth: usize,
     blocks: Vec<u64>,
     cleans: Vec<u32>,
@@ -45,7 +45,7 @@ impl Model for ListRows {
 
 impl ListRows {
     /// Empty lists for a number of sets.
-    pub fn new(alloc: Global, sets: usize, depth: usize) -> Result<ListRows, AllocError>
+    fn new(alloc: Global, sets: usize, depth: usize) -> Result<ListRows, AllocError>
         requires some { 1 ≤ depth }
         requires small { sets * depth ≤ 2 ^ 22 }
         ensures { IfOk result (λ rows. rows ≡ empty_marked sets depth) }
@@ -67,7 +67,7 @@ impl ListRows {
 
     /// The front of a set's list, or 0 if the list is empty.
     #[inline(always)]
-    pub fn front(&self, set: usize) -> u64
+    fn front(&self, set: usize) -> u64
         requires { set < length self.now.blocks }
         ensures { result ≡ slice_index (blocks_in self.now set) 0 }
     {
@@ -76,7 +76,7 @@ impl ListRows {
 
     /// How many blocks a set's list has.
     #[inline(always)]
-    pub fn held(&self, set: usize) -> u32
+    fn held(&self, set: usize) -> u32
         requires { set < length self.now.blocks }
         ensures { result ≡ length (blocks_in self.now set) }
     {
@@ -85,7 +85,7 @@ impl ListRows {
 
     /// The clean depth of the front of a set's list.
     #[inline(always)]
-    pub fn front_clean(&self, set: usize) -> u32
+    fn front_clean(&self, set: usize) -> u32
         requires within { set < length self.now.blocks }
         requires some { 0 < length (blocks_in self.now set) }
         ensures { result ≡ slice_index (cleans_in self.now set) 0 }
@@ -93,37 +93,19 @@ impl ListRows {
         self.cleans[set * self.depth]
     }
 
-    /// How many blocks a row has room for.
+    /// Writes the front of a set's list.
     #[inline(always)]
-    pub fn depth(&self) -> usize
-        ensures { result ≡ self.now.depth }
-    {
-        self.depth
-    }
-
-    /// The last block of a set's list, if the list is full.
-    #[inline(always)]
-    pub fn last(&self, set: usize) -> u64
-        requires { set < length self.now.blocks }
-        ensures { length (blocks_in self.now set) ≡ self.now.depth
-            → result ≡ slice_index (blocks_in self.now set) (self.now.depth - 1) }
-    {
-        self.blocks[set * self.depth + self.depth - 1]
-    }
-
-    /// Gives the front of a set's list this clean depth.
-    #[inline(always)]
-    pub fn mark_front(&mut self, set: usize, clean: u32)
+    fn write_front(&mut self, set: usize)
         requires within { set < length self.old.blocks }
         requires some { 0 < length (blocks_in self.old set) }
-        ensures { self.new ≡ after_mark_in_front self.old set clean }
+        ensures { self.new ≡ after_write_in_front self.old set }
     {
-        self.cleans[set * self.depth] = clean;
+        self.cleans[set * self.depth] = 0;
     }
 
     /// Brings a block to the front of a set's list by an access.
     #[inline(always)]
-    pub fn bring(&mut self, set: usize, block: u64, access: Access) -> MarkedTouch
+    fn bring(&mut self, set: usize, block: u64, access: Access) -> MarkedTouch
         requires { set < length self.old.blocks }
         ensures found { result
             ≡ marked_touch_of self.old.depth block (blocks_in self.old set) (cleans_in self.old
@@ -141,28 +123,20 @@ impl ListRows {
         )
     }
 
-    /// Empties a set's list, and counts the copybacks of its blocks, which are the first of a list
-    /// of up to `depth` blocks.
-    pub fn empty_list(
-        &mut self,
-        set: usize,
-        emptying: Emptying,
-        copies: &mut Copies,
-        depth: usize,
-    )
+    /// Empties a set's list, and counts the copybacks of its blocks.
+    fn empty_list(&mut self, set: usize, emptying: Emptying, copies: &mut Copies)
         requires set { set < length self.old.blocks }
-        requires deep { self.old.depth ≤ depth }
-        requires above_within { depth < length copies.old.above }
-        requires within { depth < length copies.old.up_to }
+        requires above_within { self.old.depth < length copies.old.above }
+        requires within { self.old.depth < length copies.old.up_to }
         requires above_few { sum copies.old.above + length (cleans_in self.old set) < 2 ^ 63 }
         requires few { sum copies.old.up_to + length (cleans_in self.old set) < 2 ^ 63 }
         ensures lists { self.new ≡ without_list self.old set }
-        ensures copies { copies.new ≡ with_copies_of (up_to_of emptying depth) 0
+        ensures copies { copies.new ≡ with_copies_of (up_to_of emptying self.old.depth) 0
             (cleans_in self.old set) copies.old }
     {
         let start = set * self.depth;
         let end = start + self.lens[set] as usize;
-        copies.add_list(&self.cleans[start..end], emptying, depth);
+        copies.add_list(&self.cleans[start..end], emptying, self.depth);
         self.blocks[start] = 0;
         self.lens[set] = 0;
     }
@@ -222,7 +196,7 @@ impl MarkedLists for MarkedRows {
 
     #[inline(always)]
     fn write_front(&mut self, set: usize) {
-        self.rows.mark_front(set, 0);
+        self.rows.write_front(set);
     }
 
     #[inline(always)]
@@ -252,9 +226,8 @@ fn empty_listed(rows: &mut ListRows, sets: &[u32], emptying: Emptying, copies: &
     ensures copies { copies.new ≡ with_all_copies (up_to_of emptying rows.old.depth)
         rows.old.cleans copies.old }
 {
-    let depth = rows.depth();
     for set in sets {
-        rows.empty_list(*set as usize, emptying, copies, depth);
+        rows.empty_list(*set as usize, emptying, copies);
     }
 }
 
@@ -266,8 +239,7 @@ fn empty_all(rows: &mut ListRows, emptying: Emptying, copies: &mut Copies)
     ensures copies { copies.new ≡ with_all_copies (up_to_of emptying rows.old.depth)
         rows.old.cleans copies.old }
 {
-    let depth = rows.depth();
     for set in 0..rows.sets() {
-        rows.empty_list(set, emptying, copies, depth);
+        rows.empty_list(set, emptying, copies);
     }
 }

@@ -3,7 +3,6 @@ ghost use Rattle.std.specs.Prelude.{◌≡◌, IfOk};
 ghost use Rattle.full_profile.specs.State.{empty_full};
 ghost use Rattle.full_profile.specs.internal.KeptFull.{full_kept};
 
-use crate::marked_lists::long_lists::{DEEP, LongMarkedLists};
 use crate::marked_lists::rows::MarkedRows;
 use crate::profile::stack_profile::FullStackProfile;
 use cache_core::Geometry;
@@ -14,8 +13,6 @@ use std::alloc::{AllocError, Global};
 pub enum KeptFull {
     /// A row of blocks for each set, in the order of the sets, and a row of clean depths.
     Rows(FullStackProfile<MarkedRows>),
-    /// For long lists: the first blocks of each in a row, and the others in a deep list.
-    Long(FullStackProfile<LongMarkedLists>),
 }
 
 impl KeptFull {
@@ -24,10 +21,6 @@ impl KeptFull {
         ensures { IfOk result (λ kept. full_kept kept ≡ empty_full geometry) }
     {
         let (sets, depth) = (geometry.sets() as usize, geometry.e() as usize);
-        if depth >= DEEP {
-            let lists = LongMarkedLists::new(alloc, sets, depth)?;
-            return Ok(KeptFull::Long(FullStackProfile::new(alloc, geometry, lists)?));
-        }
         let lists = MarkedRows::new(alloc, sets, depth)?;
         Ok(KeptFull::Rows(FullStackProfile::new(alloc, geometry, lists)?))
     }

@@ -1,9 +1,8 @@
 -- The list of each set is emptied.
-use Rattle.std.proofs.Common.{◌≡◌, ◌∙◌, ◌<◌, ℕ, [], get_or, set, length, ap, arith, sym, inl, inr}
+use Rattle.std.proofs.Common.{◌≡◌, ◌∙◌, ◌<◌, ℕ, [], get_or, set, length, ap, arith, inl, inr}
 use Rattle.std.proofs.Common.{get_or-set_same, get_or-set_other}
 use Rattle.std.proofs.lemmas.Bool.{cases_eq}
-use Rattle.full_profile.specs.internal.Copies.{with_copies_of, up_to_of}
-use Rattle.full_profile.specs.internal.Marked.{blocks_in, cleans_in}
+use Rattle.full_profile.specs.internal.Marked.{blocks_in}
 use Rattle.full_profile.proofs.marked_lists.Emptying.{one_less, none_left, all_counted}
 use Rattle.full_profile.proofs.marked_lists.Emptying.{none_behind}
 use Rattle.full_profile.proofs.marked_lists.rows.empty_all.Goals as goal
@@ -21,10 +20,7 @@ loop-set-preserved c =
     ) in
     record {
       left = one_less c.loop-set.invariant.left n within c.empty_list.new.self
-          c.empty_list.new.copies c.empty_list.ensures.lists
-          (c.empty_list.ensures.copies ∙ ap (λ d. with_copies_of (up_to_of c.args.emptying d) 0
-          (cleans_in now n) c.loop-set.copies)
-          (c.depth-depth.ensures ∙ sym c.loop-set.invariant.left.depth));
+          c.empty_list.new.copies c.empty_list.ensures.lists c.empty_list.ensures.copies;
       passed = λ k lt.
           ap (λ m. blocks_in m k) c.empty_list.ensures.lists ∙ elim (cases_eq k n) [
             | inl same ↦ ap (λ j. get_or (set now.blocks n []) j []) same ∙

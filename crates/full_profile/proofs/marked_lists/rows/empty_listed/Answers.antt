@@ -4,8 +4,7 @@ use Rattle.std.proofs.Common.{subst, arith}
 use Rattle.std.proofs.lemmas.List.{drop_all}
 use Rattle.cache_core.specs.Touched.{ListsFilled}
 use Rattle.cache_core.proofs.TouchedSets.{next_listed, emptied}
-use Rattle.full_profile.specs.internal.Copies.{with_copies_of, up_to_of}
-use Rattle.full_profile.specs.internal.Marked.{blocks_in, cleans_in}
+use Rattle.full_profile.specs.internal.Marked.{blocks_in}
 use Rattle.full_profile.proofs.marked_lists.Emptying.{one_less, lengths_set, filled_within}
 use Rattle.full_profile.proofs.marked_lists.Emptying.{none_left, all_counted, none_filled}
 use Rattle.full_profile.proofs.marked_lists.rows.empty_listed.Goals as goal
@@ -22,10 +21,7 @@ loop-set-preserved c =
     let within : k < length now.blocks = filled_within k (drop (i + 1) sets) now.blocks next in
     record {
       left = one_less c.loop-set.invariant.left k within c.empty_list.new.self
-          c.empty_list.new.copies c.empty_list.ensures.lists
-          (c.empty_list.ensures.copies ∙ ap (λ d. with_copies_of (up_to_of c.args.emptying d) 0
-          (cleans_in now k) c.loop-set.copies)
-          (c.depth-depth.ensures ∙ sym c.loop-set.invariant.left.depth));
+          c.empty_list.new.copies c.empty_list.ensures.lists c.empty_list.ensures.copies;
       filled = subst (ListsFilled (drop (i + 1) sets))
           (sym (ap (λ m. map length m.blocks) c.empty_list.ensures.lists
           ∙ lengths_set now.blocks k []))

@@ -102,6 +102,9 @@ returns-clause-lists c = list_emptied (known c.self.invariant c.self.view_is c.r
 pub returns-clause-copies : goal.returns-clause-copies
 returns-clause-copies c =
     let at = (goal.at.returns-clause-copies c).After-deref in
+    let h = known c.self.invariant c.self.view_is c.requires.set in
     c.add_list.ensures
-    ∙ ap (λ l. with_copies_of (up_to_of c.args.emptying c.args.depth) 0 l c.args.copies.now)
-    (lent_is at)
+    ∙ ap (λ l. with_copies_of (up_to_of c.args.emptying c.self.inside.depth) 0 l
+    c.args.copies.now) (lent_is at)
+    ∙ ap (λ d. with_copies_of (up_to_of c.args.emptying d) 0
+    (cleans_in c.args.self.now c.args.set) c.args.copies.now) (depth_is h)
