@@ -260,7 +260,7 @@ pub sum-joined : {V : Type 0} (near : List (List ℕ)) (far : List (Deep V)) →
 sum-joined [] [] le = refl
 sum-joined [] (d ∷ far) le = absurd (omega (arith, le))
 sum-joined (xs ∷ near) [] le = omega arith
-sum-joined (xs ∷ near) (d ∷ far) le =
+sum-joined {V} (xs ∷ near) (d ∷ far) le =
     omega (
       arith,
       sum_by-cons length (xs ++ d.blocks) (whole_lists near far),
@@ -273,7 +273,7 @@ sum-joined (xs ∷ near) (d ∷ far) le =
 far_sum : {V : Type 0} (far : List (Deep V)) (b : ℕ) → ((k : ℕ) → length (rest_of far k) ≤ b) →
     sum_by (λ (d : Deep V). length d.blocks) far ≤ length far * b
 far_sum [] b h = omega arith
-far_sum (d ∷ far) b h =
+far_sum {V} (d ∷ far) b h =
     omega (
       arith,
       sum_by-cons (λ (e : Deep V). length e.blocks) d far,
