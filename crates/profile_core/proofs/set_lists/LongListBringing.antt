@@ -35,7 +35,7 @@ full_at false true t' h l held last e = absurd (cc)
 full_at false false t' h l held last e = (refl, refl, cc, cc)
 
 -- a row that tells where the block stands
-module _ {near : Lists} {beyond : ℕ} {far : List Deep} {k : ℕ} {v : Lists}
+module _ {V : Type 0} {near : Lists} {beyond : ℕ} {far : List (Deep V)} {k : ℕ} {v : Lists}
     (r : HasWhole near beyond far k v) (x : ℕ) where
   stays_standing : StaysIn r x → standing_of x (row r) ≡ standing_of x (list r)
   stays_standing h = elim h [
@@ -62,7 +62,7 @@ module _ {near : Lists} {beyond : ℕ} {far : List Deep} {k : ℕ} {v : Lists}
 
 -- a full row, of which the last block falls out: that block goes to the front of the others, and x
 -- out of them
-pub record IsFull (near : Lists) (beyond : ℕ) (far : List Deep) (x k held last : ℕ)
+pub record IsFull {V : Type 0} (near : Lists) (beyond : ℕ) (far : List (Deep V)) (x k held last : ℕ)
     (v : Lists) : Type 0 where
   pub whole : HasWhole near beyond far k v
   pub absent : is_in x (get_or near.lists k []) ≡ false
@@ -70,11 +70,11 @@ pub record IsFull (near : Lists) (beyond : ℕ) (far : List Deep) (x k held last
   pub held_is : held ≡ length (get_or near.lists k [])
   pub last_is : last ≡ get_or (get_or near.lists k []) (near.depth - 1) 0
 
-pub full_is : {near : Lists} {beyond : ℕ} {far : List Deep} {k x held last : ℕ} {v : Lists} →
+pub full_is : {V : Type 0} {near : Lists} {beyond : ℕ} {far : List (Deep V)} {k x held last : ℕ} {v : Lists} →
     HasWhole near beyond far k v → Full held last ≡ in_row_of near.depth x (get_or near.lists k [])
     →
     IsFull near beyond far x k held last v
-full_is {near} {beyond} {far} {k} {x} {held} {last} {v} r e =
+full_is {V} {near} {beyond} {far} {k} {x} {held} {last} {v} r e =
     let at = full_at (is_in x (row r)) (ltb (length (row r)) near.depth) (standing_of x (row r))
     held
     last (length (row r)) (get_or (row r) (near.depth - 1) 0) e in
@@ -86,7 +86,7 @@ full_is {near} {beyond} {far} {k} {x} {held} {last} {v} r e =
       last_is = at.3;
     }
 
-module _ {near : Lists} {beyond : ℕ} {far : List Deep} {x k held last : ℕ} {v : Lists}
+module _ {V : Type 0} {near : Lists} {beyond : ℕ} {far : List (Deep V)} {x k held last : ℕ} {v : Lists}
     (f : IsFull near beyond far x k held last v) where
   abbrev front : List ℕ
   front = row f.whole
@@ -101,7 +101,7 @@ module _ {near : Lists} {beyond : ℕ} {far : List Deep} {x k held last : ℕ} {
   two = f.whole.sound.two
 
   -- the list behind the front, as it is read
-  pub far_read : (d : Deep) → d ≡ get_or far k d → d ≡ get_or far k nothing
+  pub far_read : (d : Deep V) → d ≡ get_or far k d → d ≡ get_or far k nothing
   far_read d read = get_or_read far k d (within_far f.whole) read nothing
 
   pub last_apart : is_in last behind ≡ false
@@ -127,10 +127,11 @@ module _ {near : Lists} {beyond : ℕ} {far : List Deep} {x k held last : ℕ} {
   pub full_standing : rest_standing_of held x behind ≡ standing_of x (list f.whole)
   full_standing = grind (arith, far_found, far_new, list_is)
 
-  pub full_renewed : (d : Deep) → d ≡ list_after_exchange (get_or far k nothing) x last →
+  pub full_renewed : (d : Deep V) (value : V) →
+      d ≡ list_after_exchange (get_or far k nothing) x last value →
       {near' : Lists} → near' ≡ lists_after_bring near k x →
       IsRenewed near' beyond (set far k d) k x v
-  full_renewed d put is =
+  full_renewed d value put is =
       let cap : (get_or far k nothing).cap ≡ beyond =
       f.whole.sound.caps k (within_far f.whole) in
       let blocks : d.blocks ≡ left = ap (λ e. e.blocks) put ∙

@@ -22,21 +22,21 @@ use Rattle.profile_core.proofs.set_lists.ListParts.{front-append, first-append, 
 use Rattle.profile_core.proofs.set_lists.ListParts.{second-append}
 
 -- the list of set k
-pub joined_at : (near : List (List ℕ)) (far : List Deep) (k : ℕ) → k < length near →
+pub joined_at : {V : Type 0} (near : List (List ℕ)) (far : List (Deep V)) (k : ℕ) → k < length near →
     get_or (whole_lists near far) k [] ≡ get_or near k [] ++ rest_of far k
 joined_at [] far k lt = absurd (omega arith)
 joined_at (xs ∷ near) [] k lt = sym (append-nil (get_or (xs ∷ near) k []))
 joined_at (xs ∷ near) (d ∷ far) zero lt = refl
 joined_at (xs ∷ near) (d ∷ far) (suc k) lt = joined_at near far k (omega arith)
 
-pub length-joined : (near : List (List ℕ)) (far : List Deep) →
+pub length-joined : {V : Type 0} (near : List (List ℕ)) (far : List (Deep V)) →
     length (whole_lists near far) ≡ length near
 length-joined [] far = refl
 length-joined (xs ∷ near) [] = refl
 length-joined (xs ∷ near) (d ∷ far) = ap suc (length-joined near far)
 
 -- the list of set k written anew
-joined-set : (near : List (List ℕ)) (far : List Deep) (k : ℕ) (xs : List ℕ) (d : Deep) →
+pub joined-set : {V : Type 0} (near : List (List ℕ)) (far : List (Deep V)) (k : ℕ) (xs : List ℕ) (d : Deep V) →
     k < length near → k < length far
     → whole_lists (set near k xs) (set far k d) ≡ set (whole_lists near far) k (xs ++ d.blocks)
 joined-set [] far k xs d lt within = absurd (omega arith)
@@ -47,25 +47,26 @@ joined-set (ys ∷ near) (e ∷ far) (suc k) xs d lt within =
     (omega (arith, within)))
 
 -- what is known of set k's list where it is asked for
-pub record HasWhole (near : Lists) (beyond : ℕ) (far : List Deep) (k : ℕ) (v : Lists) : Type 0 where
+pub record HasWhole {V : Type 0} (near : Lists) (beyond : ℕ) (far : List (Deep V)) (k : ℕ)
+    (v : Lists) : Type 0 where
   pub sound : AreSplit near beyond far
   pub seen : record { depth = near.depth + beyond; lists = whole_lists near.lists far } ≡ v
   pub is_set : k < length v.lists
 
-pub known : {near : Lists} {beyond : ℕ} {far : List Deep} {k : ℕ} {v : Lists} →
+pub known : {V : Type 0} {near : Lists} {beyond : ℕ} {far : List (Deep V)} {k : ℕ} {v : Lists} →
     AreSplit near beyond far →
     record { depth = near.depth + beyond; lists = whole_lists near.lists far } ≡ v →
     k < length v.lists → HasWhole near beyond far k v
 known sound seen is_set = record { sound = sound; seen = seen; is_set = is_set }
 
 -- the lists once block x came to the front of set k's
-pub record IsRenewed (near : Lists) (beyond : ℕ) (far : List Deep) (k x : ℕ)
+pub record IsRenewed {V : Type 0} (near : Lists) (beyond : ℕ) (far : List (Deep V)) (k x : ℕ)
     (v : Lists) : Type 0 where
   pub sound : AreSplit near beyond far
   pub seen : record { depth = near.depth + beyond; lists = whole_lists near.lists far } ≡
       lists_after_bring v k x
 
-module _ {near : Lists} {beyond : ℕ} {far : List Deep} {k : ℕ} {v : Lists}
+module _ {V : Type 0} {near : Lists} {beyond : ℕ} {far : List (Deep V)} {k : ℕ} {v : Lists}
     (r : HasWhole near beyond far k v) where
   abbrev pub row : List ℕ
   row = get_or near.lists k []
@@ -118,10 +119,10 @@ module _ {near : Lists} {beyond : ℕ} {far : List Deep} {k : ℕ} {v : Lists}
     abbrev after : List ℕ
     after = take near.depth (move_to_front x row)
 
-    pub renewed : (d : Deep) → d.cap ≡ beyond → length d.blocks ≤ beyond →
+    pub renewed : (d : Deep V) → d.cap ≡ beyond → length d.blocks ≤ beyond →
         (d.blocks ≢ [] → length after ≡ near.depth) →
         take (near.depth + beyond) (move_to_front x (row ++ rest)) ≡ after ++ d.blocks →
-        {near' : Lists} → near' ≡ lists_after_bring near k x → {far' : List Deep} →
+        {near' : Lists} → near' ≡ lists_after_bring near k x → {far' : List (Deep V)} →
         far' ≡ set far k d → IsRenewed near' beyond far' k x v
     renewed d cap short full moved {near'} near_is {far'} far_is =
         let lists = set near.lists k after in
@@ -184,7 +185,7 @@ module _ {near : Lists} {beyond : ℕ} {far : List Deep} {k : ℕ} {v : Lists}
 pub depth_small : (sets depth : ℕ) → 1 ≤ sets → sets * depth ≤ 2 ^ 22 → depth ≤ 2 ^ 22
 depth_small sets depth some small = omega (arith, mul-le-mul_right depth some, small)
 
-pub joined_empty : (n : ℕ) (far : List Deep) → ((k : ℕ) → rest_of far k ≡ []) →
+pub joined_empty : {V : Type 0} (n : ℕ) (far : List (Deep V)) → ((k : ℕ) → rest_of far k ≡ []) →
     whole_lists (replicate n []) far ≡ replicate n []
 joined_empty zero far none = refl
 joined_empty (suc n) [] none = refl
@@ -192,7 +193,7 @@ joined_empty (suc n) (d ∷ far) none =
     ap (λ ys. ys ∷ whole_lists (replicate n []) far) (none 0) ∙
     ap (λ ls. [] ∷ ls) (joined_empty n far (λ k. none (suc k)))
 
-pub split_none : (near : Lists) (beyond n : ℕ) (far : List Deep) → near.lists ≡ replicate n [] →
+pub split_none : {V : Type 0} (near : Lists) (beyond n : ℕ) (far : List (Deep V)) → near.lists ≡ replicate n [] →
     ((k : ℕ) → rest_of far k ≡ [])
     → ((k : ℕ) → k < length far → (get_or far k nothing).cap ≡ beyond)
     → length far ≡ length near.lists → 2 ≤ near.depth
@@ -213,20 +214,20 @@ split_none near beyond n far none rest caps far_len two small =
     }
 
 -- emptied
-emptied_at : (far : List Deep) (k : ℕ) → get_or (map empty_deep far) k nothing ≡ empty_deep
+emptied_at : {V : Type 0} (far : List (Deep V)) (k : ℕ) → get_or (map empty_deep far) k nothing ≡ empty_deep
     (get_or far k nothing)
 emptied_at [] k = refl
 emptied_at (d ∷ far) zero = refl
 emptied_at (d ∷ far) (suc k) = emptied_at far k
 
-pub emptied_rest : (far : List Deep) (k : ℕ) → rest_of (map empty_deep far) k ≡ []
+pub emptied_rest : {V : Type 0} (far : List (Deep V)) (k : ℕ) → rest_of (map empty_deep far) k ≡ []
 emptied_rest far k = ap (λ d. d.blocks) (emptied_at far k)
 
-pub split_cleared : {near : Lists} {beyond : ℕ} {far : List Deep} → AreSplit near beyond far →
-    (near' : Lists) (far' : List Deep)
+pub split_cleared : {V : Type 0} {near : Lists} {beyond : ℕ} {far : List (Deep V)} → AreSplit near beyond far →
+    (near' : Lists) (far' : List (Deep V))
     → near' ≡ record { depth = near.depth; lists = replicate (length near.lists) [] } →
     far' ≡ map empty_deep far → AreSplit near' beyond far'
-split_cleared {near} {beyond} {far} s near' far' is far_is =
+split_cleared {V} {near} {beyond} {far} s near' far' is far_is =
     let lists : near'.lists ≡ replicate (length near.lists) [] = ap (λ v. v.lists) is in
     let depth : near'.depth ≡ near.depth = ap (λ v. v.depth) is in
     let count : length near'.lists ≡ length near.lists = ap length lists ∙
@@ -241,7 +242,7 @@ split_cleared {near} {beyond} {far} s near' far' is far_is =
     (long ∙ s.far_len ∙ sym count) (omega (arith, s.two, depth))
     (subst M (sym count) (subst N (sym depth) s.small))
 
-pub cleared_lists : (near near' : Lists) (far far' : List Deep) →
+pub cleared_lists : {V : Type 0} (near near' : Lists) (far far' : List (Deep V)) →
     near' ≡ record { depth = near.depth; lists = replicate (length near.lists) [] }
     → far' ≡ map empty_deep far → whole_lists near'.lists far' ≡ replicate
     (length (whole_lists near.lists far)) []
@@ -253,58 +254,55 @@ cleared_lists near near' far far' is far_is = grind (
 )
 
 -- how many blocks stand in all lists
-pub sum-joined : (near : List (List ℕ)) (far : List Deep) → length far ≤ length near
+pub sum-joined : {V : Type 0} (near : List (List ℕ)) (far : List (Deep V)) → length far ≤ length near
     → sum_by length (whole_lists near far) ≡ sum_by length near + sum_by
-    (λ (d : Deep). length d.blocks) far
+    (λ (d : Deep V). length d.blocks) far
 sum-joined [] [] le = refl
 sum-joined [] (d ∷ far) le = absurd (omega (arith, le))
 sum-joined (xs ∷ near) [] le = omega arith
-sum-joined (xs ∷ near) (d ∷ far) le =
+sum-joined {V} (xs ∷ near) (d ∷ far) le =
     omega (
       arith,
       sum_by-cons length (xs ++ d.blocks) (whole_lists near far),
       sum_by-cons length xs near,
-      sum_by-cons (λ (e : Deep). length e.blocks) d far,
+      sum_by-cons (λ (e : Deep V). length e.blocks) d far,
       length-append xs d.blocks,
       sum-joined near far (omega (arith, le)),
     )
 
-far_sum : (far : List Deep) (b : ℕ) → ((k : ℕ) → length (rest_of far k) ≤ b) →
-    sum_by (λ (d : Deep). length d.blocks) far ≤ length far * b
+far_sum : {V : Type 0} (far : List (Deep V)) (b : ℕ) → ((k : ℕ) → length (rest_of far k) ≤ b) →
+    sum_by (λ (d : Deep V). length d.blocks) far ≤ length far * b
 far_sum [] b h = omega arith
-far_sum (d ∷ far) b h =
+far_sum {V} (d ∷ far) b h =
     omega (
       arith,
-      sum_by-cons (λ (e : Deep). length e.blocks) d far,
+      sum_by-cons (λ (e : Deep V). length e.blocks) d far,
       far_sum far b (λ k. h (suc k)),
       h 0,
       suc-mul (length far) b,
     )
 
-module _ {near : Lists} {beyond : ℕ} {far : List Deep} (s : AreSplit near beyond far) where
+module _ {V : Type 0} {near : Lists} {beyond : ℕ} {far : List (Deep V)} (s : AreSplit near beyond far) where
   pub far_few : length far ≤ length near.lists
   far_few = omega (arith, s.far_len)
 
-  pub far_held : sum_by (λ (d : Deep). length d.blocks) far ≤ length near.lists * beyond
+  pub far_held : sum_by (λ (d : Deep V). length d.blocks) far ≤ length near.lists * beyond
   far_held = omega (arith, far_sum far beyond s.rest_short, mul-le-mul_right beyond far_few)
 
-empty_at : (n cap k : ℕ) → k < n →
-    get_or {A = Deep} (replicate n (record { cap = cap; blocks = [] })) k nothing ≡ record {
-      cap =
-          cap;
-      blocks = [];
-    }
-empty_at zero cap k lt = absurd (omega arith)
-empty_at (suc n) cap zero lt = refl
-empty_at (suc n) cap (suc k) lt = empty_at n cap k (omega arith)
+-- no blocks yet
+abbrev pub empty_list : (V : Type 0) → ℕ → Deep V
+empty_list V cap = record { cap = cap; blocks = []; values = [] }
 
-empty_rest : (n cap k : ℕ) → rest_of (replicate n (record { cap = cap; blocks = [] })) k ≡ []
-empty_rest zero cap k = refl
-empty_rest (suc n) cap zero = refl
-empty_rest (suc n) cap (suc k) = empty_rest n cap k
+pub empty_rest : (V : Type 0) (n cap k : ℕ) → rest_of (replicate n (empty_list V cap)) k ≡ []
+empty_rest V zero cap k = refl
+empty_rest V (suc n) cap zero = refl
+empty_rest V (suc n) cap (suc k) = empty_rest V n cap k
 
-pub new_lists : (near : Lists) (sets beyond : ℕ) (far : List Deep) →
+pub new_lists : {V : Type 0} (near : Lists) (sets beyond : ℕ) (far : List (Deep V)) →
     near ≡ record { depth = 64; lists = replicate sets [] }
-    → far ≡ replicate sets (record { cap = beyond; blocks = [] }) →
+    → far ≡ replicate sets (record { cap = beyond; blocks = []; values = [] }) →
     whole_lists near.lists far ≡ replicate sets []
-new_lists near sets beyond far is far_is = grind (arith, joined_empty, empty_rest)
+new_lists {V} near sets beyond far is far_is =
+    ap (λ v. whole_lists v.lists far) is
+    ∙ ap (whole_lists (replicate sets [])) far_is
+    ∙ joined_empty sets (replicate sets (empty_list V beyond)) (empty_rest V sets beyond)

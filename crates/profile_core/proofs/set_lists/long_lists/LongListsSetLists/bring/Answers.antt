@@ -66,8 +66,8 @@ invariant_of-self-in-Full c =
     let f = full_is (known c.self.invariant c.self.view_is c.requires.within)
     c.in-Full.ensures.found in
     let read = far_read f c.index_mut.result.now c.index_mut.ensures.value in
-    let renewed = full_renewed f c.exchange.new.rest (c.exchange.ensures.moved ∙
-    ap (λ d. list_after_exchange d c.args.block c.in-Full.last) read) c.in-Full.ensures.moved in
+    let renewed = full_renewed f c.exchange.new.rest tt (c.exchange.ensures.moved ∙
+    ap (λ d. list_after_exchange d c.args.block c.in-Full.last tt) read) c.in-Full.ensures.moved in
     renewed.sound
 
 pub returns-in-Full-clause-found : goal.returns-in-Full-clause-found
@@ -83,6 +83,6 @@ returns-in-Full-clause-moved c =
     let f = full_is (known c.self.invariant c.self.view_is c.requires.within)
     c.in-Full.ensures.found in
     let read = far_read f c.index_mut.result.now c.index_mut.ensures.value in
-    let renewed = full_renewed f c.exchange.new.rest (c.exchange.ensures.moved ∙
-    ap (λ d. list_after_exchange d c.args.block c.in-Full.last) read) c.in-Full.ensures.moved in
+    let renewed = full_renewed f c.exchange.new.rest tt (c.exchange.ensures.moved ∙
+    ap (λ d. list_after_exchange d c.args.block c.in-Full.last tt) read) c.in-Full.ensures.moved in
     renewed.seen
