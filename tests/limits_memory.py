@@ -28,8 +28,8 @@ LONG_LISTS = (
     f"65,536 ways, {NUMBER} MB for the largest pair"
 )
 FULL = (
-    f"With `--full` a pair takes {FORMULA} bytes instead, with slots {FORMULA}, and all pairs "
-    f"together {NUMBER} KiB"
+    f"With `--full` a pair takes {FORMULA} bytes instead, with slots {FORMULA}, with A of {NUMBER} "
+    f"or more at most {FORMULA}, and all pairs together {NUMBER} KiB"
 )
 BATCH = f"All pairs together take {NUMBER} KiB more"
 # of docs/speed.md
@@ -74,8 +74,10 @@ def told_of_pair(sets, ways):
 def told_of_full_pair(sets, ways):
     """The same with --full."""
     few, slots_from, slots_to, *_ = told_by_the_manual(SLOTS)
-    formula, slots, _ = told_by_the_manual(FULL)
-    if sets <= few and slots_from <= ways <= slots_to:
+    formula, slots, deep, most, _ = told_by_the_manual(FULL)
+    if ways >= deep:
+        formula = most
+    elif sets <= few and slots_from <= ways <= slots_to:
         formula = slots
     return value(formula, sets, ways)
 
@@ -150,11 +152,15 @@ def bytes_of_full_pairs(limits, told):
     """The same of the full table."""
     for sets, ways in (
         (1, 1), (2**20, 1), (1024, 2), (4096, 11), (16, 12), (4096, 12), (4096, 16), (4096, 17),
-        (8192, 12), (8192, 16), (8192, 32), (4096, 255), (1, 256), (4096, 256), (1, WAYS),
-        (64, WAYS),
+        (8192, 12), (8192, 16), (8192, 32), (4096, 255),
     ):
         name = f"a full sweep with S = {sets} and A = {ways}"
         limits.takes(name, full_pair(sets, ways), full_pair(16, 1), told)
+    for sets, ways, least in (
+        (1, 256, 0.95), (4096, 256, 0.87), (1, WAYS, 0.995), (64, WAYS, 0.995),
+    ):
+        name = f"a full sweep with S = {sets} and A = {ways}"
+        limits.takes(name, full_pair(sets, ways), full_pair(16, 1), told, least=least)
 
 
 def bytes_of_tables(limits, told):

@@ -6,3 +6,6 @@ pub mod Emptying
 pub mod Touching
 pub mod SlotMoves
 pub mod ListsInSlots
+pub mod TwoParts
+pub mod LongLists
+pub mod LongBringing

@@ -1,5 +1,6 @@
 pub mod Copies
 pub mod KeptFull
+pub mod LongMarked
 pub mod Marked
 pub mod Profile
 pub mod Rows

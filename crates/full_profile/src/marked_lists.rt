@@ -1,4 +1,5 @@
 //! Recency lists with a clean depth beside each block, in whatever way they are kept.
+pub(crate) mod long_lists;
 pub(crate) mod row;
 pub(crate) mod rows;
 pub(crate) mod slotted;

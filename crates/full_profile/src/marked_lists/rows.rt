@@ -1,7 +1,10 @@
 //! Recency lists in rows, the plainest way: blocks in one array, their clean depths in another, and
 //! a length for each list.
-ghost use Rattle.std.specs.Prelude.{◌≡◌, ◌*◌, ◌^◌, ◌≤◌, IfOk};
-ghost use Rattle.full_profile.specs.internal.Marked.{empty_marked};
+ghost use Rattle.std.specs.Prelude.{◌≡◌, ◌+◌, ◌-◌, ◌*◌, ◌^◌, ◌<◌, ◌≤◌, IfOk, length, slice_index};
+ghost use Rattle.std.specs.Prelude.{sum};
+ghost use Rattle.full_profile.specs.internal.Copies.{with_copies_of, up_to_of};
+ghost use Rattle.full_profile.specs.internal.Marked.{empty_marked, blocks_in, cleans_in};
+ghost use Rattle.full_profile.specs.internal.Marked.{after_mark_in_front, without_list};
 
 use crate::copies::{Copies, Emptying};
 use crate::marked_lists::MarkedTouch;
@@ -50,6 +53,54 @@ impl ListRows {
             lens: vec![in alloc; 0; sets]?,
         })
     }
+
+    /// How many blocks a row has room for.
+    #[inline(always)]
+    pub fn depth(&self) -> usize
+        ensures { result ≡ self.now.depth }
+    {
+        self.depth
+    }
+
+    /// The last block of a set's list, if the list is full.
+    #[inline(always)]
+    pub fn last(&self, set: usize) -> u64
+        requires { set < length self.now.blocks }
+        ensures { length (blocks_in self.now set) ≡ self.now.depth
+            → result ≡ slice_index (blocks_in self.now set) (self.now.depth - 1) }
+    {
+        self.blocks[set * self.depth + self.depth - 1]
+    }
+
+    /// Gives the front of a set's list this clean depth.
+    #[inline(always)]
+    pub fn mark_front(&mut self, set: usize, clean: u32)
+        requires within { set < length self.old.blocks }
+        requires some { 0 < length (blocks_in self.old set) }
+        ensures { self.new ≡ after_mark_in_front self.old set clean }
+    {
+        self.cleans[set * self.depth] = clean;
+    }
+
+    /// Empties a set's list, and counts the copybacks of its blocks, which are the first of a list
+    /// of up to `depth` blocks.
+    pub fn empty_row(&mut self, set: usize, emptying: Emptying, copies: &mut Copies, depth: usize)
+        requires set { set < length self.old.blocks }
+        requires deep { self.old.depth ≤ depth }
+        requires above_within { depth < length copies.old.above }
+        requires within { depth < length copies.old.up_to }
+        requires above { sum copies.old.above + length (cleans_in self.old set) < 2 ^ 63 }
+        requires up_to { sum copies.old.up_to + length (cleans_in self.old set) < 2 ^ 63 }
+        ensures lists { self.new ≡ without_list self.old set }
+        ensures copies { copies.new ≡ with_copies_of (up_to_of emptying depth) 0
+            (cleans_in self.old set) copies.old }
+    {
+        let start = set * self.depth;
+        let end = start + self.lens[set] as usize;
+        copies.add_list(&self.cleans[start..end], emptying, depth);
+        self.blocks[start] = 0;
+        self.lens[set] = 0;
+    }
 }
 
 impl TouchedLists<ListRows> {
@@ -94,7 +145,7 @@ impl ListStore for ListRows {
 
     #[inline(always)]
     fn write_front(&mut self, set: usize) {
-        self.cleans[set * self.depth] = 0;
+        self.mark_front(set, 0);
     }
 
     #[inline(always)]
@@ -111,10 +162,6 @@ impl ListStore for ListRows {
     }
 
     fn empty_list(&mut self, set: usize, emptying: Emptying, copies: &mut Copies) {
-        let start = set * self.depth;
-        let end = start + self.lens[set] as usize;
-        copies.add_list(&self.cleans[start..end], emptying, self.depth);
-        self.blocks[start] = 0;
-        self.lens[set] = 0;
+        self.empty_row(set, emptying, copies, self.depth);
     }
 }

@@ -3,6 +3,7 @@ ghost use Rattle.std.specs.Prelude.{◌≡◌, IfOk};
 ghost use Rattle.full_profile.specs.State.{empty_full};
 ghost use Rattle.full_profile.specs.internal.KeptFull.{full_kept};
 
+use crate::marked_lists::long_lists::{DEEP, LongMarkedLists};
 use crate::marked_lists::rows::ListRows;
 use crate::marked_lists::slotted::{MOST, SlottedLists};
 use crate::marked_lists::touched::TouchedLists;
@@ -24,6 +25,8 @@ pub enum KeptFull {
     Rows(FullStackProfile<TouchedLists<ListRows>>),
     /// The fronts in one array, and the other blocks of a set in its slots.
     Slots(FullStackProfile<TouchedLists<SlottedLists>>),
+    /// For long lists: the first blocks of each in a row, and the others in a deep list.
+    Long(FullStackProfile<TouchedLists<LongMarkedLists>>),
 }
 
 impl KeptFull {
@@ -35,6 +38,10 @@ impl KeptFull {
         if depth >= SLOTTED_FROM && depth <= MOST && sets <= MANY_SETS {
             let lists = TouchedLists::in_slots(alloc, sets, depth)?;
             return Ok(KeptFull::Slots(FullStackProfile::new(alloc, geometry, lists)?));
+        }
+        if depth >= DEEP {
+            let lists = TouchedLists::in_parts(alloc, sets, depth)?;
+            return Ok(KeptFull::Long(FullStackProfile::new(alloc, geometry, lists)?));
         }
         let lists = TouchedLists::in_rows(alloc, sets, depth)?;
         Ok(KeptFull::Rows(FullStackProfile::new(alloc, geometry, lists)?))

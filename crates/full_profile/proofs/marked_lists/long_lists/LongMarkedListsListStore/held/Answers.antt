@@ -1,0 +1,20 @@
+-- A list has the blocks of its row and those behind it.
+use Rattle.std.proofs.Common.{◌∙◌, length, ap, arith, length-append}
+use Rattle.full_profile.proofs.marked_lists.LongLists.{known, near_set, far_set, far_read, row, rest}
+use Rattle.full_profile.proofs.marked_lists.LongLists.{blocks_are}
+use Rattle.full_profile.proofs.marked_lists.long_lists.LongMarkedListsListStore.held.Goals as goal
+
+pub held-requires : goal.held-requires
+held-requires c = near_set (known c.self.invariant c.self.view_is c.requires)
+
+pub returns : goal.returns
+returns c =
+    let h = known c.self.invariant c.self.view_is c.requires in
+    omega (
+      arith,
+      c.held.ensures,
+      c.len.ensures.value,
+      ap (λ d. length d.blocks) (far_read h c.index.ensures),
+      ap length (blocks_are h),
+      length-append (row h) (rest h),
+    )
