@@ -483,8 +483,8 @@ pub filled_deep : {cap held top0 end0 top end values : ℕ} {slots0 slots : Slot
     w ≡ slots_with_block slots t x
     → IsRanked t end (slots_with_block slots t x) chains'
     → IsDeep cap (held + 1) t end values w chains'
-filled_deep {cap} {held} {top0} {end0} {top} {end} {values} {slots0} {slots} d r same long x t next absent
-    short w chains' is ranked =
+filled_deep {cap} {held} {top0} {end0} {top} {end} {values} {slots0} {slots} d r same long x t next
+    absent short w chains' is ranked =
     let P : SlotsValue → Type 0 = λ v. IsDeep cap (held + 1) t end values v chains' in
     let Q : List ℕ → Type 0 = IsOnce in
     let once : IsOnce (x ∷ live_items slots.blocks slots.live) =

@@ -47,8 +47,8 @@ live_items-fill (b ∷ items) (zero ∷ live) (suc s) x same lt dead =
 live_items-fill (b ∷ items) (suc n ∷ live) (suc s) x same lt dead =
     absurd (omega (arith, dead 0 (omega arith)))
 
-pub live_items-dead : {A : Type 0} (items : List A) (live : List ℕ) → ((k : ℕ) → get_or live k 0 ≡ 0) →
-    live_items items live ≡ []
+pub live_items-dead : {A : Type 0} (items : List A) (live : List ℕ) →
+    ((k : ℕ) → get_or live k 0 ≡ 0) → live_items items live ≡ []
 unfolding live_items
 live_items-dead [] live dead = refl
 live_items-dead (b ∷ items) [] dead = refl

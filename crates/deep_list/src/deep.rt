@@ -1,6 +1,6 @@
 //! A list of different blocks, the most recent first, with a value beside each. A table finds a
-//! block, and flags and counts tell its place in the list (Bennett and Kruskal 1975), both without a
-//! walk over the list.
+//! block, and flags and counts tell its place in the list (Bennett and Kruskal 1975), both without
+//! a walk over the list.
 ghost use Rattle.std.specs.Prelude.{◌≡◌, ◌+◌, ◌-◌, ◌<◌, ◌≤◌, ◌^◌, ◌≢◌, ℕ, false, [], ◌∷◌, length};
 ghost use Rattle.std.specs.Prelude.{sum, IfOk, MatchOption, slice_index, slice_index_or};
 ghost use Rattle.deep_list.specs.Slots.{SlotsValue, AreFlags, slots_with_block, slots_without};
@@ -54,8 +54,8 @@ impl<V: Copy> Model for DeepList<V> {
 
 impl<V: Copy> DeepList<V> {
     /// An empty list, whose slots have this value at first. It takes all its memory here: three
-    /// slots for each two blocks, of 13 bytes and a value each, and 4 bytes for each chain, of which
-    /// there is one for each two blocks.
+    /// slots for each two blocks, of 13 bytes and a value each, and 4 bytes for each chain, of
+    /// which there is one for each two blocks.
     pub fn new(alloc: Global, cap: usize, value: V) -> Result<DeepList<V>, AllocError>
         requires some { 1 ≤ cap }
         requires small { cap ≤ 2 ^ 22 }
@@ -97,7 +97,8 @@ impl<V: Copy> DeepList<V> {
         Exchanged { found, fallen }
     }
 
-    /// Takes a block out of the list, if it is there. Returns the place where it was, and its value.
+    /// Takes a block out of the list, if it is there. Returns the place where it was, and its
+    /// value.
     fn take_out(&mut self, block: u64) -> Option<(usize, V)>
         ensures found { IsFound block self.old result }
         ensures moved { self.new ≡ without_block self.old block }
@@ -192,12 +193,7 @@ fn last_live(slots: &Slots, end: usize) -> Option<usize>
 }
 
 /// Makes sure that a slot before the live ones is free: if there is none, moves these to the end.
-fn make_room<V: Copy>(
-    slots: &mut Slots,
-    chains: &mut Chains,
-    values: &mut [V],
-    span: Span,
-) -> Span
+fn make_room<V: Copy>(slots: &mut Slots, chains: &mut Chains, values: &mut [V], span: Span) -> Span
     requires ranked { IsRanked span.top span.end slots.old chains.old }
     requires beside { length values.old ≡ length slots.old.live }
     requires room { sum slots.old.live < length slots.old.live }

@@ -1,5 +1,6 @@
 -- Lists that rows begin with: what is read of one, and one of them written anew.
-use Rattle.std.proofs.Common.{◌≡◌, ℕ, zero, suc, ◌+◌, ◌*◌, ◌-◌, ◌<◌, ◌≤◌, ◌^◌, List, [], ◌∷◌, length}
+use Rattle.std.proofs.Common.{◌≡◌, ℕ, zero, suc, ◌+◌, ◌*◌, ◌-◌, ◌<◌, ◌≤◌, ◌^◌, List, [], ◌∷◌}
+use Rattle.std.proofs.Common.{length}
 use Rattle.std.proofs.Common.{take}
 use Rattle.std.proofs.Common.{drop, get_or, set, refl, sym, ◌∙◌, ap, subst, arith, length-set}
 use Rattle.std.proofs.Common.{get_or-set_same, get_or-set_other, get_or-take}

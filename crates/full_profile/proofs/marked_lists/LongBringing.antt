@@ -1,6 +1,8 @@
 -- A block that comes to the front of its list, from the row or from behind it, and its clean depth.
-use Rattle.std.proofs.Common.{◌≡◌, ℕ, zero, suc, ◌+◌, ◌-◌, ◌<◌, ◌≤◌, ◌^◌, ◌⊎◌, inl, inr, Bool, true, false}
-use Rattle.std.proofs.Common.{cond, eqb, ◌||◌, List, [], ◌∷◌, ◌++◌, length, take, get_or, set, refl, sym}
+use Rattle.std.proofs.Common.{◌≡◌, ℕ, zero, suc, ◌+◌, ◌-◌, ◌<◌, ◌≤◌, ◌^◌, ◌⊎◌, inl, inr, Bool, true}
+use Rattle.std.proofs.Common.{false}
+use Rattle.std.proofs.Common.{cond, eqb, ◌||◌, List, [], ◌∷◌, ◌++◌, length, take, get_or, set, refl}
+use Rattle.std.proofs.Common.{sym}
 use Rattle.std.proofs.Common.{◌∙◌, ap, subst, arith, length-append, length-set, length-take}
 use Rattle.std.proofs.Common.{get_or-set_same}
 use Rattle.std.specs.Prelude.{max}
@@ -28,7 +30,8 @@ use Rattle.full_profile.specs.internal.Sound.{plain_lists}
 use Rattle.full_profile.proofs.marked_lists.Touching.{same_size, unequal}
 use Rattle.full_profile.proofs.marked_lists.TwoParts.{near_out, room_out, far_out, read_left}
 use Rattle.full_profile.proofs.marked_lists.TwoParts.{read_right, first_read, first_set}
-use Rattle.full_profile.proofs.marked_lists.LongLists.{HasMarked, IsWritten, plain, row, rest, marks}
+use Rattle.full_profile.proofs.marked_lists.LongLists.{HasMarked, IsWritten, plain, row, rest}
+use Rattle.full_profile.proofs.marked_lists.LongLists.{marks}
 use Rattle.full_profile.proofs.marked_lists.LongLists.{values, near_set, far_set, blocks_are}
 use Rattle.full_profile.proofs.marked_lists.LongLists.{cleans_are, depth_is, marks_long}
 use Rattle.full_profile.proofs.marked_lists.LongLists.{values_long, whole_long, written, brought}
@@ -71,7 +74,8 @@ front_at access d false true p q r n = refl
 front_at access d false false p q r n = refl
 
 pub front_is : (d x : ℕ) (access : Access) (xs cs : List ℕ) {touch : MarkedTouch} →
-    touch ≡ marked_touch_of d x xs cs → front_clean_of d access touch ≡ clean_in_front d access x xs cs
+    touch ≡ marked_touch_of d x xs cs →
+    front_clean_of d access touch ≡ clean_in_front d access x xs cs
 front_is d x access xs cs is = ap (front_clean_of d access) is
     ∙ front_at access d (is_in x xs) (eqb (length xs) d) (index_of x xs)
     (get_or cs (index_of x xs) 0) (get_or cs (d - 1) 0) (length xs)

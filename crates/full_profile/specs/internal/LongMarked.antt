@@ -1,6 +1,7 @@
--- Recency lists with a clean depth beside each block, each in two parts: the first blocks, and those
--- behind them.
-use Rattle.std.specs.Prelude.{ℕ, ◌≡◌, ◌≤◌, ◌+◌, ◌-◌, ◌^◌, ◌==◌, max, if◌then◌else◌, List, [], ◌∷◌, ◌++◌}
+-- Recency lists with a clean depth beside each block, each in two parts: the first blocks, and
+-- those behind them.
+use Rattle.std.specs.Prelude.{ℕ, ◌≡◌, ◌≤◌, ◌+◌, ◌-◌, ◌^◌, ◌==◌, max, if◌then◌else◌, List, [], ◌∷◌}
+use Rattle.std.specs.Prelude.{◌++◌}
 use Rattle.std.specs.Prelude.{length, slice_index, slice_index_or}
 use Rattle.trace_core.specs.declared.events.Access.{Access}
 use Rattle.trace_core.specs.Events.{is_write}

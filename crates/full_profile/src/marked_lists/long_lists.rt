@@ -1,6 +1,7 @@
 //! Recency lists with a clean depth beside each block, for lists that may be long. The first blocks
 //! of each are in a row. Those behind them are in a deep list, which is not walked.
-ghost use Rattle.std.specs.Prelude.{◌≡◌, ◌+◌, ◌*◌, ◌^◌, ◌<◌, ◌≤◌, [], false, length, replicate, sum};
+ghost use Rattle.std.specs.Prelude.{◌≡◌, ◌+◌, ◌*◌, ◌^◌, ◌<◌, ◌≤◌, [], false, length, replicate};
+ghost use Rattle.std.specs.Prelude.{sum};
 ghost use Rattle.std.specs.Prelude.{IfOk};
 ghost use Rattle.deep_list.specs.Deep.{has_block, list_after_exchange};
 ghost use Rattle.profile_core.specs.internal.set_lists.LongLists.{empty_deep};
@@ -152,8 +153,8 @@ fn front_clean(touch: MarkedTouch, access: Access, depth: usize) -> u32
 }
 
 /// Takes a block out of the deep list behind a full row of `row` blocks, if it is there, and puts
-/// `last`, which was the last block of the row, with its clean depth in its front. Returns where the
-/// block was in the whole list.
+/// `last`, which was the last block of the row, with its clean depth in its front. Returns where
+/// the block was in the whole list.
 fn exchange(rest: &mut DeepList<u32>, row: usize, block: u64, last: u64, clean: u32) -> MarkedTouch
     requires other { has_block last rest.old.blocks ≡ false }
     requires few { row ≤ 2 ^ 22 }

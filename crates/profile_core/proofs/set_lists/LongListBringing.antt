@@ -70,9 +70,9 @@ pub record IsFull {V : Type 0} (near : Lists) (beyond : ℕ) (far : List (Deep V
   pub held_is : held ≡ length (get_or near.lists k [])
   pub last_is : last ≡ get_or (get_or near.lists k []) (near.depth - 1) 0
 
-pub full_is : {V : Type 0} {near : Lists} {beyond : ℕ} {far : List (Deep V)} {k x held last : ℕ} {v : Lists} →
-    HasWhole near beyond far k v → Full held last ≡ in_row_of near.depth x (get_or near.lists k [])
-    →
+pub full_is : {V : Type 0} {near : Lists} {beyond : ℕ} {far : List (Deep V)} {k x held last : ℕ}
+    {v : Lists} → HasWhole near beyond far k v →
+    Full held last ≡ in_row_of near.depth x (get_or near.lists k []) →
     IsFull near beyond far x k held last v
 full_is {V} {near} {beyond} {far} {k} {x} {held} {last} {v} r e =
     let at = full_at (is_in x (row r)) (ltb (length (row r)) near.depth) (standing_of x (row r))
@@ -86,8 +86,8 @@ full_is {V} {near} {beyond} {far} {k} {x} {held} {last} {v} r e =
       last_is = at.3;
     }
 
-module _ {V : Type 0} {near : Lists} {beyond : ℕ} {far : List (Deep V)} {x k held last : ℕ} {v : Lists}
-    (f : IsFull near beyond far x k held last v) where
+module _ {V : Type 0} {near : Lists} {beyond : ℕ} {far : List (Deep V)} {x k held last : ℕ}
+    {v : Lists} (f : IsFull near beyond far x k held last v) where
   abbrev front : List ℕ
   front = row f.whole
 

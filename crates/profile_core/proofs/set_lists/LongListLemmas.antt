@@ -22,8 +22,8 @@ use Rattle.profile_core.proofs.set_lists.ListParts.{front-append, first-append, 
 use Rattle.profile_core.proofs.set_lists.ListParts.{second-append}
 
 -- the list of set k
-pub joined_at : {V : Type 0} (near : List (List ℕ)) (far : List (Deep V)) (k : ℕ) → k < length near →
-    get_or (whole_lists near far) k [] ≡ get_or near k [] ++ rest_of far k
+pub joined_at : {V : Type 0} (near : List (List ℕ)) (far : List (Deep V)) (k : ℕ) →
+    k < length near → get_or (whole_lists near far) k [] ≡ get_or near k [] ++ rest_of far k
 joined_at [] far k lt = absurd (omega arith)
 joined_at (xs ∷ near) [] k lt = sym (append-nil (get_or (xs ∷ near) k []))
 joined_at (xs ∷ near) (d ∷ far) zero lt = refl
@@ -36,8 +36,8 @@ length-joined (xs ∷ near) [] = refl
 length-joined (xs ∷ near) (d ∷ far) = ap suc (length-joined near far)
 
 -- the list of set k written anew
-pub joined-set : {V : Type 0} (near : List (List ℕ)) (far : List (Deep V)) (k : ℕ) (xs : List ℕ) (d : Deep V) →
-    k < length near → k < length far
+pub joined-set : {V : Type 0} (near : List (List ℕ)) (far : List (Deep V)) (k : ℕ) (xs : List ℕ)
+    (d : Deep V) → k < length near → k < length far
     → whole_lists (set near k xs) (set far k d) ≡ set (whole_lists near far) k (xs ++ d.blocks)
 joined-set [] far k xs d lt within = absurd (omega arith)
 joined-set (ys ∷ near) [] k xs d lt within = absurd (omega (arith, within))
@@ -193,8 +193,8 @@ joined_empty (suc n) (d ∷ far) none =
     ap (λ ys. ys ∷ whole_lists (replicate n []) far) (none 0) ∙
     ap (λ ls. [] ∷ ls) (joined_empty n far (λ k. none (suc k)))
 
-pub split_none : {V : Type 0} (near : Lists) (beyond n : ℕ) (far : List (Deep V)) → near.lists ≡ replicate n [] →
-    ((k : ℕ) → rest_of far k ≡ [])
+pub split_none : {V : Type 0} (near : Lists) (beyond n : ℕ) (far : List (Deep V)) →
+    near.lists ≡ replicate n [] → ((k : ℕ) → rest_of far k ≡ [])
     → ((k : ℕ) → k < length far → (get_or far k nothing).cap ≡ beyond)
     → length far ≡ length near.lists → 2 ≤ near.depth
     → length near.lists * (near.depth + beyond) ≤ 2 ^ 22 → AreSplit near beyond far
@@ -214,8 +214,8 @@ split_none near beyond n far none rest caps far_len two small =
     }
 
 -- emptied
-emptied_at : {V : Type 0} (far : List (Deep V)) (k : ℕ) → get_or (map empty_deep far) k nothing ≡ empty_deep
-    (get_or far k nothing)
+emptied_at : {V : Type 0} (far : List (Deep V)) (k : ℕ) →
+    get_or (map empty_deep far) k nothing ≡ empty_deep (get_or far k nothing)
 emptied_at [] k = refl
 emptied_at (d ∷ far) zero = refl
 emptied_at (d ∷ far) (suc k) = emptied_at far k
@@ -223,8 +223,8 @@ emptied_at (d ∷ far) (suc k) = emptied_at far k
 pub emptied_rest : {V : Type 0} (far : List (Deep V)) (k : ℕ) → rest_of (map empty_deep far) k ≡ []
 emptied_rest far k = ap (λ d. d.blocks) (emptied_at far k)
 
-pub split_cleared : {V : Type 0} {near : Lists} {beyond : ℕ} {far : List (Deep V)} → AreSplit near beyond far →
-    (near' : Lists) (far' : List (Deep V))
+pub split_cleared : {V : Type 0} {near : Lists} {beyond : ℕ} {far : List (Deep V)} →
+    AreSplit near beyond far → (near' : Lists) (far' : List (Deep V))
     → near' ≡ record { depth = near.depth; lists = replicate (length near.lists) [] } →
     far' ≡ map empty_deep far → AreSplit near' beyond far'
 split_cleared {V} {near} {beyond} {far} s near' far' is far_is =
@@ -254,8 +254,8 @@ cleared_lists near near' far far' is far_is = grind (
 )
 
 -- how many blocks stand in all lists
-pub sum-joined : {V : Type 0} (near : List (List ℕ)) (far : List (Deep V)) → length far ≤ length near
-    → sum_by length (whole_lists near far) ≡ sum_by length near + sum_by
+pub sum-joined : {V : Type 0} (near : List (List ℕ)) (far : List (Deep V)) →
+    length far ≤ length near → sum_by length (whole_lists near far) ≡ sum_by length near + sum_by
     (λ (d : Deep V). length d.blocks) far
 sum-joined [] [] le = refl
 sum-joined [] (d ∷ far) le = absurd (omega (arith, le))
@@ -282,7 +282,8 @@ far_sum {V} (d ∷ far) b h =
       suc-mul (length far) b,
     )
 
-module _ {V : Type 0} {near : Lists} {beyond : ℕ} {far : List (Deep V)} (s : AreSplit near beyond far) where
+module _ {V : Type 0} {near : Lists} {beyond : ℕ} {far : List (Deep V)}
+    (s : AreSplit near beyond far) where
   pub far_few : length far ≤ length near.lists
   far_few = omega (arith, s.far_len)
 

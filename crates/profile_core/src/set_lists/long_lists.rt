@@ -164,11 +164,7 @@ fn near_lists(alloc: Global, sets: usize) -> Result<RecencyLists<PlainRows>, All
 }
 
 /// An empty list for the blocks behind each row.
-fn far_lists(
-    alloc: Global,
-    sets: usize,
-    beyond: usize,
-) -> Result<Vec<DeepList<()>>, AllocError>
+fn far_lists(alloc: Global, sets: usize, beyond: usize) -> Result<Vec<DeepList<()>>, AllocError>
     requires some { 1 ≤ beyond }
     requires small { beyond ≤ 2 ^ 22 }
     ensures { IfOk result (λ far.

@@ -11,5 +11,5 @@ returns-clause-ranked g c =
     let P : ℕ → Type 0 = λ end. IsRanked top end slots chains in
     subst P (sym c.len.ensures)
     (gathered_ranked chains c.gather-top.ensures.slots
-    (omega (arith, c.gather-top.ensures.slots.long, c.requires.ranked.small)) c.file_all.ensures.chains
-    c.file_all.ensures.filed c.requires.once)
+    (omega (arith, c.gather-top.ensures.slots.long, c.requires.ranked.small))
+    c.file_all.ensures.chains c.file_all.ensures.filed c.requires.once)

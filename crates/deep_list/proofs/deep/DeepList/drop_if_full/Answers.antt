@@ -12,9 +12,11 @@ pub returns-then-self-clause-last : goal.returns-then-self-clause-last
 returns-then-self-clause-last g c =
     let full = full_length
     (held_is c.args.self.now c.self.inside.values.items c.self.invariant c.self.view_is)
-    c.if-self.true in
-    (full, c.drop_last.ensures.last ∙
-    ap (λ n. get_or c.args.self.now.values (n - 1) c.drop_last.result) full)
+    c.if-self.true in (
+      full,
+      c.drop_last.ensures.last ∙
+          ap (λ n. get_or c.args.self.now.values (n - 1) c.drop_last.result) full,
+    )
 
 pub returns-else-self-clause-last : goal.returns-else-self-clause-last
 returns-else-self-clause-last g c =

@@ -21,8 +21,7 @@ returns-in-Some-clause-found g c =
     let block : ℕ = c.args.block in
     let items = c.self.inside.values.items in
     let place : ℕ = c.live_before-place.result in
-    let value = c.index.result.now in
-    (
+    let value = c.index.result.now in (
       sym (ap (λ v. has_block block v.blocks) c.self.view_is) ∙
           found_inside d block c.in-Some.slot at,
       c.live_before-place.ensures ∙ sym (found_index d block c.in-Some.slot at) ∙

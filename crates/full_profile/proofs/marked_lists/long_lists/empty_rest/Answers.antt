@@ -1,5 +1,6 @@
 -- One block more is counted, before those behind it.
-use Rattle.std.proofs.Common.{◌≡◌, ◌+◌, ◌-◌, ◌<◌, ◌≤◌, ◌∙◌, ℕ, length, take, drop, get_or, sum, sym, ap}
+use Rattle.std.proofs.Common.{◌≡◌, ◌+◌, ◌-◌, ◌<◌, ◌≤◌, ◌∙◌, ℕ, length, take, drop, get_or, sum, sym}
+use Rattle.std.proofs.Common.{ap}
 use Rattle.std.proofs.Common.{arith, get_or-take}
 use Rattle.std.proofs.lemmas.List.{drop_all, take_all, take-take, length-take-le, get_or_read}
 use Rattle.deep_list.specs.Deep.{cut_to}

@@ -11,7 +11,8 @@ use Rattle.full_profile.proofs.marked_lists.LongBringing.{full_apart, full_found
 use Rattle.full_profile.proofs.marked_lists.LongBringing.{settled_found, settled_written}
 use Rattle.full_profile.proofs.marked_lists.LongBringing.{found_within}
 use Rattle.full_profile.proofs.marked_lists.long_lists.LongMarkedListsListStore.bring.Goals as goal
-use Rattle.full_profile.proofs.marked_lists.long_lists.LongMarkedListsListStore.bring.Goals.{After-exchange-touch}
+use
+    Rattle.full_profile.proofs.marked_lists.long_lists.LongMarkedListsListStore.bring.Goals.{After-exchange-touch}
 
 pub last-last-requires : goal.last-last-requires
 last-last-requires c = near_set (known c.self.invariant c.self.view_is c.requires.within)

@@ -1,6 +1,7 @@
 -- A list has the blocks of its row and those behind it.
 use Rattle.std.proofs.Common.{◌∙◌, length, ap, arith, length-append}
-use Rattle.full_profile.proofs.marked_lists.LongLists.{known, near_set, far_set, far_read, row, rest}
+use Rattle.full_profile.proofs.marked_lists.LongLists.{known, near_set, far_set, far_read, row}
+use Rattle.full_profile.proofs.marked_lists.LongLists.{rest}
 use Rattle.full_profile.proofs.marked_lists.LongLists.{blocks_are}
 use Rattle.full_profile.proofs.marked_lists.long_lists.LongMarkedListsListStore.held.Goals as goal
 
