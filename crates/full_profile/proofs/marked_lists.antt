@@ -6,6 +6,7 @@ pub mod Emptying
 pub mod Touching
 pub mod SlotMoves
 pub mod ListsInSlots
+pub mod RestTouch
 pub mod TwoParts
 pub mod LongLists
 pub mod LongBringing

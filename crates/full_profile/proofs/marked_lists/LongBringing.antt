@@ -15,10 +15,10 @@ use Rattle.trace_core.specs.Events.{is_write}
 use Rattle.deep_list.specs.Deep.{Deep, list_after_exchange}
 use Rattle.profile_core.specs.profile.RecencyList.{index_of, is_in, move_to_front}
 use Rattle.profile_core.specs.internal.set_lists.LongLists.{nothing, AreSplit}
-use Rattle.profile_core.proofs.set_lists.ListParts.{is_in-append, index-append_left}
-use Rattle.profile_core.proofs.set_lists.ListParts.{index-append_right, index-lt, index_absent}
-use Rattle.profile_core.proofs.set_lists.LongListLemmas.{StaysIn, stays, rest_behind, some_is}
-use Rattle.profile_core.proofs.set_lists.LongListBringing.{IsFull, full_renewed, last_apart}
+use Rattle.profile_core.proofs.ListParts.{is_in-append, index-append_left}
+use Rattle.profile_core.proofs.ListParts.{index-append_right, index-lt, index_absent}
+use Rattle.profile_core.proofs.LongListLemmas.{StaysIn, stays, rest_behind, some_is}
+use Rattle.profile_core.proofs.LongListBringing.{IsFull, full_renewed, last_apart}
 use Rattle.full_profile.specs.State.{clean_in_front}
 use Rattle.full_profile.specs.declared.marked_lists.MarkedTouch.{MarkedTouch}
 use Rattle.full_profile.specs.declared.marked_lists.MarkedTouch.TheVariants.{Behind, New, Full}
@@ -190,8 +190,8 @@ module _ {near : Marked} {beyond : ℕ} {far : List (Deep ℕ)} {k : ℕ} {m : M
       (other : (c : ℕ) → touch ≡ Full c → ⊥) where
     settled_stays : StaysIn (plain h) x
     settled_stays = elim (settled_parts (is_in x (row h)) (eqb (length (row h)) near.depth) touch
-    index (get_or (marks h) index 0) (get_or (marks h) (near.depth - 1) 0) (length (row h)) found
-    other) [
+        index (get_or (marks h) index 0) (get_or (marks h) (near.depth - 1) 0) (length (row h))
+        found other) [
       | inl inside ↦ inl inside
       | inr new ↦ inr (omega (
         arith,

@@ -18,10 +18,10 @@ use Rattle.profile_core.specs.profile.RecencyList.{index_of, move_to_front}
 use Rattle.profile_core.specs.internal.set_lists.LongLists.{whole_lists, nothing, rest_of, AreSplit}
 use Rattle.profile_core.specs.internal.set_lists.LongLists.{empty_deep}
 use Rattle.profile_core.proofs.Elements.{all_set}
-use Rattle.profile_core.proofs.set_lists.LongListLemmas.{HasWhole, IsRenewed, within, within_far}
-use Rattle.profile_core.proofs.set_lists.LongListLemmas.{list_is, joined-set, joined_at}
-use Rattle.profile_core.proofs.set_lists.LongListLemmas.{length-joined, joined_empty, empty_list}
-use Rattle.profile_core.proofs.set_lists.LongListLemmas.{empty_rest, split_none}
+use Rattle.profile_core.proofs.LongListLemmas.{HasWhole, IsRenewed, within, within_far}
+use Rattle.profile_core.proofs.LongListLemmas.{list_is, joined-set, joined_at}
+use Rattle.profile_core.proofs.LongListLemmas.{length-joined, joined_empty, empty_list}
+use Rattle.profile_core.proofs.LongListLemmas.{empty_rest, split_none}
 use Rattle.full_profile.specs.State.{clean_in_front}
 use Rattle.full_profile.specs.internal.Marked.{Marked, AreAlike, blocks_in, cleans_in, cleans_after}
 use Rattle.full_profile.specs.internal.Marked.{after_access, after_mark_in_front, without_list}

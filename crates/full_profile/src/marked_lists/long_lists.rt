@@ -156,6 +156,7 @@ fn front_clean(touch: MarkedTouch, access: Access, depth: usize) -> u32
 /// `last`, which was the last block of the row, with its clean depth in its front. Returns where
 /// the block was in the whole list.
 fn exchange(rest: &mut DeepList<u32>, row: usize, block: u64, last: u64, clean: u32) -> MarkedTouch
+    requires some { 1 ≤ rest.old.cap }
     requires other { has_block last rest.old.blocks ≡ false }
     requires few { row ≤ 2 ^ 22 }
     requires short { length rest.old.blocks ≤ 2 ^ 22 }

@@ -162,6 +162,7 @@ impl ListStore for ListRows {
     }
 
     fn empty_list(&mut self, set: usize, emptying: Emptying, copies: &mut Copies) {
-        self.empty_row(set, emptying, copies, self.depth);
+        let depth = self.depth;
+        self.empty_row(set, emptying, copies, depth);
     }
 }

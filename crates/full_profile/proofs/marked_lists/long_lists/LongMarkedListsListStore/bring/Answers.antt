@@ -3,9 +3,9 @@ use Rattle.std.proofs.Common.{◌∙◌, ap, arith, subst, sym, ℕ}
 use Rattle.deep_list.specs.Deep.{list_after_exchange}
 use Rattle.full_profile.specs.internal.Marked.{blocks_in, cleans_in, marked_touch_of}
 use Rattle.full_profile.specs.internal.LongMarked.{IsWithin, front_clean_of}
-use Rattle.profile_core.proofs.set_lists.LongListLemmas.{front_is}
-use Rattle.full_profile.proofs.marked_lists.LongLists.{known, near_set, depth_is, whole_long}
-use Rattle.full_profile.proofs.marked_lists.LongLists.{far_read, plain}
+use Rattle.profile_core.proofs.LongListLemmas.{front_is}
+use Rattle.full_profile.proofs.marked_lists.LongLists.{known, near_set, far_set, depth_is}
+use Rattle.full_profile.proofs.marked_lists.LongLists.{whole_long, far_read, plain}
 use Rattle.full_profile.proofs.marked_lists.LongBringing.{brought_set, brought_some, rest_small}
 use Rattle.full_profile.proofs.marked_lists.LongBringing.{full_apart, full_found, full_written}
 use Rattle.full_profile.proofs.marked_lists.LongBringing.{settled_found, settled_written}
@@ -25,6 +25,16 @@ pub bring-touch-requires-clause-behind : goal.bring-touch-requires-clause-behind
 bring-touch-requires-clause-behind c =
     front_is (plain (known c.self.invariant c.self.view_is c.requires.within)) c.args.block
     ∙ c.requires.behind
+
+pub exchange-touch-requires-clause-some : goal.exchange-touch-requires-clause-some
+exchange-touch-requires-clause-some c =
+    let h = known c.self.invariant c.self.view_is c.requires.within in
+    omega (
+      arith,
+      ap (λ d. d.cap) (far_read h c.index_mut.ensures.value),
+      h.sound.split.caps c.args.set (far_set h),
+      h.sound.some,
+    )
 
 pub exchange-touch-requires-clause-other : goal.exchange-touch-requires-clause-other
 exchange-touch-requires-clause-other c =

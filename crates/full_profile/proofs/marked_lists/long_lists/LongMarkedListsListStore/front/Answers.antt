@@ -1,6 +1,6 @@
 -- The front of a list is that of its row.
 use Rattle.std.proofs.Common.{◌∙◌}
-use Rattle.profile_core.proofs.set_lists.LongListLemmas.{first_is}
+use Rattle.profile_core.proofs.LongListLemmas.{first_is}
 use Rattle.full_profile.proofs.marked_lists.LongLists.{known, near_set, plain}
 use Rattle.full_profile.proofs.marked_lists.long_lists.LongMarkedListsListStore.front.Goals as goal
 

@@ -2,8 +2,8 @@
 use Rattle.std.proofs.Common.{◌+◌, ◌*◌, ◌≤◌, length, ap, arith}
 use Rattle.std.specs.List.{sum_by}
 use Rattle.deep_list.specs.Deep.{Deep}
-use Rattle.profile_core.proofs.set_lists.LongListLemmas.{length-joined, sum-joined, far_few}
-use Rattle.profile_core.proofs.set_lists.LongListLemmas.{far_held}
+use Rattle.profile_core.proofs.LongListLemmas.{length-joined, sum-joined, far_few}
+use Rattle.profile_core.proofs.LongListLemmas.{far_held}
 use Rattle.profile_core.proofs.set_lists.long_lists.LongListsSetLists.held.Goals as goal
 use Rattle.profile_core.proofs.set_lists.long_lists.LongListsSetLists.held.Goals.{After-deref}
 

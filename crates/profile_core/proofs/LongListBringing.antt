@@ -13,12 +13,12 @@ use Rattle.profile_core.specs.declared.set_lists.recency.Standing.{Standing}
 use Rattle.profile_core.specs.declared.set_lists.long_lists.InRow.TheVariants.{Settled, Full}
 use Rattle.profile_core.specs.internal.set_lists.Lists.{Lists, lists_after_bring}
 use Rattle.profile_core.specs.internal.set_lists.LongLists.{nothing, in_row_of}
-use Rattle.profile_core.proofs.set_lists.ListParts.{near_standing, once_apart, remove_past}
-use Rattle.profile_core.proofs.set_lists.ListParts.{index_absent, length-take_le, far_moved}
-use Rattle.profile_core.proofs.set_lists.ListParts.{far_found, far_new}
-use Rattle.profile_core.proofs.set_lists.LongListLemmas.{HasWhole, IsRenewed, row, rest, list}
-use Rattle.profile_core.proofs.set_lists.LongListLemmas.{within, within_far, list_is, rest_behind}
-use Rattle.profile_core.proofs.set_lists.LongListLemmas.{renewed, StaysIn, depth_small}
+use Rattle.profile_core.proofs.ListParts.{near_standing, once_apart, remove_past}
+use Rattle.profile_core.proofs.ListParts.{index_absent, length-take_le, far_moved}
+use Rattle.profile_core.proofs.ListParts.{far_found, far_new}
+use Rattle.profile_core.proofs.LongListLemmas.{HasWhole, IsRenewed, row, rest, list}
+use Rattle.profile_core.proofs.LongListLemmas.{within, within_far, list_is, rest_behind}
+use Rattle.profile_core.proofs.LongListLemmas.{renewed, StaysIn, depth_small}
 
 settled_at : (b1 b2 : Bool) (t t' : Standing) (held last : ℕ) → Settled t ≡ cond b1 (Settled t')
     (cond b2 (Settled t') (Full held last))

@@ -16,10 +16,10 @@ use Rattle.profile_core.proofs.Elements.{all_set, all_same}
 use Rattle.profile_core.proofs.rows.Shifting.{length-remove}
 use Rattle.profile_core.specs.internal.set_lists.LongLists.{whole_lists, nothing, rest_of}
 use Rattle.profile_core.specs.internal.set_lists.LongLists.{empty_deep, AreSplit}
-use Rattle.profile_core.proofs.set_lists.ListParts.{near_moved, once_moved, index-lt}
-use Rattle.profile_core.proofs.set_lists.ListParts.{length-remove_le, length-take_le, none_of}
-use Rattle.profile_core.proofs.set_lists.ListParts.{front-append, first-append, some-append}
-use Rattle.profile_core.proofs.set_lists.ListParts.{second-append}
+use Rattle.profile_core.proofs.ListParts.{near_moved, once_moved, index-lt}
+use Rattle.profile_core.proofs.ListParts.{length-remove_le, length-take_le, none_of}
+use Rattle.profile_core.proofs.ListParts.{front-append, first-append, some-append}
+use Rattle.profile_core.proofs.ListParts.{second-append}
 
 -- the list of set k
 pub joined_at : {V : Type 0} (near : List (List ℕ)) (far : List (Deep V)) (k : ℕ) →
