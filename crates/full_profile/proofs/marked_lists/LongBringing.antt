@@ -192,13 +192,16 @@ module _ {near : Marked} {beyond : ℕ} {far : List (Deep ℕ)} {k : ℕ} {m : M
     settled_stays = elim (settled_parts (is_in x (row h)) (eqb (length (row h)) near.depth) touch
         index (get_or (marks h) index 0) (get_or (marks h) (near.depth - 1) 0) (length (row h))
         found other) [
-      | inl inside ↦ inl inside
-      | inr new ↦ inr (omega (
-        arith,
-        unequal (length (row h)) near.depth new.0,
-        h.sound.split.short k,
-      ), new.1)
-    ]
+          | inl inside ↦ inl inside
+          | inr new ↦ inr (
+            omega (
+              arith,
+              unequal (length (row h)) near.depth new.0,
+              h.sound.split.short k,
+            ),
+            new.1,
+          )
+        ]
 
     pub settled_found : touch ≡ marked_touch_of m.depth x (blocks_in m k) (cleans_in m k)
     settled_found = found ∙ stays_found settled_stays ∙ whole_found

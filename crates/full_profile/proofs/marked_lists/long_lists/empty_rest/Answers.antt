@@ -88,13 +88,15 @@ loop-left-preserved c =
 
 pub returns-clause-list : goal.returns-clause-list
 returns-clause-list c =
-    c.loop-left.invariant.cut ∙ ap (λ n. cut_to n c.args.rest.now)
-    (omega (arith, c.loop-left-test.false))
+    let none : c.loop-left.left ≡ 0 = omega (arith, c.loop-left-test.false) in
+    c.loop-left.invariant.cut ∙ ap (λ n. cut_to n c.args.rest.now) none
 
 pub returns-clause-copies : goal.returns-clause-copies
 returns-clause-copies c =
+    let none : c.loop-left.left ≡ 0 = omega (arith, c.loop-left-test.false) in
+    let first : c.args.held + 0 ≡ c.args.held = omega arith in
     c.loop-left.invariant.counted
     ∙ ap (λ n. with_copies_of (up_to_of c.args.emptying c.args.depth) (c.args.held + n)
-    (drop n c.args.rest.now.values) c.args.copies.now) (omega (arith, c.loop-left-test.false))
+    (drop n c.args.rest.now.values) c.args.copies.now) none
     ∙ ap (λ n. with_copies_of (up_to_of c.args.emptying c.args.depth) n c.args.rest.now.values
-    c.args.copies.now) (omega arith)
+    c.args.copies.now) first

@@ -1,5 +1,5 @@
 -- A block that comes to the front of a list, from its row or from behind it, or new.
-use Rattle.std.proofs.Common.{◌∙◌, ap, arith, subst, sym, ℕ}
+use Rattle.std.proofs.Common.{◌≡◌, ◌∙◌, ap, arith, subst, sym, ℕ}
 use Rattle.deep_list.specs.Deep.{list_after_exchange}
 use Rattle.full_profile.specs.internal.Marked.{blocks_in, cleans_in, marked_touch_of}
 use Rattle.full_profile.specs.internal.LongMarked.{IsWithin, front_clean_of}
@@ -114,4 +114,52 @@ returns-in-Full-clause-moved c =
     c.bring-touch.ensures.moved c.mark_front.ensures c.exchange-touch.new.rest
     (c.exchange-touch.ensures.moved
     ∙ ap (λ d. list_after_exchange d c.args.block c.last-last.result c.in-Full.clean) read) in
+    put.seen
+
+-- the row tells where the block was
+pub front_clean-requires-2-clause-small : goal.front_clean-requires-2-clause-small
+front_clean-requires-2-clause-small c =
+    let h = known c.self.invariant c.self.view_is c.requires.within in
+    omega (arith, c.depth-depth.ensures, depth_is h, h.sound.small)
+
+pub front_clean-requires-2-clause-within : goal.front_clean-requires-2-clause-within
+front_clean-requires-2-clause-within c =
+    let h = known c.self.invariant c.self.view_is c.requires.within in
+    let m = c.args.self.now in
+    subst (λ d. IsWithin d c.bring-touch.result) (sym c.depth-depth.ensures)
+    (found_within m.depth c.args.block (blocks_in m c.args.set) (cleans_in m c.args.set)
+    (whole_long h) (settled_found h c.args.block c.bring-touch.ensures.found
+    c.in_default.not-Full))
+
+pub mark_front-requires-2-clause-within : goal.mark_front-requires-2-clause-within
+mark_front-requires-2-clause-within c =
+    brought_set (known c.self.invariant c.self.view_is c.requires.within) c.args.block
+    c.args.access c.bring-touch.ensures.moved
+
+pub mark_front-requires-2-clause-some : goal.mark_front-requires-2-clause-some
+mark_front-requires-2-clause-some c =
+    brought_some (known c.self.invariant c.self.view_is c.requires.within) c.args.block
+    c.args.access c.bring-touch.ensures.moved
+
+pub invariant_of-self-2 : goal.invariant_of-self-2
+invariant_of-self-2 c =
+    let h = known c.self.invariant c.self.view_is c.requires.within in
+    let put = settled_written h c.args.block c.bring-touch.ensures.found c.in_default.not-Full
+    c.args.access c.front_clean-2.result
+    (c.front_clean-2.ensures ∙ ap (λ d. front_clean_of d c.args.access c.bring-touch.result)
+    c.depth-depth.ensures) c.bring-touch.ensures.moved c.mark_front-2.ensures in
+    put.sound
+
+pub returns-clause-found : goal.returns-clause-found
+returns-clause-found c =
+    settled_found (known c.self.invariant c.self.view_is c.requires.within) c.args.block
+    c.bring-touch.ensures.found c.in_default.not-Full
+
+pub returns-clause-moved : goal.returns-clause-moved
+returns-clause-moved c =
+    let h = known c.self.invariant c.self.view_is c.requires.within in
+    let put = settled_written h c.args.block c.bring-touch.ensures.found c.in_default.not-Full
+    c.args.access c.front_clean-2.result
+    (c.front_clean-2.ensures ∙ ap (λ d. front_clean_of d c.args.access c.bring-touch.result)
+    c.depth-depth.ensures) c.bring-touch.ensures.moved c.mark_front-2.ensures in
     put.seen

@@ -9,8 +9,15 @@ use Rattle.full_profile.proofs.marked_lists.LongLists.{values, emptied}
 use
     Rattle.full_profile.proofs.marked_lists.long_lists.LongMarkedListsListStore.empty_list.Goals as goal
 
-pub held-requires : goal.held-requires
-held-requires c = near_set (known c.self.invariant c.self.view_is c.requires.set)
+pub held-held-requires : goal.held-held-requires
+held-held-requires c = near_set (known c.self.invariant c.self.view_is c.requires.set)
+
+pub index_mut-requires : goal.index_mut-requires
+index_mut-requires c = omega (
+  arith,
+  far_set (known c.self.invariant c.self.view_is c.requires.set),
+  c.self.inside.far.ok.0,
+)
 
 pub empty_rest-requires-clause-short : goal.empty_rest-requires-clause-short
 empty_rest-requires-clause-short c =
@@ -80,7 +87,7 @@ empty_row-requires-clause-within c =
       c.requires.within,
     )
 
-pub empty_row-requires-clause-above : goal.empty_row-requires-clause-above_few
+pub empty_row-requires-clause-above : goal.empty_row-requires-clause-above
 empty_row-requires-clause-above c =
     let h = known c.self.invariant c.self.view_is c.requires.set in
     let more = copies_more (up_to_of c.args.emptying c.depth-depth.result) c.held-held.result
@@ -95,7 +102,7 @@ empty_row-requires-clause-above c =
       c.requires.above,
     )
 
-pub empty_row-requires-clause-up_to : goal.empty_row-requires-clause-few
+pub empty_row-requires-clause-up_to : goal.empty_row-requires-clause-up_to
 empty_row-requires-clause-up_to c =
     let h = known c.self.invariant c.self.view_is c.requires.set in
     let more = copies_more (up_to_of c.args.emptying c.depth-depth.result) c.held-held.result
@@ -129,12 +136,13 @@ returns-clause-copies c =
     let h = known c.self.invariant c.self.view_is c.requires.set in
     let up_to = up_to_of c.args.emptying c.depth-depth.result in
     let copies = c.args.copies.now in
+    let behind : c.held-held.result ≡ 0 + length (marks h) =
+    omega (arith, c.held-held.ensures, marks_long h) in
     c.empty_row.ensures.copies
     ∙ ap (with_copies_of up_to 0 (marks h)) (c.empty_rest.ensures.copies
     ∙ ap (λ d. with_copies_of up_to c.held-held.result d.values copies)
     (far_read h c.index_mut.ensures.value)
-    ∙ ap (λ n. with_copies_of up_to n (values h) copies)
-    (c.held-held.ensures ∙ sym (marks_long h)))
+    ∙ ap (λ n. with_copies_of up_to n (values h) copies) behind)
     ∙ sym (copies_append up_to 0 (marks h) (values h) copies)
     ∙ ap (λ l. with_copies_of up_to 0 l copies) (sym (cleans_are h))
     ∙ ap (λ n. with_copies_of (up_to_of c.args.emptying n) 0 (cleans_in c.args.self.now c.args.set)
