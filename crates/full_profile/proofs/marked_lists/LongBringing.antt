@@ -1,5 +1,5 @@
 -- A block that comes to the front of its list, from the row or from behind it, and its clean depth.
-use Rattle.std.proofs.Common.{◌≡◌, ℕ, zero, suc, ◌+◌, ◌-◌, ◌<◌, ◌≤◌, ◌^◌, ◌⊎◌, inl, inr, Bool, true}
+use Rattle.std.proofs.Common.{◌≡◌, ℕ, ◌+◌, ◌-◌, ◌<◌, ◌≤◌, ◌^◌, ◌⊎◌, inl, inr, Bool, true}
 use Rattle.std.proofs.Common.{false}
 use Rattle.std.proofs.Common.{cond, eqb, ◌||◌, List, [], ◌∷◌, ◌++◌, length, take, get_or, set, refl}
 use Rattle.std.proofs.Common.{sym}
@@ -24,7 +24,7 @@ use Rattle.full_profile.specs.declared.marked_lists.MarkedTouch.{MarkedTouch}
 use Rattle.full_profile.specs.declared.marked_lists.MarkedTouch.TheVariants.{Behind, New, Full}
 use Rattle.full_profile.specs.internal.Marked.{Marked, blocks_in, cleans_in, cleans_after}
 use Rattle.full_profile.specs.internal.Marked.{after_access, after_mark_in_front, marked_touch_of}
-use Rattle.full_profile.specs.internal.LongMarked.{values_of, rest_touch_of, front_clean_of}
+use Rattle.full_profile.specs.internal.LongMarked.{rest_touch_of, front_clean_of}
 use Rattle.full_profile.specs.internal.LongMarked.{IsWithin}
 use Rattle.full_profile.specs.internal.Sound.{plain_lists}
 use Rattle.full_profile.proofs.marked_lists.Touching.{same_size, unequal}
@@ -34,8 +34,8 @@ use Rattle.full_profile.proofs.marked_lists.LongLists.{HasMarked, IsWritten, pla
 use Rattle.full_profile.proofs.marked_lists.LongLists.{marks}
 use Rattle.full_profile.proofs.marked_lists.LongLists.{values, near_set, far_set, blocks_are}
 use Rattle.full_profile.proofs.marked_lists.LongLists.{cleans_are, depth_is, marks_long}
-use Rattle.full_profile.proofs.marked_lists.LongLists.{values_long, whole_long, written, brought}
-use Rattle.full_profile.proofs.marked_lists.LongLists.{brought_is, brought_alike, near_with}
+use Rattle.full_profile.proofs.marked_lists.LongLists.{values_long, written, brought}
+use Rattle.full_profile.proofs.marked_lists.LongLists.{brought_is, brought_alike}
 
 -- where a block is found
 touch_in : (d x : ℕ) (xs cs : List ℕ) → is_in x xs ≡ true →

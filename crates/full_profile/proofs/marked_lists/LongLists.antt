@@ -1,6 +1,6 @@
 -- Lists whose first blocks stand in a row and the others in a deep list: what stands in a list, and
 -- one list written anew.
-use Rattle.std.proofs.Common.{◌≡◌, ◌≢◌, ℕ, zero, suc, ◌+◌, ◌*◌, ◌-◌, ◌<◌, ◌≤◌, ◌^◌, List, [], ◌∷◌}
+use Rattle.std.proofs.Common.{◌≡◌, ◌≢◌, ℕ, zero, suc, ◌+◌, ◌*◌, ◌<◌, ◌≤◌, ◌^◌, List, [], ◌∷◌}
 use Rattle.std.proofs.Common.{◌++◌}
 use Rattle.std.proofs.Common.{length, take, get_or, set, refl, sym, ◌∙◌, ap, subst, arith}
 use Rattle.std.proofs.Common.{append-nil}
@@ -18,12 +18,12 @@ use Rattle.profile_core.specs.profile.RecencyList.{index_of, move_to_front}
 use Rattle.profile_core.specs.internal.set_lists.LongLists.{whole_lists, nothing, rest_of, AreSplit}
 use Rattle.profile_core.specs.internal.set_lists.LongLists.{empty_deep}
 use Rattle.profile_core.proofs.Elements.{all_set}
-use Rattle.profile_core.proofs.LongListLemmas.{HasWhole, IsRenewed, within, within_far}
+use Rattle.profile_core.proofs.LongListLemmas.{HasWhole, within, within_far}
 use Rattle.profile_core.proofs.LongListLemmas.{list_is, joined-set, joined_at}
 use Rattle.profile_core.proofs.LongListLemmas.{length-joined, joined_empty, empty_list}
 use Rattle.profile_core.proofs.LongListLemmas.{empty_rest, split_none}
 use Rattle.full_profile.specs.State.{clean_in_front}
-use Rattle.full_profile.specs.internal.Marked.{Marked, AreAlike, blocks_in, cleans_in, cleans_after}
+use Rattle.full_profile.specs.internal.Marked.{Marked, AreAlike, blocks_in, cleans_in}
 use Rattle.full_profile.specs.internal.Marked.{after_access, after_mark_in_front, without_list}
 use Rattle.full_profile.specs.internal.Marked.{empty_marked}
 use Rattle.full_profile.specs.internal.LongMarked.{whole_cleans, whole_marked, values_of, AreLong}

@@ -1,4 +1,4 @@
-use Rattle.std.proofs.Common.{◌-◌, ◌∙◌, ◌≤◌, ◌∷◌, take, ap, ℕ, arith, subst}
+use Rattle.std.proofs.Common.{◌-◌, ◌∙◌, ◌≤◌, ◌∷◌, take, ap, ℕ, arith}
 use Rattle.std.specs.List.{remove}
 use Rattle.deep_list.specs.Deep.{has_block, index_of_block, cut_to}
 use Rattle.deep_list.proofs.LiveItemLemmas.{not_in-take, not_in-remove}

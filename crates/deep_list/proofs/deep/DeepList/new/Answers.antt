@@ -1,7 +1,6 @@
-use Rattle.std.proofs.Common.{◌+◌, ◌/◌, ◌∙◌, length, ap, List, ℕ}
+use Rattle.std.proofs.Common.{◌+◌, ◌/◌, ◌∙◌, length, ap, ℕ}
 use Rattle.std.proofs.Common.{arith}
 use Rattle.std.proofs.lemmas.List.{length-replicate}
-use Rattle.deep_list.specs.Deep.{Deep}
 use Rattle.deep_list.proofs.DeepLemmas.{none_deep, none_kept, chains_none, same_deep}
 use Rattle.deep_list.proofs.deep.DeepList.new.Goals as goal
 

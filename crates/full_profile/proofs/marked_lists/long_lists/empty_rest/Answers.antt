@@ -2,7 +2,7 @@
 use Rattle.std.proofs.Common.{◌≡◌, ◌+◌, ◌-◌, ◌<◌, ◌≤◌, ◌∙◌, ℕ, length, take, drop, get_or, sum, sym}
 use Rattle.std.proofs.Common.{ap}
 use Rattle.std.proofs.Common.{arith, get_or-take}
-use Rattle.std.proofs.lemmas.List.{drop_all, take_all, take-take, length-take-le, get_or_read}
+use Rattle.std.proofs.lemmas.List.{drop_all, length-take-le, get_or_read}
 use Rattle.deep_list.specs.Deep.{cut_to}
 use Rattle.full_profile.specs.internal.Copies.{with_copy, with_copies_of, up_to_of}
 use Rattle.full_profile.proofs.copies.Adding.{none_more, one_copy, none_left, one_behind}

@@ -1,5 +1,5 @@
 -- Both parts are small.
-use Rattle.std.proofs.Common.{◌∙◌, ap, arith}
+use Rattle.std.proofs.Common.{ap, arith}
 use Rattle.full_profile.proofs.marked_lists.long_lists.LongMarkedLists.depth.Goals as goal
 
 pub overflow_add-result : goal.overflow_add-result

@@ -1,5 +1,5 @@
 -- Empty lists, with nothing behind their rows.
-use Rattle.std.proofs.Common.{◌≡◌, ◌+◌, ◌-◌, ◌*◌, ◌≤◌, ℕ, ap, arith}
+use Rattle.std.proofs.Common.{◌≡◌, ◌+◌, ◌-◌, ◌*◌, ℕ, ap, arith}
 use Rattle.profile_core.proofs.LongListLemmas.{depth_small}
 use Rattle.full_profile.proofs.marked_lists.LongLists.{new_long, new_whole}
 use Rattle.full_profile.proofs.marked_lists.long_lists.LongMarkedLists.new.Goals as goal

@@ -1,5 +1,5 @@
 -- A block that comes to the front of a list, from its row or from behind it, or new.
-use Rattle.std.proofs.Common.{◌≡◌, ◌∙◌, ap, arith, subst, sym, ℕ}
+use Rattle.std.proofs.Common.{◌≡◌, ◌∙◌, ap, arith, subst, sym}
 use Rattle.deep_list.specs.Deep.{list_after_exchange}
 use Rattle.full_profile.specs.internal.Marked.{blocks_in, cleans_in, marked_touch_of}
 use Rattle.full_profile.specs.internal.LongMarked.{IsWithin, front_clean_of}

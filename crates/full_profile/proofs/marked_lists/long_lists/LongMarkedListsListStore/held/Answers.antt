@@ -1,5 +1,5 @@
 -- A list has the blocks of its row and those behind it.
-use Rattle.std.proofs.Common.{◌∙◌, length, ap, arith, length-append}
+use Rattle.std.proofs.Common.{length, ap, arith, length-append}
 use Rattle.full_profile.proofs.marked_lists.LongLists.{known, near_set, far_set, far_read, row}
 use Rattle.full_profile.proofs.marked_lists.LongLists.{rest}
 use Rattle.full_profile.proofs.marked_lists.LongLists.{blocks_are}

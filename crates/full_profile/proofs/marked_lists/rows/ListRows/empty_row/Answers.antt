@@ -5,7 +5,7 @@ use Rattle.std.proofs.lemmas.List.{get_or_read, take-take}
 use Rattle.full_profile.specs.internal.Marked.{cleans_in}
 use Rattle.full_profile.specs.internal.Copies.{with_copies_of, up_to_of}
 use Rattle.full_profile.proofs.marked_lists.Parts.{part_lent}
-use Rattle.full_profile.proofs.marked_lists.ListsInRows.{known, within, depth_is, blocks_end}
+use Rattle.full_profile.proofs.marked_lists.ListsInRows.{known, within, blocks_end}
 use Rattle.full_profile.proofs.marked_lists.ListsInRows.{cleans_end, cleans_are, emptied_sound}
 use Rattle.full_profile.proofs.marked_lists.ListsInRows.{list_emptied}
 use Rattle.full_profile.proofs.marked_lists.rows.ListRows.empty_row.Goals as goal
