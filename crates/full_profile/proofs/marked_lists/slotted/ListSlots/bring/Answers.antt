@@ -29,8 +29,8 @@ put-clean-requires-clause-within c =
       place_lt c.args.block c.args.front.now c.args.front_clean.now
           c.args.self.now.len c.args.depth (blocks_behind c.args.self.now) (cleans_behind
           c.args.self.now) (blocks_behind_long c.requires.sound) c.requires.some c.requires.fits
-          c.requires.most c.requires.two c.requires.behind c.in-Behind.place (c.in-Behind.ensures ∙ ap
-          (standing_of c.args.block) (looked_at c.args.self.now.len c.args.self.now (omega (
+          c.requires.most c.requires.two c.requires.behind c.in-Behind.place
+          (c.in-Behind.ensures ∙ ap (standing_of c.args.block) (looked_at c.args.self.now.len c.args.self.now (omega (
             arith,
             c.requires.fits,
             c.requires.most,
@@ -46,8 +46,8 @@ overflow_cast-place c =
       place_lt c.args.block c.args.front.now c.args.front_clean.now
           c.args.self.now.len c.args.depth (blocks_behind c.args.self.now) (cleans_behind
           c.args.self.now) (blocks_behind_long c.requires.sound) c.requires.some c.requires.fits
-          c.requires.most c.requires.two c.requires.behind c.in-Behind.place (c.in-Behind.ensures ∙ ap
-          (standing_of c.args.block) (looked_at c.args.self.now.len c.args.self.now (omega (
+          c.requires.most c.requires.two c.requires.behind c.in-Behind.place
+          (c.in-Behind.ensures ∙ ap (standing_of c.args.block) (looked_at c.args.self.now.len c.args.self.now (omega (
             arith,
             c.requires.fits,
             c.requires.most,
@@ -63,8 +63,8 @@ overflow_add-place c =
       place_lt c.args.block c.args.front.now c.args.front_clean.now
           c.args.self.now.len c.args.depth (blocks_behind c.args.self.now) (cleans_behind
           c.args.self.now) (blocks_behind_long c.requires.sound) c.requires.some c.requires.fits
-          c.requires.most c.requires.two c.requires.behind c.in-Behind.place (c.in-Behind.ensures ∙ ap
-          (standing_of c.args.block) (looked_at c.args.self.now.len c.args.self.now (omega (
+          c.requires.most c.requires.two c.requires.behind c.in-Behind.place
+          (c.in-Behind.ensures ∙ ap (standing_of c.args.block) (looked_at c.args.self.now.len c.args.self.now (omega (
             arith,
             c.requires.fits,
             c.requires.most,
