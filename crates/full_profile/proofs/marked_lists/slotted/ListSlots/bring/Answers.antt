@@ -30,7 +30,8 @@ put-clean-requires-clause-within c =
           c.args.self.now.len c.args.depth (blocks_behind c.args.self.now) (cleans_behind
           c.args.self.now) (blocks_behind_long c.requires.sound) c.requires.some c.requires.fits
           c.requires.most c.requires.two c.requires.behind c.in-Behind.place
-          (c.in-Behind.ensures ∙ ap (standing_of c.args.block) (looked_at c.args.self.now.len c.args.self.now (omega (
+          (c.in-Behind.ensures ∙ ap
+          (standing_of c.args.block) (looked_at c.args.self.now.len c.args.self.now (omega (
             arith,
             c.requires.fits,
             c.requires.most,
@@ -47,7 +48,8 @@ overflow_cast-place c =
           c.args.self.now.len c.args.depth (blocks_behind c.args.self.now) (cleans_behind
           c.args.self.now) (blocks_behind_long c.requires.sound) c.requires.some c.requires.fits
           c.requires.most c.requires.two c.requires.behind c.in-Behind.place
-          (c.in-Behind.ensures ∙ ap (standing_of c.args.block) (looked_at c.args.self.now.len c.args.self.now (omega (
+          (c.in-Behind.ensures ∙ ap
+          (standing_of c.args.block) (looked_at c.args.self.now.len c.args.self.now (omega (
             arith,
             c.requires.fits,
             c.requires.most,
@@ -64,7 +66,8 @@ overflow_add-place c =
           c.args.self.now.len c.args.depth (blocks_behind c.args.self.now) (cleans_behind
           c.args.self.now) (blocks_behind_long c.requires.sound) c.requires.some c.requires.fits
           c.requires.most c.requires.two c.requires.behind c.in-Behind.place
-          (c.in-Behind.ensures ∙ ap (standing_of c.args.block) (looked_at c.args.self.now.len c.args.self.now (omega (
+          (c.in-Behind.ensures ∙ ap
+          (standing_of c.args.block) (looked_at c.args.self.now.len c.args.self.now (omega (
             arith,
             c.requires.fits,
             c.requires.most,
@@ -117,7 +120,8 @@ returns-in-Behind-clause-cleans c =
     c.args.front_clean.now c.args.self.now.len c.args.depth (blocks_behind c.args.self.now)
     (cleans_behind c.args.self.now) (blocks_behind_long c.requires.sound) c.requires.some
     c.requires.fits c.requires.most c.requires.two c.requires.behind c.in-Behind.place
-    (c.in-Behind.ensures ∙ ap (standing_of c.args.block) (looked_at c.args.self.now.len
+    (c.in-Behind.ensures ∙ ap
+    (standing_of c.args.block) (looked_at c.args.self.now.len
     c.args.self.now (omega (arith, c.requires.fits, c.requires.most)))) _ c.args.front_clean.now
     (cleans_behind c.args.self.now) (cleans_behind_long c.requires.sound)
 
