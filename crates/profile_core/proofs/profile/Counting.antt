@@ -1,7 +1,7 @@
 -- What a profile answers is what the definitions say of the events that it stands for.
-use Rattle.std.proofs.Common.{◌≡◌, ℕ, ◌+◌, ◌*◌, ◌≤◌, Bool, true, false, not, ◌&&◌, cond, eqb}
+use Rattle.std.proofs.Common.{◌≡◌, ℕ, ◌+◌, ◌*◌, ◌≤◌, ◌^◌, Bool, true, false, not, ◌&&◌, cond, eqb}
 use Rattle.std.proofs.Common.{ltb, leb, min, List, [], ◌∷◌, length, take, drop, map, sum, refl, sym}
-use Rattle.std.proofs.Common.{◌∙◌, ap, subst, arith, get_or}
+use Rattle.std.proofs.Common.{◌∙◌, ap, subst, arith, get_or, length-take}
 use Rattle.std.specs.List.{count_by, sum_by, range_with_len}
 use Rattle.std.proofs.lemmas.Bool.Decides.{nat_tests}
 use Rattle.std.proofs.lemmas.List.{take_all}
@@ -11,10 +11,10 @@ use Rattle.trace_core.specs.declared.events.Event.{Event}
 use Rattle.trace_core.specs.declared.events.Event.TheVariants as event
 use Rattle.cache_core.specs.Geometry.{GeometryValue, block_of}
 use Rattle.cache_core.specs.Windows.{Occurrence, distinct_of_set, has_last, distance, blocks_seen}
-use Rattle.cache_core.specs.Windows.{is_hit, window, occurrences, probes, counts}
+use Rattle.cache_core.specs.Windows.{is_hit, window, occurrences, probes, held, counts}
 use Rattle.cache_core.proofs.Occurrences.{occurrences_from, occurrences-from}
 use Rattle.cache_core.specs.declared.outcome.Counts.{Counts}
-use Rattle.profile_core.specs.profile.State.{ProfileState, fed_of, counts_at}
+use Rattle.profile_core.specs.profile.State.{ProfileState, fed_of, held_of, counts_at}
 use Rattle.profile_core.specs.profile.ProfileStandsFor.{ProfileStandsFor}
 use Rattle.profile_core.proofs.profile.Sums.{sum-counts}
 use Rattle.profile_core.proofs.profile.Steps.{Finds, finds}
@@ -193,6 +193,18 @@ counts_are es v e h le =
     omega (arith, misses, young, old, misses_split) in
     let same : counts_at v e ≡ counts_by g e ps = cc (hits, misses, evictions) in
     same ∙ sym (counts_same g e es)
+
+pub held_is : (es : List Event) (v : ProfileState) → ProfileStandsFor es v →
+    held_of v ≡ held v.geometry es
+unfolding held
+held_is es v h =
+    let g = v.geometry in
+    let list : ℕ → List ℕ = λ k. take g.e (distinct_of_set g k (window g es)) in
+    ap (sum_by length) (fill_by_all list v.lists (2 ^ g.s) [] h.set_count h.lists)
+    ∙ sum_by-map length list (range_with_len 0 (2 ^ g.s))
+    ∙ sum_by_same (λ k. length (list k)) (λ k. min (length (distinct_of_set g k (window g es))) g.e)
+    (range_with_len 0 (2 ^ g.s))
+    (λ k. length-take g.e (distinct_of_set g k (window g es)) ∙ omega arith)
 
 few : (last near : Bool) (d n m : ℕ) → (near ≡ ltb d m) → cond (last && near) (d + 1) (min n m) ≤ m
 few last near d n m e = grind (arith, nat_tests)
