@@ -3,7 +3,7 @@
 An option is a line of a help that begins with it, behind blanks. Its value is one of several words
 where it stands as u|d|i or {yes,no}, or where the option's text ends in letters with their
 meanings, as 'u all, d data'. A tool that takes the options of `cachesim sweep` or `cachesim din`,
-as its help says, has these too, but for the trace and what the help leaves out. Each argument of a
+as its help says, has these too, except the trace and what the help leaves out. Each argument of a
 tool may be a file.
 """
 
@@ -129,7 +129,7 @@ def filled(form, cases, commands):
 
 def bash(commands):
     """A function that is called for each word: it gives words, files or nothing for the value of an
-    option, else options."""
+    option, otherwise options."""
 
     def entries(option):
         value = "=" + (",".join(dict(option.words)) or "FILE" * option.is_file)

@@ -34,7 +34,7 @@ def table(found):
 
 
 def of_program(texts, names):
-    """The manual with NAME and SYNOPSIS in place of its title, list of calls and contents."""
+    """The manual with NAME and SYNOPSIS instead of its title, list of calls and contents."""
     manual = (TOP / "docs/manual.md").read_text(encoding="utf-8")
     beginning = BEGINNING.match(manual)
     if not beginning:

@@ -219,7 +219,7 @@ def one_cache(rng, name, bits, sets, ways):
 
 
 def of_system(rng, command, bits, sets, ways, format):
-    """Each cache has so many sets and ways, but for a first level of one block, which passes nearly
+    """Each cache has so many sets and ways, except a first level of one block, which passes nearly
     all on to the second."""
     names = rng.choice((["l1-u"], ["l1-u"], ["l1-i", "l1-d"], ["l2-u"]))
     words = [word for name in names for word in one_cache(rng, name, bits, sets, ways)]

@@ -284,7 +284,7 @@ class ToolTest(unittest.TestCase):
         return path
 
     def stand_in(self, command, *lines):
-        """Puts a script for bash in place of a command. Returns the path to be searched."""
+        """Puts a script for bash instead of a command. Returns the path to be searched."""
         folder = self.executable(f"stand-ins/{command}", *lines).parent
         return {"PATH": f"{folder}:{PROGRAM.parent}:{os.environ['PATH']}"}
 

@@ -122,7 +122,7 @@ class Filtering(reading_base.Reading):
         for word in ("-h", "--help"):
             text = self.good(self.run_tool(self.TOOL, "trace", word))
             self.assertTrue(text.startswith(f"{self.TOOL} TRACE "), text)
-            self.assertIn("those of\n`cachesim din`, but for -t", text)
+            self.assertIn("those of\n`cachesim din`, except -t", text)
 
 
 def cases(seed, count=3):

@@ -79,7 +79,7 @@ class Runs(Bench):
         self.assertEqual(lines[1].split(), "usual 0.400 (0.100) 0.200 (0.050) 2.000".split())
 
     def test_what_it_runs(self):
-        """By turns, with the words of the line, the seed in place of its word, in bench/."""
+        """By turns, with the words of the line, the seed instead of its word, in bench/."""
         kept = f'echo "$0 $* in $PWD" >> {self.folder}/ran'
         for checkout in ("old", "new"):
             self.program(checkout, kept, *GOOD)

@@ -17,7 +17,7 @@ FIRST = "1 2 3 4 5".split()
 OF_A_CACHE = "size bsize sbsize assoc repl fetch pfdist pfabort walloc wback ccc".split()
 HERE = {f"-{cache}{name}" for cache in ("l1-i", "l1-d", "l1-u", "l2-u")
         for name in ("size", "bsize", "assoc", "repl", "walloc", "wback")}
-# all of dineroIV -help, of caches of each level and kind, and the others but for -help
+# all of dineroIV -help, of caches of each level and kind, and the others except -help
 OPTIONS = {f"-l{level}-{kind}{name}" for level in "12345" for kind in "uid" for name in OF_A_CACHE}
 OTHERS = ("-skipcount -flushcount -maxcount -stat-interval -stat-idcombine -on-trigger "
           "-off-trigger -custom -copyright -contact -dineroIII -trname").split()

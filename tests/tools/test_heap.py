@@ -288,7 +288,7 @@ class Processes(HeapTest):
 @base.needs("g++", "gcc", "qemu-user", "binutils", "llvm")
 class Disturbed(HeapTest):
     def test_references(self):
-        """In main all are as without it, but for the allocator's stack and thread-local data."""
+        """In main all are as without it, except the allocator's stack and thread-local data."""
         program, env = blocks(), {"LD_BIND_NOW": "1"}
         plain, others = (self.traced_to_file("--from", "main", *options, program, env=env)[0]
                          for options in ((), ("--heap", "heap")))

@@ -403,7 +403,7 @@ class Mutants(ToolTest):
         self.listed(f"{head}new:         requires {{ number ≤ 2 }} {clause}\n", other)
 
     def test_a_control_of_many_words(self):
-        """It is the mutant but for a few, wherever they stand."""
+        """It is the mutant except a few, wherever they stand."""
         own = [f"and number {at}" for at in range(4)]
         new = EDIT.replace("number / 3", f"number / 3 {' '.join(own)}")
         goal, right = "goal: Half::of value\n", "right:         number >> 1"

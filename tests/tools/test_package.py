@@ -34,7 +34,7 @@ def crates():
 
 
 def packages_named(tools):
-    """Debian's packages that the files of a folder name where something is missing, but for what is
+    """Debian's packages that the files of a folder name where something is missing, except what is
     built there."""
     found, package = set(), r"([a-z][\w+.-]*\w)"
     # after a command for it, in a call of tool.needs, and in a row of runs.UNPACKERS

@@ -33,7 +33,7 @@ def written_in(word):
 
 
 def tools():
-    """The executables under tools/ and package/, but for debhelper's rules."""
+    """The executables under tools/ and package/, except debhelper's rules."""
     folders = (f"{base.TOOLS}/", f"{base.PACKAGING}/")
     found = [path for path in scripts() if path.startswith(folders) and os.access(path, os.X_OK)
              and not os.path.islink(path)]
@@ -138,7 +138,7 @@ class Widths(unittest.TestCase):
         return whole is not None and re.search(whole, line) is not None
 
     def judge(self, paths):
-        """No line is too long, but for those that can't be broken."""
+        """No line is too long, except those that can't be broken."""
         longer = []
         for path in paths:
             if most := self.width(path):

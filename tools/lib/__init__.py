@@ -56,7 +56,7 @@ def end_early(text, status):
 
 
 def last_fault(kind, fault, trace):
-    """What ends a tool in place of a traceback where the system refuses something."""
+    """What ends a tool instead of a traceback where the system refuses something."""
     if issubclass(kind, MemoryError):
         text = "out of memory"
     elif issubclass(kind, (OSError, ImportError)):

@@ -9,11 +9,11 @@ from lib.compiled import compiled
 
 ROOM = 1 << 20  # the bytes that the log may be ahead
 CACHES = "l1-i", "l1-d", "l1-u", "l2-u"
-# what the texts of several tools say, in place of these words
+# what the texts of several tools say, instead of these words
 TEXTS = {"{caches}": """\
 TRACE is a file, which may end in .gz, .xz or .zst, or - for standard input.
 It is read once. The OPTIONs are those of
-`cachesim din`, but for -t: the caches, -informat and --seed.
+`cachesim din`, except -t: the caches, -informat and --seed.
 --format is another name for -informat.""", "{cache}": """\
   --cache CACHE     counts what comes to l1-i, l1-d, l1-u or l2-u; without it, all that the first
                     level takes. --at is another name for it, as in by-line"""}

@@ -50,7 +50,7 @@ def stop(number, _):
 
 
 def look_each_second(look=lambda *_: None, first=1):
-    """Calls `look` each second, in place of what was called before. Python only takes note of a
+    """Calls `look` each second, instead of what was called before. Python only takes note of a
     signal that comes just before a wait, and heeds it when the wait is interrupted: by this. The
     timer may have been set before: that alarm still ends the tool, and so does one that is sent."""
     global alarm_comes, heeds_alarm, overdue
@@ -85,7 +85,7 @@ def give_back_alarm():
 
 
 def stop_at_signals():
-    """Has them end the tool so, but for those that it was started to ignore."""
+    """Has them end the tool so, except those that it was started to ignore."""
     for number in STOPS - {signal.SIGALRM}:
         if signal.getsignal(number) != signal.SIG_IGN:
             signal.signal(number, stop)

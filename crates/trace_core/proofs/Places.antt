@@ -55,10 +55,46 @@ halves_of_sixteen xs = let P : ℕ → Type 0 = λ n.
     number_l 256 (chunk 0 8 (turned (sixteen xs) n)) + 16 *
     number_l 256 (chunk 8 8 (turned (sixteen xs) n))
     ≡ number_from_digits 16 (take n (sixteen xs)) in
-    each_below 17 P (refl, (omega arith, (omega arith, (omega arith, (omega arith,
-    (omega arith, (omega arith, (omega arith, (omega arith,
-    (omega arith, (omega arith, (omega arith, (omega arith,
-    (omega arith, (omega arith, (omega arith, (omega arith, tt)))))))))))))))))
+    each_below 17 P (
+      refl,
+      (
+        omega arith,
+        (
+          omega arith,
+          (
+            omega arith,
+            (
+              omega arith,
+              (
+                omega arith,
+                (
+                  omega arith,
+                  (
+                    omega arith,
+                    (
+                      omega arith,
+                      (
+                        omega arith,
+                        (
+                          omega arith,
+                          (
+                            omega arith,
+                            (
+                              omega arith,
+                              (omega arith, (omega arith, (omega arith, (omega arith, tt)))),
+                            ),
+                          ),
+                        ),
+                      ),
+                    ),
+                  ),
+                ),
+              ),
+            ),
+          ),
+        ),
+      ),
+    )
 
 halves_are : (xs : List ℕ) (n : ℕ) → n ≤ 16 → length xs ≡ 16 →
     number_l 256 (chunk 0 8 (turned xs n)) + 16 * number_l 256 (chunk 8 8 (turned xs n))

@@ -1,6 +1,6 @@
 // A library that `trace --heap` has loaded before a program's others: it tells trace-plugin.c which
 // blocks the program allocates and frees, and who calls for that. What it does itself, and calls,
-// is not in the trace, but for the allocator.
+// is not in the trace, except the allocator.
 #define _GNU_SOURCE
 #include <dlfcn.h>
 #include <errno.h>

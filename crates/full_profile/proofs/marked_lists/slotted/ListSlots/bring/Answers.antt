@@ -24,30 +24,57 @@ looked_at n l most = ordered_numbers_take l.slots.order l.slots.numbers (n - 1) 
 
 pub put-clean-requires-clause-within : goal.put-clean-requires-clause-within
 put-clean-requires-clause-within c =
-    omega ( arith, place_lt c.args.block c.args.front.now c.args.front_clean.now
-    c.args.self.now.len c.args.depth (blocks_behind c.args.self.now) (cleans_behind
-    c.args.self.now) (blocks_behind_long c.requires.sound) c.requires.some c.requires.fits
-    c.requires.most c.requires.two c.requires.behind c.in-Behind.place (c.in-Behind.ensures ∙ ap
-    (standing_of c.args.block) (looked_at c.args.self.now.len c.args.self.now (omega (arith,
-    c.requires.fits, c.requires.most)))), c.requires.fits, c.requires.most, )
+    omega (
+      arith,
+      place_lt c.args.block c.args.front.now c.args.front_clean.now
+          c.args.self.now.len c.args.depth (blocks_behind c.args.self.now) (cleans_behind
+          c.args.self.now) (blocks_behind_long c.requires.sound) c.requires.some c.requires.fits
+          c.requires.most c.requires.two c.requires.behind c.in-Behind.place
+          (c.in-Behind.ensures ∙ ap
+          (standing_of c.args.block) (looked_at c.args.self.now.len c.args.self.now (omega (
+            arith,
+            c.requires.fits,
+            c.requires.most,
+          )))),
+      c.requires.fits,
+      c.requires.most,
+    )
 
 pub overflow_cast-place : goal.overflow_cast-place
 overflow_cast-place c =
-    omega ( arith, place_lt c.args.block c.args.front.now c.args.front_clean.now
-    c.args.self.now.len c.args.depth (blocks_behind c.args.self.now) (cleans_behind
-    c.args.self.now) (blocks_behind_long c.requires.sound) c.requires.some c.requires.fits
-    c.requires.most c.requires.two c.requires.behind c.in-Behind.place (c.in-Behind.ensures ∙ ap
-    (standing_of c.args.block) (looked_at c.args.self.now.len c.args.self.now (omega (arith,
-    c.requires.fits, c.requires.most)))), c.requires.fits, c.requires.most, )
+    omega (
+      arith,
+      place_lt c.args.block c.args.front.now c.args.front_clean.now
+          c.args.self.now.len c.args.depth (blocks_behind c.args.self.now) (cleans_behind
+          c.args.self.now) (blocks_behind_long c.requires.sound) c.requires.some c.requires.fits
+          c.requires.most c.requires.two c.requires.behind c.in-Behind.place
+          (c.in-Behind.ensures ∙ ap
+          (standing_of c.args.block) (looked_at c.args.self.now.len c.args.self.now (omega (
+            arith,
+            c.requires.fits,
+            c.requires.most,
+          )))),
+      c.requires.fits,
+      c.requires.most,
+    )
 
 pub overflow_add-place : goal.overflow_add-place
 overflow_add-place c =
-    omega ( arith, place_lt c.args.block c.args.front.now c.args.front_clean.now
-    c.args.self.now.len c.args.depth (blocks_behind c.args.self.now) (cleans_behind
-    c.args.self.now) (blocks_behind_long c.requires.sound) c.requires.some c.requires.fits
-    c.requires.most c.requires.two c.requires.behind c.in-Behind.place (c.in-Behind.ensures ∙ ap
-    (standing_of c.args.block) (looked_at c.args.self.now.len c.args.self.now (omega (arith,
-    c.requires.fits, c.requires.most)))), c.requires.fits, c.requires.most, )
+    omega (
+      arith,
+      place_lt c.args.block c.args.front.now c.args.front_clean.now
+          c.args.self.now.len c.args.depth (blocks_behind c.args.self.now) (cleans_behind
+          c.args.self.now) (blocks_behind_long c.requires.sound) c.requires.some c.requires.fits
+          c.requires.most c.requires.two c.requires.behind c.in-Behind.place
+          (c.in-Behind.ensures ∙ ap
+          (standing_of c.args.block) (looked_at c.args.self.now.len c.args.self.now (omega (
+            arith,
+            c.requires.fits,
+            c.requires.most,
+          )))),
+      c.requires.fits,
+      c.requires.most,
+    )
 
 pub returns-in-Behind-clause-found : goal.returns-in-Behind-clause-found
 returns-in-Behind-clause-found c =
@@ -55,8 +82,11 @@ returns-in-Behind-clause-found c =
     c.args.depth (blocks_behind c.args.self.now) (cleans_behind c.args.self.now)
     (blocks_behind_long c.requires.sound) c.requires.some c.requires.fits c.requires.most
     c.requires.two c.requires.behind c.in-Behind.place (c.in-Behind.ensures ∙ ap (standing_of
-    c.args.block) (looked_at c.args.self.now.len c.args.self.now (omega (arith, c.requires.fits,
-    c.requires.most)))) c.put-clean.result c.put-clean.ensures.clean
+    c.args.block) (looked_at c.args.self.now.len c.args.self.now (omega (
+      arith,
+      c.requires.fits,
+      c.requires.most,
+    )))) c.put-clean.result c.put-clean.ensures.clean
 
 pub returns-in-Behind-clause-blocks : goal.returns-in-Behind-clause-blocks
 returns-in-Behind-clause-blocks c =
@@ -66,8 +96,11 @@ returns-in-Behind-clause-blocks c =
     c.args.depth (blocks_behind c.args.self.now) (cleans_behind c.args.self.now)
     (blocks_behind_long c.requires.sound) c.requires.some c.requires.fits c.requires.most
     c.requires.two c.requires.behind c.in-Behind.place (c.in-Behind.ensures ∙ ap (standing_of
-    c.args.block) (looked_at c.args.self.now.len c.args.self.now (omega (arith, c.requires.fits,
-    c.requires.most)))) c.args.block c.args.front.now (blocks_behind c.args.self.now)
+    c.args.block) (looked_at c.args.self.now.len c.args.self.now (omega (
+      arith,
+      c.requires.fits,
+      c.requires.most,
+    )))) c.args.block c.args.front.now (blocks_behind c.args.self.now)
     (blocks_behind_long c.requires.sound)
 
 pub returns-in-Behind-clause-cleans : goal.returns-in-Behind-clause-cleans
@@ -78,13 +111,17 @@ returns-in-Behind-clause-cleans c =
     (blocks_behind c.args.self.now) (cleans_behind c.args.self.now) (blocks_behind_long
     c.requires.sound) c.requires.some c.requires.fits c.requires.most c.requires.two
     c.requires.behind c.in-Behind.place (c.in-Behind.ensures ∙ ap (standing_of c.args.block)
-    (looked_at c.args.self.now.len c.args.self.now (omega (arith, c.requires.fits,
-    c.requires.most)))) c.args.access c.put-clean.result c.put-clean.ensures.clean)
+    (looked_at c.args.self.now.len c.args.self.now (omega (
+      arith,
+      c.requires.fits,
+      c.requires.most,
+    )))) c.args.access c.put-clean.result c.put-clean.ensures.clean)
     c.put-clean.ensures.cleans refl ∙ found_moved c.args.block c.args.front.now
     c.args.front_clean.now c.args.self.now.len c.args.depth (blocks_behind c.args.self.now)
     (cleans_behind c.args.self.now) (blocks_behind_long c.requires.sound) c.requires.some
     c.requires.fits c.requires.most c.requires.two c.requires.behind c.in-Behind.place
-    (c.in-Behind.ensures ∙ ap (standing_of c.args.block) (looked_at c.args.self.now.len
+    (c.in-Behind.ensures ∙ ap
+    (standing_of c.args.block) (looked_at c.args.self.now.len
     c.args.self.now (omega (arith, c.requires.fits, c.requires.most)))) _ c.args.front_clean.now
     (cleans_behind c.args.self.now) (cleans_behind_long c.requires.sound)
 
@@ -94,8 +131,11 @@ returns-then-held-depth-clause-found c =
     c.args.depth (blocks_behind c.args.self.now) (cleans_behind c.args.self.now)
     (blocks_behind_long c.requires.sound) c.requires.some c.requires.fits c.requires.most
     c.requires.two c.requires.behind c.in-New.behind (c.in-New.ensures ∙ ap (standing_of
-    c.args.block) (looked_at c.args.self.now.len c.args.self.now (omega (arith, c.requires.fits,
-    c.requires.most)))) (omega (arith, c.if-held-depth.true))
+    c.args.block) (looked_at c.args.self.now.len c.args.self.now (omega (
+      arith,
+      c.requires.fits,
+      c.requires.most,
+    )))) (omega (arith, c.if-held-depth.true))
 
 pub returns-then-held-depth-clause-blocks : goal.returns-then-held-depth-clause-blocks
 returns-then-held-depth-clause-blocks c =
@@ -107,8 +147,10 @@ returns-then-held-depth-clause-blocks c =
     (cleans_behind c.args.self.now) (blocks_behind_long c.requires.sound) c.requires.some
     c.requires.fits c.requires.most c.requires.two c.requires.behind c.in-New.behind
     (c.in-New.ensures ∙ ap (standing_of c.args.block) (looked_at c.args.self.now.len
-    c.args.self.now (omega (arith, c.requires.fits, c.requires.most)))) (omega (arith,
-    c.if-held-depth.true)) c.args.block c.args.front.now (blocks_behind c.args.self.now)
+    c.args.self.now (omega (arith, c.requires.fits, c.requires.most)))) (omega (
+      arith,
+      c.if-held-depth.true,
+    )) c.args.block c.args.front.now (blocks_behind c.args.self.now)
     (blocks_behind_long c.requires.sound)
 
 pub returns-then-held-depth-clause-cleans : goal.returns-then-held-depth-clause-cleans
@@ -136,8 +178,11 @@ returns-else-held-depth-clause-found c =
     c.args.depth (blocks_behind c.args.self.now) (cleans_behind c.args.self.now)
     (blocks_behind_long c.requires.sound) c.requires.some c.requires.fits c.requires.most
     c.requires.two c.requires.behind c.in-New.behind (c.in-New.ensures ∙ ap (standing_of
-    c.args.block) (looked_at c.args.self.now.len c.args.self.now (omega (arith, c.requires.fits,
-    c.requires.most)))) (omega (arith, c.if-held-depth.false)) c.put-last.result
+    c.args.block) (looked_at c.args.self.now.len c.args.self.now (omega (
+      arith,
+      c.requires.fits,
+      c.requires.most,
+    )))) (omega (arith, c.if-held-depth.false)) c.put-last.result
     (c.put-last.ensures.clean ∙ ap (λ q. get_or (cleans_behind c.args.self.now) q 0)
     c.min-place.ensures)
 
@@ -151,8 +196,10 @@ returns-else-held-depth-clause-blocks c =
     (cleans_behind c.args.self.now) (blocks_behind_long c.requires.sound) c.requires.some
     c.requires.fits c.requires.most c.requires.two c.requires.behind c.in-New.behind
     (c.in-New.ensures ∙ ap (standing_of c.args.block) (looked_at c.args.self.now.len
-    c.args.self.now (omega (arith, c.requires.fits, c.requires.most)))) (omega (arith,
-    c.if-held-depth.false)) c.args.block c.args.front.now (blocks_behind c.args.self.now)
+    c.args.self.now (omega (arith, c.requires.fits, c.requires.most)))) (omega (
+      arith,
+      c.if-held-depth.false,
+    )) c.args.block c.args.front.now (blocks_behind c.args.self.now)
     (blocks_behind_long c.requires.sound)
 
 pub returns-else-held-depth-clause-cleans : goal.returns-else-held-depth-clause-cleans
