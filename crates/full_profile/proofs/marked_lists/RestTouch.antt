@@ -1,6 +1,7 @@
 -- Where a block is found that is not among the first blocks of its list.
 use Rattle.std.proofs.Common.{◌≡◌, ℕ, ◌+◌, ◌-◌, ◌<◌, ◌≤◌, false, cond, eqb, length, get_or, sym}
-use Rattle.std.proofs.Common.{◌∙◌, ap, arith, eq-eqb}
+use Rattle.std.proofs.Common.{◌∙◌, ap}
+use Rattle.std.proofs.Common.{arith, eq-eqb}
 use Rattle.std.specs.Prelude.{Some, None}
 use Rattle.std.specs.List.{remove}
 use Rattle.std.proofs.lemmas.Bool.{ne_eqb}

@@ -28,13 +28,13 @@ const ROW: usize = 64;
 /// The lists of all sets: `near` has the first `ROW` blocks of each, and `far` a list for each set,
 /// of up to `beyond` blocks more.
 #[derive(Drop)]
-pub struct LongMarkedLists {
+pub struct LongLists {
     near: ListRows,
     beyond: usize,
     far: Vec<DeepList<u32>>,
 }
 
-impl Model for LongMarkedLists {
+impl Model for LongLists {
     ghost use Rattle.full_profile.specs.internal.Marked.{Marked};
     ghost use Rattle.full_profile.specs.internal.LongMarked.{whole_marked, AreLong};
 
@@ -45,9 +45,9 @@ impl Model for LongMarkedLists {
     ghost invariant = { λ l. AreLong l.near l.beyond l.far.items };
 }
 
-impl LongMarkedLists {
+impl LongLists {
     /// Empty lists for a number of sets.
-    pub fn new(alloc: Global, sets: usize, depth: usize) -> Result<LongMarkedLists, AllocError>
+    pub fn new(alloc: Global, sets: usize, depth: usize) -> Result<LongLists, AllocError>
         requires deep { DEEP ≤ depth }
         requires filled { 1 ≤ sets }
         requires small { sets * depth ≤ 2 ^ 22 }
@@ -56,7 +56,7 @@ impl LongMarkedLists {
         let beyond = depth - ROW;
         let near = ListRows::new(alloc, sets, ROW)?;
         let far = far_lists(alloc, sets, beyond)?;
-        Ok(LongMarkedLists { near, beyond, far })
+        Ok(LongLists { near, beyond, far })
     }
 
     /// How many blocks a list may have.
@@ -68,24 +68,24 @@ impl LongMarkedLists {
     }
 }
 
-impl TouchedLists<LongMarkedLists> {
+impl TouchedLists<LongLists> {
     /// Empty lists in two parts for a number of sets.
     pub fn in_parts(
         alloc: Global,
         sets: usize,
         depth: usize,
-    ) -> Result<TouchedLists<LongMarkedLists>, AllocError>
+    ) -> Result<TouchedLists<LongLists>, AllocError>
         requires deep { DEEP ≤ depth }
         requires filled { 1 ≤ sets }
         requires small { sets * depth ≤ 2 ^ 22 }
         ensures { IfOk result (λ lists. lists ≡ empty_marked sets depth) }
     {
-        let lists = LongMarkedLists::new(alloc, sets, depth)?;
+        let lists = LongLists::new(alloc, sets, depth)?;
         TouchedLists::new(alloc, lists, sets)
     }
 }
 
-impl ListStore for LongMarkedLists {
+impl ListStore for LongLists {
     ghost view = { λ l. l };
 
     fn sets(&self) -> usize {

@@ -3,7 +3,7 @@ ghost use Rattle.std.specs.Prelude.{◌≡◌, IfOk};
 ghost use Rattle.full_profile.specs.State.{empty_full};
 ghost use Rattle.full_profile.specs.internal.KeptFull.{full_kept};
 
-use crate::marked_lists::long_lists::{DEEP, LongMarkedLists};
+use crate::marked_lists::long_lists::{DEEP, LongLists};
 use crate::marked_lists::rows::ListRows;
 use crate::marked_lists::slotted::{MOST, SlottedLists};
 use crate::marked_lists::touched::TouchedLists;
@@ -26,7 +26,7 @@ pub enum KeptFull {
     /// The fronts in one array, and the other blocks of a set in its slots.
     Slots(FullStackProfile<TouchedLists<SlottedLists>>),
     /// For long lists: the first blocks of each in a row, and the others in a deep list.
-    Long(FullStackProfile<TouchedLists<LongMarkedLists>>),
+    Long(FullStackProfile<TouchedLists<LongLists>>),
 }
 
 impl KeptFull {

@@ -1,8 +1,7 @@
 -- The front is that of the row.
 use Rattle.full_profile.proofs.marked_lists.LongLists.{known, near_set}
 use Rattle.full_profile.proofs.marked_lists.LongBringing.{some_in_row, front_marked}
-use
-    Rattle.full_profile.proofs.marked_lists.long_lists.LongMarkedListsListStore.write_front.Goals as goal
+use Rattle.full_profile.proofs.marked_lists.long_lists.LongListsListStore.write_front.Goals as goal
 
 pub mark_front-requires-clause-within : goal.mark_front-requires-clause-within
 mark_front-requires-clause-within c = near_set (known c.self.invariant c.self.view_is

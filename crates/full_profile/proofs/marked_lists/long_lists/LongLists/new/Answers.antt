@@ -2,7 +2,7 @@
 use Rattle.std.proofs.Common.{◌≡◌, ◌+◌, ◌-◌, ◌*◌, ℕ, ap, arith}
 use Rattle.profile_core.proofs.LongListLemmas.{depth_small}
 use Rattle.full_profile.proofs.marked_lists.LongLists.{new_long, new_whole}
-use Rattle.full_profile.proofs.marked_lists.long_lists.LongMarkedLists.new.Goals as goal
+use Rattle.full_profile.proofs.marked_lists.long_lists.LongLists.new.Goals as goal
 
 pub invariant_of-result : goal.invariant_of-result
 invariant_of-result c =

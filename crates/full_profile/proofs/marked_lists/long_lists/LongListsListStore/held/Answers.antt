@@ -3,7 +3,7 @@ use Rattle.std.proofs.Common.{length, ap, arith, length-append}
 use Rattle.full_profile.proofs.marked_lists.LongLists.{known, near_set, far_set, far_read, row}
 use Rattle.full_profile.proofs.marked_lists.LongLists.{rest}
 use Rattle.full_profile.proofs.marked_lists.LongLists.{blocks_are}
-use Rattle.full_profile.proofs.marked_lists.long_lists.LongMarkedListsListStore.held.Goals as goal
+use Rattle.full_profile.proofs.marked_lists.long_lists.LongListsListStore.held.Goals as goal
 
 pub held-requires : goal.held-requires
 held-requires c = near_set (known c.self.invariant c.self.view_is c.requires)

@@ -1,8 +1,7 @@
 -- Lists that are empty have few sets and blocks.
 use Rattle.std.proofs.Common.{ap, arith}
 use Rattle.full_profile.proofs.marked_lists.Touching.{depth_small, sets_small}
-use
-    Rattle.full_profile.proofs.marked_lists.long_lists.TouchedLists+LongMarkedLists.in_parts.Goals as goal
+use Rattle.full_profile.proofs.marked_lists.long_lists.TouchedLists+LongLists.in_parts.Goals as goal
 
 pub new-requires-2-clause-few : goal.new-requires-2-clause-few
 new-requires-2-clause-few c =

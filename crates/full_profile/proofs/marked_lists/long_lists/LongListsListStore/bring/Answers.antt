@@ -10,9 +10,9 @@ use Rattle.full_profile.proofs.marked_lists.LongBringing.{brought_set, brought_s
 use Rattle.full_profile.proofs.marked_lists.LongBringing.{full_apart, full_found, full_written}
 use Rattle.full_profile.proofs.marked_lists.LongBringing.{settled_found, settled_written}
 use Rattle.full_profile.proofs.marked_lists.LongBringing.{found_within}
-use Rattle.full_profile.proofs.marked_lists.long_lists.LongMarkedListsListStore.bring.Goals as goal
+use Rattle.full_profile.proofs.marked_lists.long_lists.LongListsListStore.bring.Goals as goal
 use
-    Rattle.full_profile.proofs.marked_lists.long_lists.LongMarkedListsListStore.bring.Goals.{After-exchange-touch}
+    Rattle.full_profile.proofs.marked_lists.long_lists.LongListsListStore.bring.Goals.{After-exchange-touch}
 
 pub last-last-requires : goal.last-last-requires
 last-last-requires c = near_set (known c.self.invariant c.self.view_is c.requires.within)
@@ -74,7 +74,8 @@ front_clean-requires-clause-within c =
     let m = c.args.self.now in
     subst (λ d. IsWithin d c.exchange-touch.result) (sym c.depth-depth.ensures)
     (found_within m.depth c.args.block (blocks_in m c.args.set) (cleans_in m c.args.set)
-    (whole_long h) (whole_found (goal.at.front_clean-requires-clause-within c).After-exchange-touch))
+    (whole_long h)
+    (whole_found (goal.at.front_clean-requires-clause-within c).After-exchange-touch))
 
 pub mark_front-requires-clause-within : goal.mark_front-requires-clause-within
 mark_front-requires-clause-within c =
@@ -83,8 +84,8 @@ mark_front-requires-clause-within c =
 
 pub mark_front-requires-clause-some : goal.mark_front-requires-clause-some
 mark_front-requires-clause-some c =
-    brought_some (known c.self.invariant c.self.view_is c.requires.within) c.args.block c.args.access
-    c.bring-touch.ensures.moved
+    brought_some (known c.self.invariant c.self.view_is c.requires.within) c.args.block
+    c.args.access c.bring-touch.ensures.moved
 
 pub invariant_of-self : goal.invariant_of-self
 invariant_of-self c =

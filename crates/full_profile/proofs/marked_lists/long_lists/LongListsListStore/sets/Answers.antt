@@ -1,7 +1,7 @@
 -- There are as many sets as lists behind rows.
 use Rattle.std.proofs.Common.{length, ap, arith}
 use Rattle.full_profile.proofs.marked_lists.LongLists.{whole_count}
-use Rattle.full_profile.proofs.marked_lists.long_lists.LongMarkedListsListStore.sets.Goals as goal
+use Rattle.full_profile.proofs.marked_lists.long_lists.LongListsListStore.sets.Goals as goal
 
 pub returns : goal.returns
 returns c = record {

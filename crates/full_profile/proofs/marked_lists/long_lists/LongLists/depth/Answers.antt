@@ -1,6 +1,6 @@
 -- Both parts are small.
 use Rattle.std.proofs.Common.{ap, arith}
-use Rattle.full_profile.proofs.marked_lists.long_lists.LongMarkedLists.depth.Goals as goal
+use Rattle.full_profile.proofs.marked_lists.long_lists.LongLists.depth.Goals as goal
 
 pub overflow_add-result : goal.overflow_add-result
 overflow_add-result c = omega (arith, c.depth.ensures, c.self.invariant.small)

@@ -6,8 +6,7 @@ use Rattle.full_profile.proofs.copies.Adding.{copies_more, copies_append}
 use Rattle.full_profile.proofs.marked_lists.LongLists.{known, near_set, far_set, depth_is, far_read}
 use Rattle.full_profile.proofs.marked_lists.LongLists.{cleans_are, marks_long, values_long, marks}
 use Rattle.full_profile.proofs.marked_lists.LongLists.{values, emptied}
-use
-    Rattle.full_profile.proofs.marked_lists.long_lists.LongMarkedListsListStore.empty_list.Goals as goal
+use Rattle.full_profile.proofs.marked_lists.long_lists.LongListsListStore.empty_list.Goals as goal
 
 pub held-held-requires : goal.held-held-requires
 held-held-requires c = near_set (known c.self.invariant c.self.view_is c.requires.set)
