@@ -1,6 +1,6 @@
 -- A list whose front is apart, and whose other blocks are in slots: where a block is found in it,
 -- and what the list is once the block is in front.
-use Rattle.std.proofs.Common.{◌≡◌, ℕ, zero, suc, ◌+◌, ◌-◌, ◌<◌, ◌≤◌, Bool, true, false, cond, eqb}
+use Rattle.std.proofs.Common.{◌≡◌, ℕ, zero, suc, ◌+◌, ◌-◌, ◌<◌, ◌≤◌, true, false, cond, eqb}
 use Rattle.std.proofs.Common.{max, min, List, [], ◌∷◌, length, take, get_or, refl, sym, ◌∙◌, ap}
 use Rattle.std.proofs.Common.{arith, eq-eqb, get_or-take, not, one-add}
 use Rattle.std.specs.List.{remove}

@@ -1,18 +1,16 @@
 -- The front goes to the slot of the block, or to one that is free, or else to that of the last one.
-use Rattle.std.proofs.Common.{◌≡◌, ◌∙◌, ◌+◌, ◌-◌, ◌<◌, ◌≤◌, ◌∷◌, ℕ, eqb, false, cond, max, min}
-use Rattle.std.proofs.Common.{take, ap, refl, sym, arith, get_or}
+use Rattle.std.proofs.Common.{◌≡◌, ◌∙◌, ◌+◌, ◌-◌, ◌≤◌, ◌∷◌, ℕ, cond, min}
+use Rattle.std.proofs.Common.{take, ap, refl, arith, get_or}
 use Rattle.std.specs.List.{remove}
 use Rattle.trace_core.specs.Events.{is_write}
-use Rattle.profile_core.specs.declared.set_lists.recency.Standing.TheVariants.{Behind, New}
 use Rattle.profile_core.specs.Slots.{ordered_numbers}
-use Rattle.profile_core.specs.profile.RecencyList.{index_of}
 use Rattle.profile_core.specs.internal.set_lists.Moves.{standing_of}
 use Rattle.profile_core.proofs.slots.SlotLemmas.{ordered_numbers_take}
 use Rattle.full_profile.specs.declared.marked_lists.slotted.ListSlots.{ListSlots}
-use Rattle.full_profile.specs.internal.Slotted.{IsInSlots, blocks_behind, cleans_behind}
+use Rattle.full_profile.specs.internal.Slotted.{blocks_behind, cleans_behind}
 use Rattle.full_profile.proofs.marked_lists.ListsInSlots.{blocks_behind_long, cleans_behind_long}
 use Rattle.full_profile.proofs.marked_lists.SlotMoves.{place_lt, found_touch, found_moved}
-use Rattle.full_profile.proofs.marked_lists.SlotMoves.{found_in_front, new_held, place_small}
+use Rattle.full_profile.proofs.marked_lists.SlotMoves.{found_in_front}
 use Rattle.full_profile.proofs.marked_lists.SlotMoves.{new_in_front, new_touch, new_moved}
 use Rattle.full_profile.proofs.marked_lists.SlotMoves.{full_touch, full_moved, brought}
 use Rattle.full_profile.proofs.marked_lists.slotted.ListSlots.bring.Goals as goal

@@ -1,5 +1,5 @@
 -- The clean depth at each index is that of the block there.
-use Rattle.std.proofs.Common.{◌≡◌, ◌∙◌, ◌+◌, ◌-◌, ◌<◌, ◌∷◌, ℕ, suc, get_or, set, length, ap, sym}
+use Rattle.std.proofs.Common.{◌≡◌, ◌∙◌, ◌-◌, ◌<◌, ◌∷◌, ℕ, suc, get_or, ap, sym}
 use Rattle.std.proofs.Common.{arith, below_more, length-set, get_or-set_same, get_or-set_other}
 use Rattle.profile_core.proofs.slots.SlotLemmas.{ordered_numbers_at}
 use Rattle.full_profile.specs.internal.Slotted.{cleans_behind}

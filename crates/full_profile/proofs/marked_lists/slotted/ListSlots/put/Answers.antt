@@ -1,5 +1,5 @@
 -- A block and its clean depth in front, in the slot of a place.
-use Rattle.std.proofs.Common.{◌≡◌, ◌∙◌, ◌∷◌, ℕ, List, get_or, set, ap, sym, arith, length-set}
+use Rattle.std.proofs.Common.{◌∙◌, ◌∷◌, ℕ, List, get_or, set, ap, sym, arith, length-set}
 use Rattle.std.specs.List.{remove}
 use Rattle.profile_core.specs.Slots.{ordered_numbers}
 use Rattle.profile_core.proofs.slots.SlotLemmas.{ordered_numbers_at, turned, put_entry}

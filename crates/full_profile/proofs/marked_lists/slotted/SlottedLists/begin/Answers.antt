@@ -1,9 +1,7 @@
 -- An empty list gets its front.
-use Rattle.std.proofs.Common.{◌≡◌, ◌∙◌, ◌<◌, ◌≤◌, ℕ, refl, cond, length, ap, subst, sym, arith}
+use Rattle.std.proofs.Common.{◌∙◌, ◌≤◌, refl, cond, ap, sym, arith}
 use Rattle.trace_core.specs.Events.{is_write}
-use Rattle.full_profile.specs.declared.marked_lists.slotted.ListSlots.{ListSlots}
 use Rattle.full_profile.specs.internal.Marked.{blocks_in, cleans_in}
-use Rattle.full_profile.specs.internal.Slotted.{IsInSlots}
 use Rattle.full_profile.proofs.marked_lists.ListsInSlots.{known, within, front_within, clean_within}
 use Rattle.full_profile.proofs.marked_lists.ListsInSlots.{depth_is, list_lent, put_sound, put_lists}
 use Rattle.full_profile.proofs.marked_lists.ListsInSlots.{first_blocks, first_cleans, blocks_size}

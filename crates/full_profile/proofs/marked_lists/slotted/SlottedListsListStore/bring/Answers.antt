@@ -1,8 +1,8 @@
 -- A set's list gets its first block in front, or another one.
-use Rattle.std.proofs.Common.{◌≡◌, ◌∙◌, ◌<◌, ◌≤◌, ℕ, length, ap, sym, arith}
+use Rattle.std.proofs.Common.{◌∙◌, ◌≤◌, ap, sym, arith}
 use Rattle.full_profile.specs.declared.marked_lists.slotted.ListSlots.{ListSlots}
 use Rattle.profile_core.specs.profile.RecencyList.{is_front, move_to_front}
-use Rattle.std.proofs.Common.{take, false}
+use Rattle.std.proofs.Common.{take}
 use Rattle.full_profile.specs.internal.Marked.{blocks_in, cleans_in, marked_touch_of, cleans_after}
 use Rattle.full_profile.specs.internal.Slotted.{blocks_behind, listed_blocks, listed_cleans}
 use Rattle.full_profile.proofs.marked_lists.ListsInSlots.{known, within, front_within, clean_within}

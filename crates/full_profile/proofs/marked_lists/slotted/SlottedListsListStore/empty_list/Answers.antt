@@ -1,9 +1,9 @@
 -- A set's list is emptied, and its clean depths are counted.
-use Rattle.std.proofs.Common.{◌≡◌, ◌∙◌, ◌-◌, ◌≤◌, ◌<◌, ℕ, [], length, take, ap, sym, arith}
+use Rattle.std.proofs.Common.{◌≡◌, ◌∙◌, length, take, ap, sym, arith}
 use Rattle.std.proofs.Common.{length-take}
 use Rattle.full_profile.specs.declared.marked_lists.slotted.ListSlots.{ListSlots}
 use Rattle.full_profile.specs.internal.Copies.{with_copies_of, up_to_of}
-use Rattle.full_profile.specs.internal.Marked.{blocks_in, cleans_in}
+use Rattle.full_profile.specs.internal.Marked.{cleans_in}
 use Rattle.full_profile.proofs.marked_lists.ListsInSlots.{known, within, front_within, clean_within}
 use Rattle.full_profile.proofs.marked_lists.ListsInSlots.{depth_is, list_read, list_lent}
 use Rattle.full_profile.proofs.marked_lists.ListsInSlots.{lent_cleans}
