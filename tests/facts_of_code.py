@@ -98,7 +98,7 @@ fact("crates/full_profile/CALLING.md", r"only the first (\d+) blocks are walked 
      lambda: [f"{full_deep('ROW')}"])
 fact("docs/definitions.md", r"and stream (\d+)\.",
      lambda: [f"{constant('cache_core', 'replacement.rt', 'STREAM')}"])
-fact("crates/deep_list/CALLING.md", r"An empty list of at most `cap` blocks, 1 to (2\^\d+)",
+fact("crates/deep_list/CALLING.md", r"A list has at most `cap` blocks, 1 to (2\^\d+)",
      lambda: [power(geometry("MAX_CACHE_LINES"))])
 
 
