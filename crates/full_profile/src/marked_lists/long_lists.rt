@@ -1,7 +1,8 @@
 //! Recency lists with a clean depth beside each block, for lists that may be long. The first blocks
 //! of each are in a row. Those behind them are in a deep list, which is not walked.
 ghost use Rattle.std.specs.Prelude.{◌≡◌, ◌+◌, ◌*◌, ◌^◌, ◌<◌, ◌≤◌, [], false, length, replicate};
-ghost use Rattle.std.specs.Prelude.{sum, IfOk};
+ghost use Rattle.std.specs.Prelude.{sum};
+ghost use Rattle.std.specs.Prelude.{IfOk};
 ghost use Rattle.deep_list.specs.Deep.{has_block, list_after_exchange};
 ghost use Rattle.profile_core.specs.internal.set_lists.LongLists.{empty_deep};
 ghost use Rattle.full_profile.specs.internal.Copies.{with_copies_of, up_to_of};
