@@ -284,6 +284,7 @@ class Sums(ToolTest):
         for name in ("tests/spec-names", "tests/run", *PARTS):
             (self.folder / "tests").mkdir(exist_ok=True)
             shutil.copy(TOP / name, self.folder / "tests")
+        shutil.copytree(TOP / "tests/measured", self.folder / "tests/measured")
         self.write("tests/try-mutants", "")
         self.write("tests/sums", "tests/run: 3 cases\ntests/limits: 9 cases\n")
         self.write("tests/names", "tests/run: three\ntests/limits: nine\n")
