@@ -54,6 +54,7 @@ test-tools: build
 
 strain: build refusals
 	tests/fuzz --cases 100000
+	tests/forms
 	tests/against_cachegrind
 	tests/against_c
 	tests/try-tests

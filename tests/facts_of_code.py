@@ -28,6 +28,10 @@ def row():
     return constant("profile_core", "set_lists/long_lists.rt", "ROW")
 
 
+def full_deep(name):
+    return constant("full_profile", "marked_lists/long_lists.rt", name)
+
+
 def lines():
     return constant("trace_core", "limits.rt", "MAX_LINES")
 
@@ -87,6 +91,11 @@ fact("docs/DECISIONS.md", r"With more than ([\d,]+) sets and (\d+) to (\d+) ways
      lambda: [f"{kept('MANY_SETS'):,}", f"{kept('MANY_WAYS')}", f"{deep() - 1}"])
 fact("docs/DECISIONS.md", r"Profiles of (\d+) ways or more have deep lists",
      lambda: [f"{deep()}"])
+fact("docs/manual.md", r"with A of (\d+) or more at most", lambda: [f"{full_deep('DEEP')}"])
+fact("crates/full_profile/CALLING.md", r"with a depth of (\d+) or more at most",
+     lambda: [f"{full_deep('DEEP')}"])
+fact("crates/full_profile/CALLING.md", r"only the first (\d+) blocks are walked over",
+     lambda: [f"{full_deep('ROW')}"])
 fact("docs/definitions.md", r"and stream (\d+)\.",
      lambda: [f"{constant('cache_core', 'replacement.rt', 'STREAM')}"])
 fact("crates/deep_list/CALLING.md", r"A list has at most `cap` blocks, 1 to (2\^\d+)",

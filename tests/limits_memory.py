@@ -27,7 +27,10 @@ LONG_LISTS = (
     f"If A is {NUMBER} or more, it takes at most {FORMULA} bytes: {NUMBER} MB for one set of "
     f"65,536 ways, {NUMBER} MB for the largest pair"
 )
-FULL = f"With `--full` a pair takes {FORMULA} bytes instead, and all pairs together {NUMBER} KiB"
+FULL = (
+    f"With `--full` a pair takes {FORMULA} bytes instead, with slots {FORMULA}, with A of {NUMBER} "
+    f"or more at most {FORMULA}, and all pairs together {NUMBER} KiB"
+)
 BATCH = f"All pairs together take {NUMBER} KiB more"
 # of docs/speed.md
 ALL_PAIRS = f"Sweeping all {PAIRS} pairs with one way takes {NUMBER} MB"
@@ -70,7 +73,13 @@ def told_of_pair(sets, ways):
 
 def told_of_full_pair(sets, ways):
     """The same with --full."""
-    return value(told_by_the_manual(FULL)[0], sets, ways)
+    few, slots_from, slots_to, *_ = told_by_the_manual(SLOTS)
+    formula, slots, deep, most, _ = told_by_the_manual(FULL)
+    if ways >= deep:
+        formula = most
+    elif sets <= few and slots_from <= ways <= slots_to:
+        formula = slots
+    return value(formula, sets, ways)
 
 
 def told_of_cache(sets, ways, policy="l"):
@@ -140,13 +149,18 @@ def bytes_of_pairs(limits, told):
 
 
 def bytes_of_full_pairs(limits, told):
-    """In the full table each list is in rows."""
+    """The same of the full table."""
     for sets, ways in (
-        (1, 1), (2**20, 1), (1024, 2), (4096, 12), (8192, 32), (4096, 255), (1, 256), (4096, 256),
-        (1, WAYS), (64, WAYS),
+        (1, 1), (2**20, 1), (1024, 2), (4096, 11), (16, 12), (4096, 12), (4096, 16), (4096, 17),
+        (8192, 12), (8192, 16), (8192, 32), (4096, 255),
     ):
         name = f"a full sweep with S = {sets} and A = {ways}"
         limits.takes(name, full_pair(sets, ways), full_pair(16, 1), told)
+    for sets, ways, least in (
+        (1, 256, 0.95), (4096, 256, 0.87), (1, WAYS, 0.995), (64, WAYS, 0.995),
+    ):
+        name = f"a full sweep with S = {sets} and A = {ways}"
+        limits.takes(name, full_pair(sets, ways), full_pair(16, 1), told, least=least)
 
 
 def bytes_of_tables(limits, told):
@@ -184,7 +198,7 @@ def bytes_of_caches(limits, told):
 def bytes_of_buffers(limits, large):
     [batch] = told_by_the_manual(BATCH)
     [buffer, same] = told_by_the_manual(BUFFERS, "docs/speed.md")
-    _, of_full = told_by_the_manual(FULL)
+    *_, of_full = told_by_the_manual(FULL)
     runs = pair(1, 1)[0], full_pair(1, 1)[0], cache("din", 1, 1)[0], ["--help"]
     sweep, full, din, none = (limits.asked(arguments, large)[0] / 1024 for arguments in runs)
     limits.equal("KiB of two buffers", din - none, 2 * buffer)

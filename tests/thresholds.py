@@ -29,7 +29,7 @@ PLACES = [
     *(("sweep", "references", count) for count in REFERENCES for _ in range(2)),
 ]
 # between two blocks: neighbours, powers of two, and distances at which sixteen blocks of a list in
-# slots have one to three marks (mark_of in rests/slotted.rt); at most others they have 14 or more
+# slots have one to three marks (mark_of in slots.rt); at most others they have 14 or more
 STEPS = 1, 1, 1, 3, 16, 1024, 126_543, 774_080
 # the odd parts of these: powers of two lie between blocks of one set anyway
 ODD_STEPS = 1, 3, 12_095, 126_543

@@ -108,9 +108,10 @@ class TheGate(MakeTest):
         "make check": ["check"], "make mutants": ["try-mutants"], "make test-tools": ["test-tools"],
         "make refusals": ["refusals", "refusals-library"],
         "make strain": ["refusals", "refusals-library", "fuzz --cases 100000",
-                        "against_cachegrind", "against_c", "try-tests"],
+                        "forms", "against_cachegrind", "against_c", "try-tests"],
         "make test": ["spec-names", "ledger", "run --program TOP/SECOND", "run --program TOP/FIRST",
-                      "fuzz --program TOP/FIRST --cases 10000", "refusals --program TOP/FIRST",
+                      "fuzz --program TOP/FIRST --cases 10000",
+                      "forms --program TOP/FIRST --lines 5000", "refusals --program TOP/FIRST",
                       "devices --program TOP/FIRST", "limits --program TOP/FIRST",
                       "test-tools --program TOP/FIRST --plain"],
     }

@@ -3,6 +3,7 @@
 //! name the others.
 #![tactic(auto)]
 
+pub mod batches;
 pub mod doubling;
 pub mod observers;
 pub mod pages;

@@ -1,31 +1,47 @@
 -- The slots of a list, after each change.
 use Rattle.std.proofs.Common.{◌≡◌, ℕ, zero, suc, ◌+◌, ◌-◌, ◌<◌, ◌≤◌, ◌^◌, inl, inr}
-use Rattle.std.proofs.Common.{true, false, cond, Some, None, List, [], ◌∷◌, length}
+use Rattle.std.proofs.Common.{true, false, List, [], ◌∷◌, ◌++◌, length, drop, append-nil}
 use Rattle.std.proofs.Common.{take, get_or, set, sum, refl, sym, ◌∙◌, ap, subst, arith}
 use Rattle.std.proofs.Common.{length-set, get_or-set_same, get_or-set_other}
 use Rattle.std.specs.Prelude.{replicate}
 use Rattle.std.specs.List.{remove}
 use Rattle.std.proofs.lemmas.Bool.{cases_eq, cases_lt, false≢true}
-use Rattle.std.proofs.lemmas.List.{take_all, length-take-le, get_or_past, nil_from_length}
+use Rattle.std.proofs.lemmas.List.{take_all, drop_all, length-take-le, get_or_past, nil_from_length}
 use Rattle.std.proofs.lemmas.List.{length-replicate}
 use Rattle.std.proofs.lemmas.List.Sums.{sum_by-set, sum_by_more}
-use Rattle.deep_list.specs.Slots.{SlotsValue, AreFlags, live_blocks, slots_with_block}
+use Rattle.deep_list.specs.Slots.{SlotsValue, AreFlags, live_items, slots_with_block}
 use Rattle.deep_list.specs.Slots.{slots_without, IsAt}
 use Rattle.deep_list.specs.Slots.{NoneHas}
 use Rattle.deep_list.specs.Chains.{ChainsValue, AreChains, AreFiled, AreFiledFrom, IsFiled}
 use Rattle.deep_list.specs.Chains.{with_slot}
 use Rattle.block_index.specs.Chains.{chain_of_block}
-use Rattle.deep_list.specs.Deep.{Deep, index_of_block, has_block, place_of, IsOnce, IsRanked}
+use Rattle.deep_list.specs.Deep.{Deep, index_of_block, has_block, IsOnce, IsRanked, cut_to}
 use Rattle.deep_list.specs.Deep.{IsDeep, IsGathering, IsGathered}
 use Rattle.deep_list.proofs.ChainLemmas.{chain_small, chains_more, filed_more, same_all, same_most}
 use Rattle.deep_list.proofs.ChainLemmas.{zeros}
 use Rattle.deep_list.proofs.SlotLemmas.{sum_take-set_above, flags_set}
-use Rattle.deep_list.proofs.LiveBlockLemmas.{live_blocks-vacate, live_blocks-fill, live_blocks-move}
-use Rattle.deep_list.proofs.LiveBlockLemmas.{live_blocks-dead, length-live_blocks}
-use Rattle.deep_list.proofs.LiveBlockLemmas.{sum-dead, is_in-live_blocks, absent-live_blocks}
-use Rattle.deep_list.proofs.LiveBlockLemmas.{index-live_blocks, sum-some}
-use Rattle.deep_list.proofs.LiveBlockLemmas.{remove-last, remove-end, once-remove}
-use Rattle.deep_list.proofs.LiveBlockLemmas.{index-absent, once-apart}
+use Rattle.deep_list.proofs.LiveItemLemmas.{live_items-vacate, live_items-fill, live_items-move}
+use Rattle.deep_list.proofs.LiveItemLemmas.{live_items-dead, length-live_items, at-live_items}
+use Rattle.deep_list.proofs.LiveItemLemmas.{sum-dead, is_in-live_items, absent-live_items}
+use Rattle.deep_list.proofs.LiveItemLemmas.{index-live_items, sum-some}
+use Rattle.deep_list.proofs.LiveItemLemmas.{remove-last, remove-end, once-remove}
+use Rattle.deep_list.proofs.LiveItemLemmas.{index-absent, once-apart}
+
+abbrev pub deep_of : {V : Type 0} → ℕ → List ℕ → List V → Deep V
+deep_of cap xs ys = record { cap = cap; blocks = xs; values = ys }
+
+-- lists with the same blocks and values
+pub same_deep : {V : Type 0} {xs xs' : List ℕ} {ys ys' : List V} (cap : ℕ) → xs ≡ xs' → ys ≡ ys' →
+    deep_of cap xs ys ≡ deep_of cap xs' ys'
+same_deep {V} {xs} {xs'} {ys} {ys'} cap e f =
+    ap (λ zs. deep_of cap zs ys) e ∙ ap (λ zs. deep_of cap xs' zs) f
+
+-- what a slice of a whole vector wrote
+pub written_whole : {V : Type 0} (n : ℕ) (xs ys : List V) → length xs ≡ length ys → n ≡ length ys →
+    take n (xs ++ drop (length xs) ys) ≡ xs
+written_whole n xs ys same all =
+    ap (λ zs. take n (xs ++ zs)) (drop_all (length xs) ys (omega arith))
+    ∙ ap (take n) (append-nil xs) ∙ take_all n xs (omega arith)
 
 zero_set : (xs : List ℕ) (s k : ℕ) → get_or xs k 0 ≡ 0 → get_or (set xs s 0) k 0 ≡ 0
 zero_set [] s k h = h
@@ -50,15 +66,6 @@ live_within xs s one = elim (cases_lt s (length xs)) [
 
 dead_flag : (xs : List ℕ) (s : ℕ) → AreFlags xs → (get_or xs s 0 ≡ 1 → ⊥) → get_or xs s 0 ≡ 0
 dead_flag xs s flags ne = let le : get_or xs s 0 ≤ 1 = flags s in omega arith
-
--- where a block stands
-pub place_found : (x i : ℕ) (xs : List ℕ) → has_block x xs ≡ true → index_of_block x xs ≡ i →
-    Some i ≡ place_of x xs
-place_found x i xs inside at = ap (λ j. Some j) (sym at) ∙
-    sym (ap (λ b. cond b (Some (index_of_block x xs)) None) inside)
-
-pub place_none : (x : ℕ) (xs : List ℕ) → has_block x xs ≡ false → None ≡ place_of x xs
-place_none x xs absent = sym (ap (λ b. cond b (Some (index_of_block x xs)) None) absent)
 
 module _ {top end : ℕ} {slots : SlotsValue} {chains : ChainsValue}
     (r : IsRanked top end slots chains) where
@@ -124,9 +131,14 @@ module _ {top end : ℕ} {slots : SlotsValue} {chains : ChainsValue}
     lt : t < length slots.live
     lt = omega (arith, r.order, r.within)
 
-    pub filled_kept : live_blocks (set slots.blocks t x) (set slots.live t 1) ≡ x ∷ live_blocks
+    pub filled_kept : live_items (set slots.blocks t x) (set slots.live t 1) ≡ x ∷ live_items
         slots.blocks slots.live
-    filled_kept = live_blocks-fill slots.blocks slots.live t x r.same lt free
+    filled_kept = live_items-fill slots.blocks slots.live t x r.same lt free
+
+    pub filled_values : {V : Type 0} (values : List V) (v : V) →
+        length values ≡ length slots.live
+        → live_items (set values t v) (set slots.live t 1) ≡ v ∷ live_items values slots.live
+    filled_values values v beside = live_items-fill values slots.live t v beside lt free
 
     pub filled_sum : sum (set slots.live t 1) ≡ sum slots.live + 1
     filled_sum = omega (arith, sum_by-set (λ x. x) slots.live t 1 0 lt, free t (omega arith))
@@ -138,7 +150,7 @@ module _ {top end : ℕ} {slots : SlotsValue} {chains : ChainsValue}
         subst P (sym (get_or-set_other slots.blocks t s x 0 other))
         (r.filed s (sym (get_or-set_other slots.live t s 1 0 other) ∙ one))
 
-    filled_latest : has_block x (live_blocks slots.blocks slots.live) ≡ false → (s k : ℕ) → t ≤ s →
+    filled_latest : has_block x (live_items slots.blocks slots.live) ≡ false → (s k : ℕ) → t ≤ s →
         s < k → get_or (set slots.live t 1) k 0 ≡ 1
         → get_or (set slots.blocks t x) s 0 ≡ get_or (set slots.blocks t x) k 0 → ⊥
     filled_latest absent s k le less one e =
@@ -148,14 +160,14 @@ module _ {top end : ℕ} {slots : SlotsValue} {chains : ChainsValue}
         let is = get_or-set_other slots.blocks t k x 0 other in
         elim (cases_eq s t) [
           | inl same ↦ false≢true (sym absent ∙
-              is_in-live_blocks x slots.blocks slots.live k r.same live
+              is_in-live_items x slots.blocks slots.live k r.same live
               (sym is ∙ sym e ∙ ap (λ i. get_or (set slots.blocks t x) i 0) same
               ∙ get_or-set_same slots.blocks t x 0 (omega (arith, lt, r.same))))
           | inr later ↦ r.latest s k (omega (arith, le, later, next)) less live
               (sym (get_or-set_other slots.blocks t s x 0 later) ∙ e ∙ is)
         ]
 
-    pub filled_ranked : has_block x (live_blocks slots.blocks slots.live) ≡ false →
+    pub filled_ranked : has_block x (live_items slots.blocks slots.live) ≡ false →
         IsRanked t end (slots_with_block slots t x)
         (with_slot chains t (chain_of_block (length chains.heads) x))
     filled_ranked absent =
@@ -192,21 +204,6 @@ module _ {top end : ℕ} {slots : SlotsValue} {chains : ChainsValue}
           latest = filled_latest absent;
         }
 
--- the moves to the end
-pub gathering_none : (v : SlotsValue) → length v.blocks ≡ length v.live → AreFlags v.live →
-    IsGathering (length v.live) (length v.live) v v
-gathering_none v same flags = record {
-  same = same;
-  long = refl;
-  flags = flags;
-  order = omega arith;
-  within = omega arith;
-  dead = λ s le lt. absurd (omega arith);
-  full = λ s le lt. absurd (omega arith);
-  kept_same = refl;
-  left = ap (λ xs. length v.live + sum xs) (take_all (length v.live) v.live (omega arith));
-}
-
 module _ {from to : ℕ} {v w : SlotsValue} (g : IsGathering from to v w) (f : ℕ)
     (next : f + 1 ≡ from) where
   one_more : sum (take from w.live) ≡ sum (take f w.live) + get_or w.live f 0
@@ -230,6 +227,14 @@ module _ {from to : ℕ} {v w : SlotsValue} (g : IsGathering from to v w) (f : �
         kept_same = g.kept_same;
         left = omega (arith, g.left, one_more, none);
       }
+
+  pub values_moved : {V : Type 0} (values : List V) (d : V) (u : ℕ) → u + 1 ≡ to →
+      length values ≡ length w.live → get_or w.live f 0 ≡ 1
+      → live_items (set values u (get_or values f d)) (set (set w.live f 0) u 1)
+      ≡ live_items values w.live
+  values_moved values d u last beside one =
+      live_items-move values w.live f u d beside one (omega (arith, g.order))
+      (omega (arith, g.within)) (λ k past le. g.dead k (omega arith) (omega arith))
 
   pub gathering_moved : (u : ℕ) → u + 1 ≡ to → get_or w.live f 0 ≡ 1 →
       IsGathering f u v (slots_with_block (slots_without w f) u (get_or w.blocks f 0))
@@ -258,7 +263,7 @@ module _ {from to : ℕ} {v w : SlotsValue} (g : IsGathering from to v w) (f : �
               get_or-set_other w.live f s 0 0 (omega (arith, g.order, le, other)) ∙
               g.full s (omega (arith, le, other)) (omega (arith, lt, long))
         ];
-        kept_same = live_blocks-move w.blocks w.live f u g.same one (omega (arith, g.order))
+        kept_same = live_items-move w.blocks w.live f u 0 g.same one (omega (arith, g.order))
             (omega (arith, g.within))
             (λ k past le. g.dead k (omega arith) (omega arith)) ∙ g.kept_same;
         left = omega (
@@ -272,22 +277,10 @@ module _ {from to : ℕ} {v w : SlotsValue} (g : IsGathering from to v w) (f : �
         );
       }
 
-pub gathered : {from to : ℕ} {v w : SlotsValue} → IsGathering from to v w → from ≡ 0 →
-    IsGathered to v w
-gathered {from} {to} {v} {w} g none = record {
-  same = g.same;
-  long = g.long;
-  flags = g.flags;
-  dead = λ s lt. g.dead s (omega arith) lt;
-  full = g.full;
-  kept_same = g.kept_same;
-  top_is = omega (arith, g.left, ap (λ j. sum (take j w.live)) none);
-}
-
 pub gathered_ranked : {top : ℕ} {v w : SlotsValue} (chains : ChainsValue) → IsGathered top v w →
     length w.live ≤ 2 ^ 24
     → AreChains top (length w.live) chains → AreFiled chains w →
-    IsOnce (live_blocks v.blocks v.live) → IsRanked top (length w.live) w chains
+    IsOnce (live_items v.blocks v.live) → IsRanked top (length w.live) w chains
 gathered_ranked {top} {v} {w} chains g small are filed once = record {
   same = g.same;
   small = small;
@@ -312,17 +305,18 @@ module _ (cap n : ℕ) (slots : SlotsValue) (long : length slots.blocks ≡ n)
   size : length slots.live ≡ n
   size = ap length none ∙ length-replicate {A = ℕ} n 0
 
-  pub none_kept : live_blocks slots.blocks slots.live ≡ []
-  none_kept = live_blocks-dead slots.blocks slots.live dead
+  pub none_kept : {A : Type 0} (items : List A) → live_items items slots.live ≡ []
+  none_kept items = live_items-dead items slots.live dead
 
-  pub none_deep : (chains : ChainsValue) → 1 ≤ cap → cap < n → n ≤ 2 ^ 24 → AreChains n n chains →
-      IsDeep cap 0 n n slots chains
-  none_deep chains some room small are = record {
+  pub none_deep : (values : ℕ) (chains : ChainsValue) → values ≡ n → 1 ≤ cap → cap < n →
+      n ≤ 2 ^ 24 → AreChains n n chains → IsDeep cap 0 n n values slots chains
+  none_deep values chains beside some room small are = record {
     some = some;
     room = omega (arith, size, room);
+    beside = omega (arith, size, beside);
     at_most = omega arith;
     held_is = sym (sum-dead slots.live dead);
-    once = let P : List ℕ → Type 0 = IsOnce in subst P (sym none_kept) tt;
+    once = let P : List ℕ → Type 0 = IsOnce in subst P (sym (none_kept slots.blocks)) tt;
     ranked = record {
       same = long ∙ sym size;
       small = omega (arith, size, small);
@@ -353,73 +347,120 @@ chains_none n count v one few heads next = record {
   next_within = λ s. omega (arith, ap (λ xs. get_or xs s 0) next, zeros n s);
 }
 
-module _ {cap held top end : ℕ} {slots : SlotsValue} {chains : ChainsValue}
-    (d : IsDeep cap held top end slots chains) where
-  pub held_length : held ≡ length (live_blocks slots.blocks slots.live)
-  held_length = d.held_is ∙ sym (length-live_blocks slots.blocks slots.live d.ranked.same
+module _ {cap held top end values : ℕ} {slots : SlotsValue} {chains : ChainsValue}
+    (d : IsDeep cap held top end values slots chains) where
+  pub held_length : held ≡ length (live_items slots.blocks slots.live)
+  held_length = d.held_is ∙ sym (length-live_items slots.blocks slots.live d.ranked.same
       d.ranked.flags)
 
-  pub held_none : held ≤ 0 → live_blocks slots.blocks slots.live ≡ []
-  held_none none = nil_from_length (live_blocks slots.blocks slots.live)
+  pub held_none : held ≤ 0 → live_items slots.blocks slots.live ≡ []
+  held_none none = nil_from_length (live_items slots.blocks slots.live)
       (omega (arith, held_length, none))
 
   -- a live slot vacated
   module _ (s : ℕ) (one : get_or slots.live s 0 ≡ 1) where
-    pub vacated_kept : live_blocks slots.blocks (set slots.live s 0) ≡ remove
-        (live_blocks slots.blocks slots.live) (sum (take s slots.live))
-    vacated_kept = live_blocks-vacate slots.blocks slots.live s d.ranked.same d.ranked.flags one
+    pub vacated_kept : live_items slots.blocks (set slots.live s 0) ≡ remove
+        (live_items slots.blocks slots.live) (sum (take s slots.live))
+    vacated_kept = live_items-vacate slots.blocks slots.live s d.ranked.same d.ranked.flags one
+
+    pub vacated_values : {V : Type 0} (items : List V) → length items ≡ values →
+        live_items items (set slots.live s 0) ≡ remove (live_items items slots.live)
+        (sum (take s slots.live))
+    vacated_values items long =
+        live_items-vacate items slots.live s (long ∙ d.beside) d.ranked.flags one
+
+    pub value_at : {V : Type 0} (items : List V) (e : V) → length items ≡ values →
+        get_or items s e ≡ get_or (live_items items slots.live) (sum (take s slots.live)) e
+    value_at items e long =
+        sym (at-live_items items slots.live s e (long ∙ d.beside) d.ranked.flags one)
 
     pub vacated_deep : (end' : ℕ) (w : SlotsValue) → w ≡ slots_without slots s →
         IsRanked top end' (slots_without slots s) chains
-        → IsDeep cap (held - 1) top end' w chains
+        → IsDeep cap (held - 1) top end' values w chains
     vacated_deep end' w is ranked =
         let sums = vacated_sum d.ranked s one in
-        let P : SlotsValue → Type 0 = λ v. IsDeep cap (held - 1) top end' v chains in
+        let P : SlotsValue → Type 0 = λ v. IsDeep cap (held - 1) top end' values v chains in
         subst P (sym is) (record {
           some = d.some;
           room = omega (arith, d.room, length-set slots.live s 0);
+          beside = omega (arith, d.beside, length-set slots.live s 0);
           at_most = omega (arith, d.at_most);
           held_is = omega (arith, d.held_is, sums);
           once = let Q : List ℕ → Type 0 = IsOnce in
               subst Q (sym vacated_kept) (once-remove (sum (take s slots.live))
-              (live_blocks slots.blocks slots.live) d.once);
+              (live_items slots.blocks slots.live) d.once);
           ranked = ranked;
         })
 
   -- the slot of a block
   module _ (x s : ℕ) (at : IsAt slots x s) where
-    pub found_inside : has_block x (live_blocks slots.blocks slots.live) ≡ true
-    found_inside = is_in-live_blocks x slots.blocks slots.live s d.ranked.same at.live at.block
+    pub found_inside : has_block x (live_items slots.blocks slots.live) ≡ true
+    found_inside = is_in-live_items x slots.blocks slots.live s d.ranked.same at.live at.block
 
-    pub found_index : index_of_block x (live_blocks slots.blocks slots.live) ≡
+    pub found_index : index_of_block x (live_items slots.blocks slots.live) ≡
         sum (take s slots.live)
-    found_index = index-live_blocks x slots.blocks slots.live s d.ranked.same d.ranked.flags d.once
+    found_index = index-live_items x slots.blocks slots.live s d.ranked.same d.ranked.flags d.once
         at.live at.block
 
   pub not_found : (x : ℕ) → NoneHas slots x →
-      has_block x (live_blocks slots.blocks slots.live) ≡ false
+      has_block x (live_items slots.blocks slots.live) ≡ false
   not_found x none =
-      absent-live_blocks x slots.blocks slots.live d.ranked.flags
+      absent-live_items x slots.blocks slots.live d.ranked.flags
       (λ s lt live is. none s lt (record { live = live; block = is }))
 
   -- the last live slot
   module _ (s : ℕ) (one : get_or slots.live s 0 ≡ 1) (past : (k : ℕ) → s < k → k < end →
       get_or slots.live k 0 ≡ 1 → ⊥) where
-    pub last_kept : live_blocks slots.blocks (set slots.live s 0) ≡ take
-        (length (live_blocks slots.blocks slots.live) - 1) (live_blocks slots.blocks slots.live)
-    last_kept =
+    pub last_index : suc (sum (take s slots.live)) ≡ length (live_items slots.blocks slots.live)
+    last_index =
         let sums : sum slots.live ≡ sum (take s slots.live) + 1 =
         sum-some slots.live s (live_within slots.live s one) one (behind_last d.ranked s past) in
-        let index : suc (sum (take s slots.live)) ≡ length (live_blocks slots.blocks slots.live) =
-        omega (arith, held_length, d.held_is, sums) in
-        vacated_kept s one ∙ remove-last (live_blocks slots.blocks slots.live)
-        (sum (take s slots.live)) index
-        ∙ ap (λ n. take n (live_blocks slots.blocks slots.live)) (omega (arith, index))
+        omega (arith, held_length, d.held_is, sums)
+
+    pub last_place : sum (take s slots.live) ≡ length (live_items slots.blocks slots.live) - 1
+    last_place = omega (arith, last_index)
+
+    pub last_kept : live_items slots.blocks (set slots.live s 0) ≡ take
+        (length (live_items slots.blocks slots.live) - 1) (live_items slots.blocks slots.live)
+    last_kept =
+        vacated_kept s one ∙ remove-last (live_items slots.blocks slots.live)
+        (sum (take s slots.live)) last_index
+        ∙ ap (λ n. take n (live_items slots.blocks slots.live)) last_place
+
+    pub last_values : {V : Type 0} (items : List V) → length items ≡ values →
+        live_items items (set slots.live s 0) ≡ take
+        (length (live_items slots.blocks slots.live) - 1) (live_items items slots.live)
+    last_values items long =
+        let same : length (live_items items slots.live) ≡ sum slots.live =
+        length-live_items items slots.live (long ∙ d.beside) d.ranked.flags in
+        vacated_values s one items long ∙ remove-last (live_items items slots.live)
+        (sum (take s slots.live)) (omega (arith, last_index, same, held_length, d.held_is))
+        ∙ ap (λ n. take n (live_items items slots.live)) last_place
+
+  pub length-values : {V : Type 0} (items : List V) → length items ≡ values →
+      length (live_items items slots.live) ≡ length (live_items slots.blocks slots.live)
+  length-values items long =
+      length-live_items items slots.live (long ∙ d.beside) d.ranked.flags ∙
+      sym (length-live_items slots.blocks slots.live d.ranked.same d.ranked.flags)
+
+  -- the values beside the blocks, without that of an absent block
+  pub absent_values : {V : Type 0} (items : List V) (x : ℕ) → length items ≡ values →
+      has_block x (live_items slots.blocks slots.live) ≡ false
+      → live_items items slots.live ≡ remove (live_items items slots.live)
+      (index_of_block x (live_items slots.blocks slots.live))
+  absent_values items x long absent =
+      sym (remove-end (live_items items slots.live)
+      (index_of_block x (live_items slots.blocks slots.live))
+      (omega (
+        arith,
+        length-values items long,
+        index-absent x (live_items slots.blocks slots.live) absent,
+      )))
 
   pub some_live : ((k : ℕ) → k < end → get_or slots.live k 0 ≡ 1 → ⊥) →
-      live_blocks slots.blocks slots.live ≡ []
+      live_items slots.blocks slots.live ≡ []
   some_live none =
-      live_blocks-dead slots.blocks slots.live
+      live_items-dead slots.blocks slots.live
       (λ k. elim (cases_lt k end) [
         | inl inside ↦ dead_flag slots.live k d.ranked.flags
             (none k inside)
@@ -431,31 +472,33 @@ pub without_absent : (x : ℕ) (xs : List ℕ) → has_block x xs ≡ false →
 without_absent x xs absent = remove-end xs (index_of_block x xs) (index-absent x xs absent)
 
 -- a list of which one slot more is live, that before all live ones
-pub filled_deep : {cap held top0 end0 top end : ℕ} {slots0 slots : SlotsValue}
+pub filled_deep : {cap held top0 end0 top end values : ℕ} {slots0 slots : SlotsValue}
     {chains0 chains : ChainsValue}
-    → IsDeep cap held top0 end0 slots0 chains0 → IsRanked top end slots chains →
-    live_blocks slots.blocks slots.live ≡ live_blocks slots0.blocks slots0.live
+    → IsDeep cap held top0 end0 values slots0 chains0 → IsRanked top end slots chains →
+    live_items slots.blocks slots.live ≡ live_items slots0.blocks slots0.live
     → length slots.live ≡ length slots0.live → (x t : ℕ) → t + 1 ≡ top →
-    has_block x (live_blocks slots0.blocks slots0.live) ≡ false
-    → length (live_blocks slots0.blocks slots0.live) < cap →
+    has_block x (live_items slots0.blocks slots0.live) ≡ false
+    → length (live_items slots0.blocks slots0.live) < cap →
     (w : SlotsValue) (chains' : ChainsValue) →
     w ≡ slots_with_block slots t x
-    → IsRanked t end (slots_with_block slots t x) chains' → IsDeep cap (held + 1) t end w chains'
-filled_deep {cap} {held} {top0} {end0} {top} {end} {slots0} {slots} d r same long x t next absent
-    short w chains' is ranked =
-    let P : SlotsValue → Type 0 = λ v. IsDeep cap (held + 1) t end v chains' in
+    → IsRanked t end (slots_with_block slots t x) chains'
+    → IsDeep cap (held + 1) t end values w chains'
+filled_deep {cap} {held} {top0} {end0} {top} {end} {values} {slots0} {slots} d r same long x t next
+    absent short w chains' is ranked =
+    let P : SlotsValue → Type 0 = λ v. IsDeep cap (held + 1) t end values v chains' in
     let Q : List ℕ → Type 0 = IsOnce in
-    let once : IsOnce (x ∷ live_blocks slots.blocks slots.live) =
+    let once : IsOnce (x ∷ live_items slots.blocks slots.live) =
     (ap (has_block x) same ∙ absent, subst Q (sym same) d.once) in
     subst P (sym is) (record {
       some = d.some;
       room = omega (arith, d.room, long, length-set slots.live t 1);
+      beside = omega (arith, d.beside, long, length-set slots.live t 1);
       at_most = omega (arith, held_length d, short);
       held_is = omega (
         arith,
         held_length d,
         ap length same,
-        length-live_blocks slots.blocks slots.live
+        length-live_items slots.blocks slots.live
             r.same r.flags,
         filled_sum r x t next,
       );
@@ -464,38 +507,48 @@ filled_deep {cap} {held} {top0} {end0} {top} {end} {slots0} {slots} d r same lon
     })
 
 -- full or not, there is room once the last block of a full list is gone
-pub take_cap : (cap x : ℕ) (xs : List ℕ) → 1 ≤ cap → x ∷ take (cap - 1) xs ≡ take cap (x ∷ xs)
+pub take_cap : {A : Type 0} (cap : ℕ) (x : A) (xs : List A) → 1 ≤ cap →
+    x ∷ take (cap - 1) xs ≡ take cap (x ∷ xs)
 take_cap zero x xs some = absurd (omega arith)
 take_cap (suc cap) x xs some = ap (λ n. x ∷ take n xs) (omega arith)
 
 -- how long a list is, by its fields
-pub record IsHeld (cap held : ℕ) (v : Deep) : Type 0 where
+pub record IsHeld (V : Type 0) (cap held : ℕ) (v : Deep V) : Type 0 where
   pub cap_is : cap ≡ v.cap
   pub some : 1 ≤ cap
   pub at_most : held ≤ cap
   pub length_is : length v.blocks ≡ held
+  pub values_length : length v.values ≡ held
 
-pub held_is : {cap held top end : ℕ} {slots : SlotsValue} {chains : ChainsValue} (v : Deep) →
-    IsDeep cap held top end slots chains
-    → record { cap = cap; blocks = live_blocks slots.blocks slots.live } ≡ v → IsHeld cap held v
-held_is v d is = record {
+pub held_is : {V : Type 0} {cap held top end : ℕ} {slots : SlotsValue} {chains : ChainsValue}
+    (v : Deep V) (items : List V) →
+    IsDeep cap held top end (length items) slots chains
+    → record {
+      cap = cap;
+      blocks = live_items slots.blocks slots.live;
+      values = live_items items slots.live;
+    } ≡ v → IsHeld V cap held v
+held_is v items d is = record {
   cap_is = ap (λ w. w.cap) is;
   some = d.some;
   at_most = d.at_most;
   length_is = sym (held_length d ∙ ap (λ w. length w.blocks) is);
+  values_length = sym (held_length d ∙ sym (length-values d items refl)
+      ∙ ap (λ w. length w.values) is);
 }
 
-module _ {cap held : ℕ} {v : Deep} (h : IsHeld cap held v) where
-  abbrev cut : ℕ → Deep
-  cut n = record { cap = v.cap; blocks = take n v.blocks }
-
+module _ {V : Type 0} {cap held : ℕ} {v : Deep V} (h : IsHeld V cap held v) where
   pub full_some : held ≡ cap → v.blocks ≡ [] → ⊥
   full_some full none = absurd (omega (arith, ap length none, h.length_is, h.some, full))
 
-  pub full_cut : held ≡ cap → cut (length v.blocks - 1) ≡ cut (v.cap - 1)
-  full_cut full = ap (λ n. cut (n - 1)) (h.length_is ∙ full ∙ h.cap_is)
+  pub full_length : held ≡ cap → length v.blocks ≡ v.cap
+  full_length full = h.length_is ∙ full ∙ h.cap_is
 
-  pub full_room : (w : Deep) → held ≡ cap → w ≡ cut (length v.blocks - 1) → length w.blocks < w.cap
+  pub full_cut : held ≡ cap → cut_to (length v.blocks - 1) v ≡ cut_to (v.cap - 1) v
+  full_cut full = ap (λ n. cut_to (n - 1) v) (full_length full)
+
+  pub full_room : (w : Deep V) → held ≡ cap → w ≡ cut_to (length v.blocks - 1) v →
+      length w.blocks < w.cap
   full_room w full is =
       omega (
         arith,
@@ -508,12 +561,19 @@ module _ {cap held : ℕ} {v : Deep} (h : IsHeld cap held v) where
         h.cap_is,
       )
 
-  pub short_cut : (held ≡ cap → ⊥) → v ≡ cut (v.cap - 1)
+  pub short_cut : (held ≡ cap → ⊥) → v ≡ cut_to (v.cap - 1) v
   short_cut short =
       let whole : take (v.cap - 1) v.blocks ≡ v.blocks =
       take_all (v.cap - 1) v.blocks (omega (arith, h.length_is, h.at_most, h.cap_is, short)) in
-      let made : List ℕ → Deep = λ xs. record { cap = v.cap; blocks = xs } in
-      ap made (sym whole)
+      let values : take (v.cap - 1) v.values ≡ v.values =
+      take_all (v.cap - 1) v.values (omega (arith, h.values_length, h.at_most, h.cap_is, short)) in
+      let made : List ℕ → List V → Deep V = λ xs ys. record {
+        cap = v.cap;
+        blocks = xs;
+        values = ys;
+      } in
+      ap (λ xs. made xs v.values) (sym whole)
+      ∙ ap (λ ys. made (take (v.cap - 1) v.blocks) ys) (sym values)
 
   pub short_room : (held ≡ cap → ⊥) → length v.blocks < v.cap
   short_room short = omega (arith, h.length_is, h.at_most, h.cap_is, short)

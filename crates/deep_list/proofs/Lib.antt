@@ -1,4 +1,4 @@
 pub mod SlotLemmas
 pub mod ChainLemmas
-pub mod LiveBlockLemmas
+pub mod LiveItemLemmas
 pub mod DeepLemmas

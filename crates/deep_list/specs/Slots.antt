@@ -1,5 +1,5 @@
--- Slots for blocks: which are live, how many live slots stand before one, and the list of the live
--- ones' blocks.
+-- Slots for blocks: which are live, how many live slots stand before one, and what the live ones
+-- have.
 use Rattle.std.specs.Prelude.{ℕ, zero, suc, ◌≡◌, ◌≤◌, ◌<◌, ◌*◌, ◌^◌, List, [], ◌∷◌, length}
 use Rattle.std.specs.Prelude.{take, sum, slice_set, slice_index}
 
@@ -41,9 +41,9 @@ pub record HasCounts (blocks live counts : List ℕ) : Type 0 where
   pub chunks : length live < length counts * 256
   pub prefixes : (c : ℕ) → c ≤ length counts → sum (take c counts) ≡ sum (take (c * 256) live)
 
--- the blocks of the live slots, in order
-unfoldable pub live_blocks : List ℕ → List ℕ → List ℕ
-live_blocks [] live = []
-live_blocks (x ∷ blocks) [] = []
-live_blocks (x ∷ blocks) (zero ∷ live) = live_blocks blocks live
-live_blocks (x ∷ blocks) (suc n ∷ live) = x ∷ live_blocks blocks live
+-- of something that each slot has, such as its block, what the live slots have, in order
+unfoldable pub live_items : {A : Type 0} → List A → List ℕ → List A
+live_items [] live = []
+live_items (x ∷ items) [] = []
+live_items (x ∷ items) (zero ∷ live) = live_items items live
+live_items (x ∷ items) (suc n ∷ live) = x ∷ live_items items live

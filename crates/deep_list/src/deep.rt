@@ -1,48 +1,65 @@
-//! A list of different blocks, the most recent first. A table finds a block, and flags and counts
-//! tell its place in the list (Bennett and Kruskal 1975), both without a walk over the list.
+//! A list of different blocks, the most recent first, with a value beside each. A table finds a
+//! block, and flags and counts tell its place in the list (Bennett and Kruskal 1975), both without
+//! a walk over the list.
 ghost use Rattle.std.specs.Prelude.{◌≡◌, ◌+◌, ◌-◌, ◌<◌, ◌≤◌, ◌^◌, ◌≢◌, ℕ, false, [], ◌∷◌, length};
-ghost use Rattle.std.specs.Prelude.{sum, take, IfOk, MatchOption, slice_index};
+ghost use Rattle.std.specs.Prelude.{sum, IfOk, MatchOption, slice_index, slice_index_or};
 ghost use Rattle.deep_list.specs.Slots.{SlotsValue, AreFlags, slots_with_block, slots_without};
-ghost use Rattle.deep_list.specs.Slots.{live_blocks};
+ghost use Rattle.deep_list.specs.Slots.{live_items};
 ghost use Rattle.deep_list.specs.Chains.{AreChains, AreFiled};
-ghost use Rattle.deep_list.specs.Deep.{has_block, place_of, without_block, list_after_exchange};
-ghost use Rattle.deep_list.specs.Deep.{IsRanked, IsGathered, IsOnce};
+ghost use Rattle.deep_list.specs.Deep.{has_block, without_block, cut_to, list_after_exchange};
+ghost use Rattle.deep_list.specs.Deep.{IsFound, IsLastOfFull, IsRanked, IsGathered, IsOnce};
 
 use crate::chains::Chains;
 use crate::slots::{Slots, Span};
 use std::alloc::{AllocError, Global};
 use std::marker::Model;
 
-/// A list of at most `cap` different blocks. The blocks of the live slots are the list. A block
-/// that comes to the front takes the slot before all live ones; when there is none, all are moved
-/// to the end of the slots.
+/// What an exchange finds: the place where the wanted block stood, and the value beside it, if it
+/// was in the list; and the value beside the block that fell out of the list, if one did.
+#[derive(Clone, Copy, Debug)]
+pub struct Exchanged<V: Copy> {
+    pub found: Option<(usize, V)>,
+    pub fallen: Option<V>,
+}
+
+/// A list of at most `cap` different blocks, with a value beside each, `()` where none is needed.
+/// The blocks of the live slots are the list. A block that comes to the front takes the slot before
+/// all live ones; when there is none, all are moved to the end of the slots.
 #[derive(Drop)]
-pub struct DeepList {
+pub struct DeepList<V: Copy> {
     cap: usize,
     held: usize,
     span: Span,
     slots: Slots,
     chains: Chains,
+    values: Vec<V>,
 }
 
-impl Model for DeepList {
-    ghost use Rattle.deep_list.specs.Slots.{live_blocks};
+impl<V: Copy> Model for DeepList<V> {
+    ghost use Rattle.std.specs.Prelude.{◌≡◌, length};
+    ghost use Rattle.deep_list.specs.Slots.{live_items};
     ghost use Rattle.deep_list.specs.Deep.{Deep, IsDeep};
 
-    ghost Value = { Deep };
+    ghost Value = { Deep V };
 
-    ghost view = { λ d. record { cap = d.cap; blocks = live_blocks d.slots.blocks d.slots.live } };
+    ghost view = { λ d. record {
+      cap = d.cap;
+      blocks = live_items d.slots.blocks d.slots.live;
+      values = live_items d.values.items d.slots.live;
+    } };
 
-    ghost invariant = { λ d. IsDeep d.cap d.held d.span.top d.span.end d.slots d.chains };
+    ghost invariant = { λ d.
+        IsDeep d.cap d.held d.span.top d.span.end (length d.values.items) d.slots d.chains };
 }
 
-impl DeepList {
-    /// An empty list. It takes all its memory here: three slots for each two blocks, of 13 bytes
-    /// each, and 4 bytes for each chain, of which there is one for each two blocks.
-    pub fn new(alloc: Global, cap: usize) -> Result<DeepList, AllocError>
+impl<V: Copy> DeepList<V> {
+    /// An empty list, whose slots have this value at first. It takes all its memory here: three
+    /// slots for each two blocks, of 13 bytes and a value each, and 4 bytes for each chain, of
+    /// which there is one for each two blocks.
+    pub fn new(alloc: Global, cap: usize, value: V) -> Result<DeepList<V>, AllocError>
         requires some { 1 ≤ cap }
         requires small { cap ≤ 2 ^ 22 }
-        ensures { IfOk result (λ d. d ≡ record { cap = cap; blocks = [] }) }
+        ensures { IfOk result (λ d. d ≡ record { cap = cap; blocks = []; values = [] }) }
     {
         let count = cap + cap / 2 + 1;
         Ok(DeepList {
@@ -54,32 +71,36 @@ impl DeepList {
             },
             slots: Slots::new(alloc, count)?,
             chains: Chains::new(alloc, cap / 2 + 1, count)?,
+            values: vec![in alloc; value; count]?,
         })
     }
 
     /// How many blocks the list has.
     pub fn len(&self) -> usize
-        ensures { result ≡ length self.now.blocks }
+        ensures value { result ≡ length self.now.blocks }
+        ensures beside { length self.now.values ≡ length self.now.blocks }
     {
         self.held
     }
 
-    /// Takes a block out of the list, if it is there, and puts another in front. If the list is
-    /// full, its last block falls out. Returns the place where the first block was.
-    pub fn exchange(&mut self, wanted: u64, given: u64) -> Option<usize>
+    /// Takes a block out of the list, if it is there, and puts another with a value in front. If
+    /// the list is full, its last block falls out.
+    pub fn exchange(&mut self, wanted: u64, given: u64, value: V) -> Exchanged<V>
         requires { has_block given self.old.blocks ≡ false }
-        ensures found { result ≡ place_of wanted self.old.blocks }
-        ensures moved { self.new ≡ list_after_exchange self.old wanted given }
+        ensures found { IsFound wanted self.old result.found }
+        ensures fallen { IsLastOfFull (without_block self.old wanted) result.fallen }
+        ensures moved { self.new ≡ list_after_exchange self.old wanted given value }
     {
-        let place = self.take_out(wanted);
-        self.drop_if_full();
-        self.put_first(given);
-        place
+        let found = self.take_out(wanted);
+        let fallen = self.drop_if_full();
+        self.put_first(given, value);
+        Exchanged { found, fallen }
     }
 
-    /// Takes a block out of the list, if it is there. Returns the place where it was.
-    fn take_out(&mut self, block: u64) -> Option<usize>
-        ensures found { result ≡ place_of block self.old.blocks }
+    /// Takes a block out of the list, if it is there. Returns the place where it was, and its
+    /// value.
+    fn take_out(&mut self, block: u64) -> Option<(usize, V)>
+        ensures found { IsFound block self.old result }
         ensures moved { self.new ≡ without_block self.old block }
     {
         match self.chains.find(&self.slots, self.span, block) {
@@ -87,32 +108,30 @@ impl DeepList {
                 let place = self.slots.live_before(slot);
                 self.slots.vacate(slot);
                 self.held -= 1;
-                Some(place)
+                Some((place, self.values[slot]))
             }
             None => None,
         }
     }
 
-    /// Takes the last block out of the list if it is full.
-    fn drop_if_full(&mut self)
-        ensures dropped { self.new ≡ record self.old {
-          blocks =
-              take (self.old.cap - 1) self.old.blocks;
-        } }
+    /// Takes the last block out of the list if it is full. Returns its value then.
+    fn drop_if_full(&mut self) -> Option<V>
+        ensures last { IsLastOfFull self.old result }
+        ensures dropped { self.new ≡ cut_to (self.old.cap - 1) self.old }
         ensures room { length self.new.blocks < self.new.cap }
     {
         if self.held == self.cap {
-            self.drop_last();
+            Some(self.drop_last())
+        } else {
+            None
         }
     }
 
-    /// Takes the last block out of the list.
-    fn drop_last(&mut self)
+    /// Takes the last block out of the list. Returns its value.
+    pub fn drop_last(&mut self) -> V
         requires { self.old.blocks ≢ [] }
-        ensures { self.new ≡ record self.old {
-          blocks =
-              take (length self.old.blocks - 1) self.old.blocks;
-        } }
+        ensures last { result ≡ slice_index_or self.old.values (length self.old.blocks - 1) result }
+        ensures dropped { self.new ≡ cut_to (length self.old.blocks - 1) self.old }
     {
         let Some(slot) = last_live(&self.slots, self.span.end) else {
             unreachable!()
@@ -120,25 +139,35 @@ impl DeepList {
         self.slots.vacate(slot);
         self.span.end = slot;
         self.held -= 1;
+        self.values[slot]
     }
 
-    /// Puts a block in front of the list.
-    fn put_first(&mut self, block: u64)
+    /// Puts a block with a value in front of the list.
+    fn put_first(&mut self, block: u64, value: V)
         requires other { has_block block self.old.blocks ≡ false }
         requires room { length self.old.blocks < self.old.cap }
-        ensures { self.new ≡ record self.old { blocks = block ∷ self.old.blocks } }
+        ensures { self.new ≡ record self.old {
+          blocks = block ∷ self.old.blocks;
+          values = value ∷ self.old.values;
+        } }
     {
-        self.span = make_room(&mut self.slots, &mut self.chains, self.span);
+        self.span = make_room(
+            &mut self.slots,
+            &mut self.chains,
+            &mut self.values,
+            self.span,
+        );
         let slot = self.span.top - 1;
         self.slots.fill(slot, block);
         self.chains.add(slot, block);
+        self.values[slot] = value;
         self.span.top = slot;
         self.held += 1;
     }
 
     /// Empties the list. It visits the slots that were used since the list was last empty.
     pub fn clear(&mut self)
-        ensures { self.new ≡ record self.old { blocks = [] } }
+        ensures { self.new ≡ record self.old { blocks = []; values = [] } }
     {
         while self.len() > 0 {
             self.drop_last();
@@ -164,20 +193,23 @@ fn last_live(slots: &Slots, end: usize) -> Option<usize>
 }
 
 /// Makes sure that a slot before the live ones is free: if there is none, moves these to the end.
-fn make_room(slots: &mut Slots, chains: &mut Chains, span: Span) -> Span
+fn make_room<V: Copy>(slots: &mut Slots, chains: &mut Chains, values: &mut [V], span: Span) -> Span
     requires ranked { IsRanked span.top span.end slots.old chains.old }
+    requires beside { length values.old ≡ length slots.old.live }
     requires room { sum slots.old.live < length slots.old.live }
-    requires once { IsOnce (live_blocks slots.old.blocks slots.old.live) }
+    requires once { IsOnce (live_items slots.old.blocks slots.old.live) }
     ensures ranked { IsRanked result.top result.end slots.new chains.new }
     ensures free { 1 ≤ result.top }
-    ensures kept_same { live_blocks slots.new.blocks slots.new.live ≡ live_blocks slots.old.blocks
+    ensures kept_same { live_items slots.new.blocks slots.new.live ≡ live_items slots.old.blocks
         slots.old.live }
+    ensures values { live_items values.new slots.new.live ≡ live_items values.old slots.old.live }
     ensures long { length slots.new.live ≡ length slots.old.live }
+    ensures beside { length values.new ≡ length values.old }
 {
     if span.top > 0 {
         return span;
     }
-    let top = gather(slots);
+    let top = gather(slots, values);
     file_all(chains, slots, top);
     Span {
         top,
@@ -185,11 +217,14 @@ fn make_room(slots: &mut Slots, chains: &mut Chains, span: Span) -> Span
     }
 }
 
-/// Moves the live slots to the end. Returns the first of them.
-fn gather(slots: &mut Slots) -> usize
+/// Moves the live slots to the end, and their values. Returns the first of them.
+fn gather<V: Copy>(slots: &mut Slots, values: &mut [V]) -> usize
     requires same { length slots.old.blocks ≡ length slots.old.live }
     requires flags { AreFlags slots.old.live }
-    ensures { IsGathered result slots.old slots.new }
+    requires beside { length values.old ≡ length slots.old.live }
+    ensures slots { IsGathered result slots.old slots.new }
+    ensures values { live_items values.new slots.new.live ≡ live_items values.old slots.old.live }
+    ensures beside { length values.new ≡ length values.old }
 {
     let mut to = slots.len();
     let mut from = to;
@@ -198,6 +233,7 @@ fn gather(slots: &mut Slots) -> usize
         if slots.is_live(from) {
             to -= 1;
             shift(slots, from, to);
+            values[to] = values[from];
         }
     }
     to

@@ -4,3 +4,9 @@ pub mod Parts
 pub mod ListsInRows
 pub mod Emptying
 pub mod Touching
+pub mod SlotMoves
+pub mod ListsInSlots
+pub mod RestTouch
+pub mod TwoParts
+pub mod LongLists
+pub mod LongBringing

@@ -19,7 +19,7 @@ impl Emptying {
     /// The most ways of a cache that copies back the block at this index of a list, if the block is
     /// dirty there.
     #[inline(always)]
-    fn up_to(self, depth: usize, index: usize) -> usize
+    pub fn up_to(self, depth: usize, index: usize) -> usize
         ensures { result ≡ up_to_of self depth index }
     {
         match self {

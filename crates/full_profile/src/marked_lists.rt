@@ -1,8 +1,12 @@
 //! Recency lists with a clean depth beside each block, in whatever way they are kept.
+pub(crate) mod long_lists;
 pub(crate) mod row;
 pub(crate) mod rows;
+pub(crate) mod slotted;
+pub(crate) mod touched;
 
-ghost use Rattle.std.specs.Prelude.{◌≡◌, ◌+◌, ◌^◌, ◌<◌, ◌≤◌, IsTrue, ◌↔◌, length, slice_index};
+ghost use Rattle.std.specs.Prelude.{◌≡◌, ◌+◌, ◌^◌, ◌<◌, ◌≤◌, IsTrue, false, ◌↔◌, length};
+ghost use Rattle.std.specs.Prelude.{slice_index};
 ghost use Rattle.std.specs.Prelude.{sum, sum_by};
 ghost use Rattle.trace_core.specs.Events.{is_write};
 ghost use Rattle.profile_core.specs.profile.RecencyList.{is_front};
@@ -70,9 +74,11 @@ pub trait MarkedLists: Drop {
         requires some { 0 < length (blocks_in (view self.old) set) }
         ensures { view self.new ≡ after_write_in_front (view self.old) set };
 
-    /// Brings a block to the front of a set's list by an access, and returns where it stood.
+    /// Brings a block that is not the front of a set's list to the front by an access, and returns
+    /// where it stood.
     fn bring(&mut self, set: usize, block: u64, access: Access) -> MarkedTouch
-        requires { set < length (view self.old).blocks }
+        requires within { set < length (view self.old).blocks }
+        requires behind { is_front block (blocks_in (view self.old) set) ≡ false }
         ensures found { result ≡ marked_touch_of (view self.old).depth block
             (blocks_in (view self.old) set) (cleans_in (view self.old) set) }
         ensures moved { view self.new ≡ after_access (view self.old) set block access };

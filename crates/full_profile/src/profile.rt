@@ -1,6 +1,7 @@
 //! A full profile: one pass over references that counts all that caches of every associativity up
 //! to a depth do.
 mod full_sums;
+mod kept_full;
 mod numbers;
 mod stack_profile;
 
@@ -16,9 +17,8 @@ ghost use Rattle.full_profile.specs.Sums.{full_sums_at};
 
 use crate::copies::Emptying;
 use crate::counts::FullCounts;
-use crate::marked_lists::rows::MarkedRows;
 pub use crate::profile::full_sums::FullSums;
-use crate::profile::stack_profile::FullStackProfile;
+use crate::profile::kept_full::KeptFull;
 use cache_core::Geometry;
 use profile_core::MAX_REFERENCES;
 use std::alloc::{AllocError, Global};
@@ -27,23 +27,43 @@ use trace_core::Ref;
 
 /// The recency lists of all sets (LRU stacks, Mattson 1970), a clean depth beside each block
 /// (Thompson and Smith 1989), and the numbers counted.
-#[derive(Drop)]
 pub struct FullProfile {
-    kept: FullStackProfile<MarkedRows>,
+    kept: KeptFull,
+}
+
+/// Written out, so that a proof of what drops a profile need not tell the ways apart.
+impl Drop for FullProfile {
+    fn drop(self) {
+        let FullProfile { kept: _ } = self;
+    }
 }
 
 impl Model for FullProfile {
     ghost use Rattle.full_profile.specs.State.{FullState};
+    ghost use Rattle.full_profile.specs.internal.KeptFull.{full_kept};
 
     ghost Value = { FullState };
 
-    ghost view = { λ p. p.kept };
+    ghost view = { λ p. full_kept p.kept };
+}
+
+/// An expression over the profile that is kept, in whatever way its lists are.
+macro_rules! in_any_way {
+    ($kept:expr, $profile:ident => $result:expr) => {
+        match $kept {
+            KeptFull::Rows($profile) => $result,
+            KeptFull::Slots($profile) => $result,
+            KeptFull::Long($profile) => $result,
+        }
+    };
 }
 
 impl FullProfile {
     /// A profile of caches of `2^s` sets of 1 to `depth` lines of `2^b` bytes. It takes all its
     /// memory here: 12 bytes for each of `depth * 2^s` blocks, 4 and a quarter for each set, and 56
-    /// for each associativity and 24 more. Where memory is refused, nothing is kept.
+    /// for each associativity and 24 more. With a depth of 12 to 16 and up to 4,096 sets it is 193
+    /// and a quarter for each set instead of the first two, and with a depth of 256 or more at most
+    /// 27.6 bytes for each block. Where memory is refused, nothing is kept.
     pub fn new(alloc: Global, b: u64, s: u64, depth: u64) -> Result<FullProfile, AllocError>
         requires { IsGeometry (geometry_value s depth b) }
         ensures { IfOk result (λ profile. profile ≡ empty_full (geometry_value s depth b)) }
@@ -51,9 +71,8 @@ impl FullProfile {
         let Some(geometry) = Geometry::new(s, depth, b) else {
             unreachable!()
         };
-        let lists = MarkedRows::new(alloc, geometry.sets() as usize, depth as usize)?;
         Ok(FullProfile {
-            kept: FullStackProfile::new(alloc, geometry, lists)?,
+            kept: KeptFull::new(alloc, geometry)?,
         })
     }
 
@@ -61,7 +80,14 @@ impl FullProfile {
     pub fn block_bits(&self) -> u64
         ensures { result ≡ self.now.plain.geometry.b }
     {
-        self.kept.geometry().b()
+        self.geometry().b()
+    }
+
+    /// The geometry of its deepest caches.
+    fn geometry(&self) -> Geometry
+        ensures { result ≡ self.now.plain.geometry }
+    {
+        in_any_way!(&self.kept, profile => profile.geometry())
     }
 
     /// Whether a reference that is settled in this profile is always settled in `finer` too, if
@@ -70,7 +96,7 @@ impl FullProfile {
     pub fn is_refined_by(&self, finer: &FullProfile) -> bool
         ensures { result ≡ is_refined self.now.plain.geometry finer.now.plain.geometry }
     {
-        let (geometry, finer) = (self.kept.geometry(), finer.kept.geometry());
+        let (geometry, finer) = (self.geometry(), finer.geometry());
         let (s, b) = (geometry.s(), geometry.b());
         let (finer_s, finer_b) = (finer.s(), finer.b());
         b == finer_b && s <= finer_s || s == 0 && b <= finer_b
@@ -79,9 +105,10 @@ impl FullProfile {
     /// Feeds one reference. Takes no memory and cannot fail. At most `MAX_REFERENCES` may be fed.
     pub fn feed(&mut self, r: Ref)
         requires { fed_of self.old.plain < MAX_REFERENCES }
-        ensures { self.new ≡ after_full_reference self.old r }
+        ensures step { self.new ≡ after_full_reference self.old r }
+        ensures one_more { fed_of self.new.plain ≡ fed_of self.old.plain + 1 }
     {
-        self.kept.feed(r);
+        in_any_way!(&mut self.kept, profile => profile.feed(r));
     }
 
     /// Feeds references, one after the other, except those that are settled: they find their block
@@ -91,19 +118,21 @@ impl FullProfile {
     pub fn feed_batch(&mut self, refs: &mut [Ref]) -> usize
         requires { fed_of self.old.plain + length refs.old ≤ MAX_REFERENCES }
         ensures step { self.new ≡ after_full_batch self.old refs.old }
+        ensures more { fed_of self.new.plain ≡ fed_of self.old.plain + result }
         ensures fed { take result refs.new ≡ unsettled self.old refs.old }
         ensures within { result ≤ length refs.new }
         ensures length { length refs.new ≡ length refs.old }
     {
-        self.kept.feed_each(refs)
+        in_any_way!(&mut self.kept, profile => profile.feed_each(refs))
     }
 
     /// Counts this many references that were settled, and one comparison for each.
     pub fn count_settled(&mut self, count: u64)
         requires { fed_of self.old.plain + count ≤ MAX_REFERENCES }
-        ensures { self.new ≡ after_settled count self.old }
+        ensures step { self.new ≡ after_settled count self.old }
+        ensures more { fed_of self.new.plain ≡ fed_of self.old.plain + count }
     {
-        self.kept.count_settled(count);
+        in_any_way!(&mut self.kept, profile => profile.count_settled(count));
     }
 
     /// Empties the lists, as a flush of the caches does, which copy back all dirty blocks. The
@@ -111,7 +140,7 @@ impl FullProfile {
     pub fn flush(&mut self)
         ensures { self.new ≡ after_full_flush self.old }
     {
-        self.kept.empty(Emptying::Flush);
+        in_any_way!(&mut self.kept, profile => profile.empty(Emptying::Flush));
     }
 
     /// Counts the copybacks of the blocks that caches have evicted since the references that
@@ -120,7 +149,7 @@ impl FullProfile {
     pub fn end(&mut self)
         ensures { self.new ≡ after_end self.old }
     {
-        self.kept.empty(Emptying::End);
+        in_any_way!(&mut self.kept, profile => profile.empty(Emptying::End));
     }
 
     /// How many references were fed. It goes over the histograms, `3 * depth` numbers, so it should
@@ -128,14 +157,14 @@ impl FullProfile {
     pub fn fed(&self) -> u64
         ensures { result ≡ fed_of self.now.plain }
     {
-        self.kept.fed()
+        in_any_way!(&self.kept, profile => profile.fed())
     }
 
     /// The number of comparisons counted, as `profile_core::Profile::probes` counts them.
     pub fn probes(&self) -> u64
         ensures { result ≡ self.now.plain.probes }
     {
-        self.kept.probes()
+        in_any_way!(&self.kept, profile => profile.probes())
     }
 
     /// The sums at associativity 0, with which `counts_next` begins. It takes as long as `fed`,
@@ -143,7 +172,7 @@ impl FullProfile {
     pub fn begin_sums(&self) -> FullSums
         ensures { result ≡ full_sums_at self.now 0 }
     {
-        self.kept.begin_sums()
+        in_any_way!(&self.kept, profile => profile.begin_sums())
     }
 
     /// The counts of an LRU cache of `e` lines per set, over all references fed, once `end` was
@@ -158,6 +187,6 @@ impl FullProfile {
         ensures value { result ≡ full_counts_at self.now e }
         ensures sums { sums.new ≡ full_sums_at self.now e }
     {
-        self.kept.counts_next(sums, e)
+        in_any_way!(&self.kept, profile => profile.counts_next(sums, e))
     }
 }

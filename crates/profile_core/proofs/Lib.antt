@@ -1,2 +1,5 @@
 pub mod Elements
 pub mod HitSums
+pub mod ListParts
+pub mod LongListLemmas
+pub mod LongListBringing

@@ -8,3 +8,4 @@ pub mod Fed
 pub mod Fronts
 pub mod Batches
 pub mod Runs
+pub mod Later

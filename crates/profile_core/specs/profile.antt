@@ -1,4 +1,5 @@
 pub mod Fronts
+pub mod LacksFronts
 pub mod ProfileStandsFor
 pub mod RecencyList
 pub mod State

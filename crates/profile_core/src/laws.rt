@@ -2,7 +2,8 @@
 //! proves it. A caller uses a law by calling its function, which costs nothing: below the call the
 //! law is known. A proof may cite the lemma that a law names instead.
 
-ghost use Rattle.std.specs.Prelude.{ℕ, ◌≡◌, true, ◌≤◌, ◌+◌, ◌*◌, List, ◌++◌, ◌∷◌, [], length, fold};
+ghost use Rattle.std.specs.Prelude.{ℕ, ◌≡◌, true, ◌≤◌, ◌+◌, ◌-◌, ◌*◌, List, ◌++◌, ◌∷◌, []};
+ghost use Rattle.std.specs.Prelude.{length, map, fold};
 ghost use Rattle.trace_core.specs.declared.events.Ref.{Ref};
 ghost use Rattle.trace_core.specs.declared.events.Event.{Event};
 ghost use Rattle.trace_core.specs.declared.events.Event.TheVariants as event;
@@ -11,7 +12,10 @@ ghost use Rattle.cache_core.specs.Windows.{occurrences, counts, probes, has_last
 ghost use Rattle.cache_core.specs.LruLaws.{occurrence_after};
 ghost use Rattle.profile_core.specs.profile.State.{ProfileState, empty, after_reference};
 ghost use Rattle.profile_core.specs.profile.State.{after_flush, after_event, fed_of, counts_at};
-ghost use Rattle.profile_core.specs.profile.Fronts.{is_front_of, is_refined};
+ghost use Rattle.profile_core.specs.profile.Fronts.{is_front_of, is_refined, after_references};
+ghost use Rattle.profile_core.specs.profile.Fronts.{after_unless_front, after_fronts};
+ghost use Rattle.profile_core.specs.profile.Fronts.{after_batch, fed_of_batch};
+ghost use Rattle.profile_core.specs.profile.LacksFronts.{LacksFronts};
 ghost use Rattle.profile_core.specs.profile.ProfileStandsFor.{ProfileStandsFor};
 
 /// A new profile stands for no events; a reference fed is a reference added, and a flush a flush
@@ -53,6 +57,37 @@ pub fn distance_0_is_refined()
         → has_last (occurrence_after g es r) ≡ true → distance g (occurrence_after g es r) ≡ 0
         → (has_last (occurrence_after h es r) ≡ true)
         × (distance h (occurrence_after h es r) ≡ 0) }
+{}
+
+/// A profile that is fed a batch of references, except those that find their block in front, and
+/// then counts these, is the profile that is fed all of them.
+/// Lemmas: `Later.batch_with_fronts`, `Later.references_of`.
+pub fn batch_with_its_fronts_is_all()
+    ensures addresses { (es : List Event) (v : ProfileState) (addrs : List ℕ)
+        → ProfileStandsFor es v
+        → after_fronts (length addrs - length (fed_of_batch v addrs)) (after_batch v addrs)
+        ≡ after_references v addrs }
+    ensures events { (v : ProfileState) (refs : List Ref)
+        → after_references v (map (λ r. r.addr) refs)
+        ≡ fold after_event v (map event.Reference refs) }
+{}
+
+/// References that find their block in front can be counted later, after other batches and flushes:
+/// a profile that lacks only these stands for its events once it has counted them.
+/// Lemmas: `Later.lacks_new`, `Later.lacks_reference`, `Later.lacks_batch`, `Later.lacks_flush`,
+/// `Later.caught_up`.
+pub fn fronts_can_be_counted_later()
+    ensures new { (g : GeometryValue) → IsGeometry g → LacksFronts 0 [] (empty g) }
+    ensures reference { (n : ℕ) (es : List Event) (v : ProfileState) (r : Ref) → LacksFronts n es v
+        → LacksFronts (n + 1) (es ++ event.Reference r ∷ [])
+        (after_unless_front v (block_of v.geometry r.addr)) }
+    ensures batch { (n : ℕ) (es : List Event) (v : ProfileState) (refs : List Ref)
+        → LacksFronts n es v → LacksFronts (n + length refs) (es ++ map event.Reference refs)
+        (after_batch v (map (λ r. r.addr) refs)) }
+    ensures flush { (n : ℕ) (es : List Event) (v : ProfileState) → LacksFronts n es v
+        → LacksFronts n (es ++ event.Flush ∷ []) (after_flush v) }
+    ensures caught { (n : ℕ) (es : List Event) (v : ProfileState) (count : ℕ) → LacksFronts n es v
+        → fed_of v + count ≡ n → ProfileStandsFor es (after_fronts count v) }
 {}
 
 /// A list of events counts at most `g.e` times as many comparisons as it has references.

@@ -7,5 +7,7 @@ pub mod profile;
 mod rests;
 mod rows;
 mod set_lists;
+pub mod slots;
 
 pub use profile::{MAX_REFERENCES, Profile};
+pub use set_lists::recency::Standing;

@@ -6,7 +6,7 @@ mod kept_profile;
 mod stack_profile;
 
 ghost use Rattle.std.specs.Prelude.{◌≡◌, ◌+◌, ◌*◌, ◌^◌, ◌<◌, ◌≤◌, List, IfOk, true, false, length};
-ghost use Rattle.std.specs.Prelude.{take};
+ghost use Rattle.std.specs.Prelude.{take, if◌then◌else◌};
 ghost use Rattle.trace_core.specs.declared.events.Event.{Event};
 ghost use Rattle.cache_core.specs.Geometry.{IsGeometry, geometry_value, block_of};
 ghost use Rattle.cache_core.specs.Windows.{held};
@@ -120,6 +120,7 @@ impl Profile {
         requires few { fed_of self.old < MAX_REFERENCES }
         ensures front { result ≡ is_front_of self.old (block_of self.old.geometry addr) }
         ensures step { self.new ≡ after_unless_front self.old (block_of self.old.geometry addr) }
+        ensures more { fed_of self.new ≡ fed_of self.old + (if result then 0 else 1) }
     {
         let block = self.geometry().block_of(addr);
         self.feed_block_unless_front(block)
@@ -133,6 +134,7 @@ impl Profile {
     pub fn feed_batch(&mut self, addrs: &mut [u64]) -> usize
         requires { fed_of self.old + length addrs.old ≤ MAX_REFERENCES }
         ensures step { self.new ≡ after_batch self.old addrs.old }
+        ensures more { fed_of self.new ≡ fed_of self.old + result }
         ensures fed { take result addrs.new ≡ fed_of_batch self.old addrs.old }
         ensures within { result ≤ length addrs.new }
         ensures length { length addrs.new ≡ length addrs.old }
@@ -149,7 +151,11 @@ impl Profile {
         requires few { fed_of self.old + length addrs.old ≤ MAX_REFERENCES }
         requires next_few { fed_of next.old + length addrs.old ≤ MAX_REFERENCES }
         ensures step { self.new ≡ after_batch self.old addrs.old }
+        ensures more { fed_of self.new
+            ≡ fed_of self.old + length (fed_of_batch self.old addrs.old) }
+        ensures at_most { fed_of self.new ≤ fed_of self.old + length addrs.old }
         ensures next_step { next.new ≡ after_batch next.old (fed_of_batch self.old addrs.old) }
+        ensures next_more { fed_of next.new ≡ fed_of next.old + result }
         ensures fed { take result addrs.new
             ≡ fed_of_batch next.old (fed_of_batch self.old addrs.old) }
         ensures within { result ≤ length addrs.new }
@@ -218,7 +224,8 @@ impl Profile {
     #[inline]
     pub fn count_fronts(&mut self, count: u64)
         requires { fed_of self.old + count ≤ MAX_REFERENCES }
-        ensures { self.new ≡ after_fronts count self.old }
+        ensures step { self.new ≡ after_fronts count self.old }
+        ensures more { fed_of self.new ≡ fed_of self.old + count }
     {
         in_any_way!(&mut self.kept, profile => profile.count_fronts(count))
     }

@@ -35,15 +35,6 @@ pub record IsFedUpTo (at given : ℕ) (refs left : List Ref) (old now : List Ful
   pub left_are : (d : FullPair) → 0 < at →
       take given left ≡ unsettled (get_or old (at - 1) d).profile refs
 
-pub begin : (refs left : List Ref) (old : List FullPair) → length left ≡ length refs →
-    IsFedUpTo 0 0 refs left old old
-begin refs left old room = record {
-  fed = refl;
-  few = omega arith;
-  room = room;
-  left_are = λ d some. absurd (omega (arith, some));
-}
-
 -- no profile is lost
 pub as_many : {at given : ℕ} {refs left : List Ref} {old now : List FullPair} →
     IsFedUpTo at given refs left old now → length now ≡ length old

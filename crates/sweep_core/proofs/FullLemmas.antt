@@ -135,10 +135,6 @@ flushed-each : (n : ℕ) (es : List Event) (xs : List FullPair) → AreFedFull n
 flushed-each n es [] h = tt
 flushed-each n es (x ∷ xs) h = (fed_flush h.0, flushed-each n es xs h.1)
 
-more-each : (n m : ℕ) (es : List Event) (xs : List FullPair) → n ≡ m → AreFedFull n es xs →
-    AreFedFull m es xs
-more-each n m es xs same h = subst (λ k. AreFedFull k es xs) same h
-
 at-most : (n m : ℕ) (es : List Event) (xs : List FullPair) → n ≤ m → AreFedFull n es xs →
     FedFullAtMost m xs
 at-most n m es xs le h =

@@ -1,6 +1,7 @@
 -- Copybacks that are counted: how many ends there are, and lists of blocks in any order.
 use Rattle.std.proofs.Common.{◌≡◌, ℕ, zero, suc, ◌+◌, ◌<◌, ◌≤◌, Bool, true, false, cond, ltb}
-use Rattle.std.proofs.Common.{List, [], ◌∷◌, length, drop, get_or, set, sum, refl, sym, ◌∙◌, ap}
+use Rattle.std.proofs.Common.{List, [], ◌∷◌, ◌++◌, length, drop, get_or, set, sum, refl, sym, ◌∙◌}
+use Rattle.std.proofs.Common.{ap}
 use Rattle.std.proofs.Common.{arith, add-one, length-set}
 use Rattle.std.specs.List.{sum_by}
 use Rattle.std.proofs.Math.Seq.{drop-cons}
@@ -39,14 +40,6 @@ none_more n c = record {
   up_to_long = refl;
   above_few = omega arith;
   up_to_few = omega arith;
-}
-
-pub more_more : {m n : ℕ} {c d e : CopiesValue} → IsMore m c d → IsMore n d e → IsMore (m + n) c e
-more_more p q = record {
-  above_long = q.above_long ∙ p.above_long;
-  up_to_long = q.up_to_long ∙ p.up_to_long;
-  above_few = omega (arith, p.above_few, q.above_few);
-  up_to_few = omega (arith, p.up_to_few, q.up_to_few);
 }
 
 one_if : (b : Bool) (c d : CopiesValue) → IsMore 1 c d → IsMore 1 c (cond b d c)
@@ -95,6 +88,31 @@ one_before up_to index cleans c lt =
     ap (λ l. with_copies_of up_to index l c) (drop-cons cleans index 0 lt)
     ∙ ap (λ j. with_copy (get_or cleans index 0) (up_to index)
     (with_copies_of up_to (index + 1) (drop j cleans) c)) (sym (add-one index))
+
+-- and of a list that stands behind others
+pub one_behind : (up_to : ℕ → ℕ) (held index : ℕ) (cleans : List ℕ) (c : CopiesValue) →
+    index < length cleans →
+    with_copies_of up_to (held + index) (drop index cleans) c
+    ≡ with_copy (get_or cleans index 0) (up_to (held + index))
+    (with_copies_of up_to (held + (index + 1)) (drop (index + 1) cleans) c)
+unfolding with_copies_of
+one_behind up_to held index cleans c lt =
+    ap (λ l. with_copies_of up_to (held + index) l c) (drop-cons cleans index 0 lt)
+    ∙ ap (λ i. with_copy (get_or cleans index 0) (up_to (held + index))
+    (with_copies_of up_to i (drop (suc index) cleans) c)) (omega arith)
+    ∙ ap (λ j. with_copy (get_or cleans index 0) (up_to (held + index))
+    (with_copies_of up_to (held + (index + 1)) (drop j cleans) c)) (sym (add-one index))
+
+-- a list in two parts
+pub copies_append : (up_to : ℕ → ℕ) (index : ℕ) (xs ys : List ℕ) (c : CopiesValue) →
+    with_copies_of up_to index (xs ++ ys) c
+    ≡ with_copies_of up_to index xs (with_copies_of up_to (index + length xs) ys c)
+unfolding with_copies_of
+copies_append up_to index [] ys c = ap (λ i. with_copies_of up_to i ys c) (omega arith)
+copies_append up_to index (x ∷ xs) ys c =
+    let next : index + 1 + length xs ≡ index + length (x ∷ xs) = omega arith in
+    ap (with_copy x (up_to index)) (copies_append up_to (index + 1) xs ys c
+    ∙ ap (λ i. with_copies_of up_to (index + 1) xs (with_copies_of up_to i ys c)) next)
 
 -- up to no more ways than the depth
 pub up_to_within : (e : Emptying) (depth index : ℕ) → index ≤ depth → up_to_of e depth index ≤ depth

@@ -11,7 +11,7 @@ use Rattle.std.proofs.lemmas.Bool.Decides.{nat_tests}
 use Rattle.std.proofs.lemmas.List.{take_all}
 use Rattle.std.proofs.lemmas.List.Edits.{length-remove}
 use Rattle.std.proofs.lemmas.List.Sums.{sum_by-cons, sum_by-remove}
-use Rattle.deep_list.proofs.LiveBlockLemmas.{remove-end}
+use Rattle.deep_list.proofs.LiveItemLemmas.{remove-end}
 use Rattle.cache_core.proofs.Lists.{cases, list_any_is}
 use Rattle.profile_core.specs.profile.RecencyList.{index_of, is_in}
 use Rattle.full_profile.proofs.laws.Copies.{one_within}

@@ -55,17 +55,6 @@ pub record IsLeft (e : Emptying) (was : Marked) (c : CopiesValue) (now : Marked)
   pub counted : with_all_copies (up_to_of e was.depth) now.cleans d
       ≡ with_all_copies (up_to_of e was.depth) was.cleans c
 
-pub all_left : (e : Emptying) (was : Marked) (c : CopiesValue) → AreAlike was →
-    CanTake was.depth was.cleans c → IsLeft e was c was c
-all_left e was c alike room = record {
-  depth = refl;
-  alike = alike;
-  set_count = refl;
-  clean_count = refl;
-  room = room;
-  counted = refl;
-}
-
 -- one list less
 module _ {e : Emptying} {was : Marked} {c : CopiesValue} {now : Marked} {d : CopiesValue}
     (left : IsLeft e was c now d) (k : ℕ) (lt : k < length now.blocks) where

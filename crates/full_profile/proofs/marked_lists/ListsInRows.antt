@@ -1,5 +1,6 @@
 -- Lists that rows begin with: what is read of one, and one of them written anew.
-use Rattle.std.proofs.Common.{◌≡◌, ℕ, zero, suc, ◌+◌, ◌*◌, ◌<◌, ◌≤◌, ◌^◌, List, [], ◌∷◌, length}
+use Rattle.std.proofs.Common.{◌≡◌, ℕ, zero, suc, ◌+◌, ◌*◌, ◌-◌, ◌<◌, ◌≤◌, ◌^◌, List, [], ◌∷◌}
+use Rattle.std.proofs.Common.{length}
 use Rattle.std.proofs.Common.{take}
 use Rattle.std.proofs.Common.{drop, get_or, set, refl, sym, ◌∙◌, ap, subst, arith, length-set}
 use Rattle.std.proofs.Common.{get_or-set_same, get_or-set_other, get_or-take}
@@ -7,7 +8,7 @@ use Rattle.std.proofs.Math.Nat.{mul-le-mul_right}
 use Rattle.std.proofs.Common.{get_or-drop}
 use Rattle.std.specs.Prelude.{replicate}
 use Rattle.std.proofs.lemmas.List.{length-take-le, get_or_read, set-get_or, length-replicate}
-use Rattle.std.proofs.lemmas.List.{get_or-replicate}
+use Rattle.std.proofs.lemmas.List.{get_or-replicate, take_all}
 use Rattle.profile_core.proofs.Elements.{all_set, all_same}
 use borrow.Rule.Slice.PartMut.{put_mid}
 use Rattle.profile_core.specs.internal.rows.Rows.{rows_by_set}
@@ -118,6 +119,19 @@ module _ {d k : ℕ} {blocks cleans lens : List ℕ} {m : Marked}
       ∙ front_of (get_or lens k 0) d row h.sound.some
       (λ none. absurd (omega (arith, none, some, blocks_size)))
       ∙ ap (λ l. get_or l 0 0) (sym cleans_are)
+
+  -- the last block of a full list
+  pub last_read : {x : ℕ} → x ≡ get_or blocks (k * d + d - 1) x →
+      length (blocks_in m k) ≡ m.depth → x ≡ get_or (blocks_in m k) (m.depth - 1) 0
+  last_read {x} read full =
+      let row = take d (drop (k * d) blocks) in
+      let some : 1 ≤ d = h.sound.some in
+      let at : x ≡ get_or row (d - 1) 0 =
+      part_read (k * d) d blocks blocks_end (omega (arith, some)) (omega (arith, some)) read in
+      let whole : blocks_in m k ≡ row = blocks_are ∙ take_all (get_or lens k 0) row
+      (omega (arith, part_long (k * d) d blocks blocks_end, blocks_size, full, depth_is)) in
+      at ∙ ap (λ l. get_or l (d - 1) 0) (sym whole)
+      ∙ ap (λ n. get_or (blocks_in m k) (n - 1) 0) depth_is
 
 -- one row written anew, and the length of its list
 pub listed_put : (d k : ℕ) (numbers lens row new : List ℕ) (len : ℕ) → k < length lens →

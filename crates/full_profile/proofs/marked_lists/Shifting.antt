@@ -49,11 +49,11 @@ index_end x xs others = position_or_len_is (λ y. eqb y x) xs (length xs) 0 (ome
 pub index-le : (x : ℕ) (xs : List ℕ) → index_of x xs ≤ length xs
 index-le x xs = prefix_len-le-length (λ y. not (eqb y x)) xs
 
-is_found : (x i : ℕ) (xs : List ℕ) → index_of x xs ≡ i → i < length xs → is_in x xs ≡ true
+pub is_found : (x i : ℕ) (xs : List ℕ) → index_of x xs ≡ i → i < length xs → is_in x xs ≡ true
 is_found x i xs at lt = list_any_is (λ y. eqb y x) xs ∙ lt-ltb (index_of x xs) (length xs)
     (omega arith)
 
-is_absent : (x : ℕ) (xs : List ℕ) → index_of x xs ≡ length xs → is_in x xs ≡ false
+pub is_absent : (x : ℕ) (xs : List ℕ) → index_of x xs ≡ length xs → is_in x xs ≡ false
 is_absent x xs at = list_any_is (λ y. eqb y x) xs ∙ le-ltb (index_of x xs) (length xs) (omega arith)
 
 pub length-remove : (xs : List ℕ) (i : ℕ) → i < length xs → suc (length (remove xs i)) ≡ length xs

@@ -85,7 +85,7 @@ kept_parts true e touch p q r n is other = λ f. absurd (cc)
 kept_parts false true touch p q r n is other = λ _. refl
 kept_parts false false touch p q r n is other = absurd (other n is)
 
-unequal : (a b : ℕ) → eqb a b ≡ false → a ≡ b → ⊥
+pub unequal : (a b : ℕ) → eqb a b ≡ false → a ≡ b → ⊥
 unequal a b differ same = absurd (false≢true (sym differ ∙ eq-eqb a b same))
 
 -- the lists after an access

@@ -16,7 +16,7 @@ use Rattle.full_profile.specs.Batches.{unsettled}
 pub record IsFed (at fed : ℕ) (v w : FullState) (old now : List Ref) : Type 0 where
   pub step : w ≡ after_full_batch v (take at old)
   pub kept : take fed now ≡ unsettled v (take at old)
-  pub count : fed_of w.plain ≤ fed_of v.plain + at
+  pub count : fed_of w.plain ≡ fed_of v.plain + fed
   pub rest : drop at now ≡ drop at old
   pub same_length : length now ≡ length old
   pub few : fed ≤ at
@@ -34,20 +34,9 @@ unsettled_snoc v (b ∷ refs) r =
     cond (is_settled (after_full_batch w refs) r) [] (r ∷ []))
     [ true ↦ more | false ↦ ap (λ l. b ∷ l) more ]
 
-pub none_fed : (v : FullState) (refs : List Ref) → IsFed 0 0 v v refs refs
-none_fed v refs = record {
-  step = refl;
-  kept = refl;
-  count = omega arith;
-  rest = refl;
-  same_length = refl;
-  few = omega arith;
-}
-
 module _ {at fed : ℕ} {v w : FullState} {old now : List Ref} (f : IsFed at fed v w old now)
     (inside : at < length old) (d : Ref) (after : FullState)
-    (next : after ≡ after_unless_settled w (get_or now at d)) (more : fed_of after.plain ≤ fed_of
-    w.plain + 1) where
+    (next : after ≡ after_unless_settled w (get_or now at d)) where
   abbrev r : Ref
   r = get_or now at d
 
@@ -75,8 +64,9 @@ module _ {at fed : ℕ} {v w : FullState} {old now : List Ref} (f : IsFed at fed
   rest_more = sym (drop-drop 1 at now) ∙ ap (drop 1) f.rest ∙ drop-drop 1 at old
 
   -- that is settled
-  pub fed_settled : is_settled w r ≡ true → IsFed (at + 1) fed v after old now
-  fed_settled settled = record {
+  pub fed_settled : is_settled w r ≡ true → fed_of after.plain ≡ fed_of w.plain + 0 →
+      IsFed (at + 1) fed v after old now
+  fed_settled settled more = record {
     step = step_more;
     kept = sym (append-nil (take fed now)) ∙ kept_more true settled;
     count = omega (arith, more, f.count);
@@ -86,9 +76,9 @@ module _ {at fed : ℕ} {v w : FullState} {old now : List Ref} (f : IsFed at fed
   }
 
   -- or not
-  pub fed_unsettled : is_settled w r ≡ false →
+  pub fed_unsettled : is_settled w r ≡ false → fed_of after.plain ≡ fed_of w.plain + 1 →
       IsFed (at + 1) (fed + 1) v after old (set now fed r)
-  fed_unsettled other = record {
+  fed_unsettled other more = record {
     step = step_more;
     kept = take_more_set now fed r (omega (arith, f.few, inside, f.same_length)) ∙
         kept_more false other;

@@ -34,10 +34,14 @@ emptied m = record m {
   cleans = replicate (length m.cleans) [];
 }
 
+-- the front of a set's list with this clean depth
+abbrev pub after_mark_in_front : Marked → ℕ → ℕ → Marked
+after_mark_in_front m set clean =
+    record m { cleans = slice_set m.cleans set (slice_set (cleans_in m set) 0 clean) }
+
 -- the front of a set's list written
 abbrev pub after_write_in_front : Marked → ℕ → Marked
-after_write_in_front m set =
-    record m { cleans = slice_set m.cleans set (slice_set (cleans_in m set) 0 0) }
+after_write_in_front m set = after_mark_in_front m set 0
 
 -- the clean depths of a list in whose front a block comes by an access
 abbrev pub cleans_after : ℕ → Access → ℕ → List ℕ → List ℕ → List ℕ

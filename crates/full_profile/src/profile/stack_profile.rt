@@ -1,6 +1,6 @@
 //! A full profile whose lists are kept in one way, and how it is fed.
 ghost use Rattle.std.specs.Prelude.{◌≡◌, ◌+◌, ◌-◌, ◌^◌, ◌<◌, ◌≤◌, IfOk, true, false, length, take};
-ghost use Rattle.std.specs.Prelude.{drop, sum, replicate};
+ghost use Rattle.std.specs.Prelude.{drop, sum, replicate, if◌then◌else◌};
 ghost use Rattle.trace_core.specs.declared.events.Ref.{Ref};
 ghost use Rattle.profile_core.specs.profile.State.{fed_of};
 ghost use Rattle.profile_core.specs.internal.profile.StackProfile.{weighed, IsNext};
@@ -83,7 +83,8 @@ impl<L: MarkedLists> FullStackProfile<L> {
     /// Feeds one reference.
     pub fn feed(&mut self, r: Ref)
         requires { fed_of self.old.plain < MAX_REFERENCES }
-        ensures { self.new ≡ after_full_reference self.old r }
+        ensures step { self.new ≡ after_full_reference self.old r }
+        ensures one_more { fed_of self.new.plain ≡ fed_of self.old.plain + 1 }
     {
         if self.feed_unless_settled(r) {
             self.count_settled(1);
@@ -98,6 +99,7 @@ impl<L: MarkedLists> FullStackProfile<L> {
     pub fn feed_each(&mut self, refs: &mut [Ref]) -> usize
         requires { fed_of self.old.plain + length refs.old ≤ MAX_REFERENCES }
         ensures step { self.new ≡ after_full_batch self.old refs.old }
+        ensures more { fed_of self.new.plain ≡ fed_of self.old.plain + result }
         ensures fed { take result refs.new ≡ unsettled self.old refs.old }
         ensures within { result ≤ length refs.new }
         ensures length { length refs.new ≡ length refs.old }
@@ -119,7 +121,8 @@ impl<L: MarkedLists> FullStackProfile<L> {
         requires { fed_of self.old.plain < MAX_REFERENCES }
         ensures settled { result ≡ is_settled self.old r }
         ensures step { self.new ≡ after_unless_settled self.old r }
-        ensures more { fed_of self.new.plain ≤ fed_of self.old.plain + 1 }
+        ensures more { fed_of self.new.plain
+            ≡ fed_of self.old.plain + (if result then 0 else 1) }
         ensures counts { is_settled self.old r ≡ true
             → after_full_reference self.old r ≡ after_settled 1 self.old }
     {
@@ -169,7 +172,8 @@ impl<L: MarkedLists> FullStackProfile<L> {
     /// Counts this many references that were settled, and one comparison for each.
     pub fn count_settled(&mut self, count: u64)
         requires { fed_of self.old.plain + count ≤ MAX_REFERENCES }
-        ensures { self.new ≡ after_settled count self.old }
+        ensures step { self.new ≡ after_settled count self.old }
+        ensures more { fed_of self.new.plain ≡ fed_of self.old.plain + count }
     {
         self.numbers.probes += count;
     }

@@ -4,6 +4,7 @@ use Rattle.std.proofs.Common.{take, drop, get_or, set, refl, sym, ap, ◌∙◌,
 use Rattle.std.proofs.Common.{Bool}
 use Rattle.std.proofs.lemmas.Grind.{take_at_read}
 use Rattle.std.proofs.lemmas.List.{drop-set-lt, drop-drop, append-nil, get_or-drop, take_more_set}
+use Rattle.std.proofs.lemmas.List.{length-append}
 use Rattle.std.proofs.lemmas.List.Sums.{fold-append}
 use Rattle.cache_core.specs.Geometry.{block_of}
 use Rattle.profile_core.specs.profile.State.{ProfileState, fed_of, after_reference}
@@ -15,7 +16,8 @@ use Rattle.profile_core.specs.profile.Fronts.{fed_of_batch}
 pub record IsFed (n : ℕ) (given : List ℕ) (v w : ProfileState) (left : List ℕ) : Type 0 where
   pub step : w ≡ after_batch v given
   pub kept : left ≡ fed_of_batch v given
-  pub count : fed_of w ≤ fed_of v + n
+  pub count : fed_of w ≡ fed_of v + length left
+  pub few : length left ≤ n
   pub geometry : w.geometry ≡ v.geometry
 
 -- of the addresses up to a place some stand before the others
@@ -58,6 +60,16 @@ step_geometry w a = elim (is_front_of w (block_of w.geometry a)) as (λ front.
     (cond front w (after_reference w (block_of w.geometry a))).geometry ≡ w.geometry)
     [ true ↦ refl | false ↦ refl ]
 
+-- what is left grows by an address that is not found in front
+longer : (left : List ℕ) (a : ℕ) (front : Bool) (left' : List ℕ) →
+    left' ≡ left ++ cond front [] (a ∷ []) → length left' ≡ length left + cond front 0 1
+longer left a true left' is = ap length (is ∙ append-nil left) ∙ omega arith
+longer left a false left' is = ap length is ∙ length-append left (a ∷ [])
+
+one_at_most : (front : Bool) → cond {A = ℕ} front 0 1 ≤ 1
+one_at_most true = omega arith
+one_at_most false = omega arith
+
 module _ {n : ℕ} {given : List ℕ} {v w : ProfileState} {left : List ℕ}
     (so_far : IsFed n given v w left) where
   -- none is fed
@@ -65,15 +77,16 @@ module _ {n : ℕ} {given : List ℕ} {v w : ProfileState} {left : List ℕ}
   fed_as_much = record {
     step = so_far.step;
     kept = so_far.kept;
-    count = omega (arith, so_far.count);
+    count = so_far.count;
+    few = omega (arith, so_far.few);
     geometry = so_far.geometry;
   }
 
-  fed_more : (a : ℕ) (after : ProfileState) → after ≡ step_of w a → fed_of after ≤ fed_of w + 1 →
-      (front : Bool) → is_front_of w (block_of w.geometry a) ≡ front →
+  fed_more : (a : ℕ) (after : ProfileState) → after ≡ step_of w a → (front : Bool) →
+      is_front_of w (block_of w.geometry a) ≡ front → fed_of after ≡ fed_of w + cond front 0 1 →
       {given' left' : List ℕ} → given' ≡ given ++ a ∷ [] → left' ≡ left ++ cond front [] (a ∷ []) →
       IsFed (n + 1) given' v after left'
-  fed_more a after next more front h {given'} {left'} given_is left_is = record {
+  fed_more a after next front h more {given'} {left'} given_is left_is = record {
     step = next ∙ ap (λ u. step_of u a) so_far.step
         ∙ sym (fold-append (λ u b. after_unless_front u (block_of u.geometry b)) v given (a ∷ []))
         ∙ ap (after_batch v) (sym given_is);
@@ -82,7 +95,8 @@ module _ {n : ℕ} {given : List ℕ} {v w : ProfileState} {left : List ℕ}
         ∙ ap (λ u. fed_of_batch v given ++ cond (is_front_of u (block_of u.geometry a)) []
         (a ∷ [])) so_far.step
         ∙ sym (fed_snoc v given a) ∙ ap (fed_of_batch v) (sym given_is);
-    count = omega (arith, more, so_far.count);
+    count = omega (arith, more, so_far.count, longer left a front left' left_is);
+    few = omega (arith, so_far.few, longer left a front left' left_is, one_at_most front);
     geometry = ap (λ u. u.geometry) next ∙ step_geometry w a ∙ so_far.geometry;
   }
 
@@ -120,69 +134,72 @@ module _ {at fed : ℕ} {old now : List ℕ} (b : AreBefore at fed old now)
 
 module _ {at fed : ℕ} {v w : ProfileState} {old now : List ℕ} (so_far : IsFedTo at fed v w old now)
     (inside : at < length old) (after : ProfileState) (next : after ≡ step_of w (get_or now at 0))
-    (more : fed_of after ≤ fed_of w + 1) where
-  -- that was found in front
-  pub fed_front : is_front_of w (block_of w.geometry (get_or now at 0)) ≡ true →
-      IsFedTo (at + 1) fed v after old now
-  fed_front front = record {
-    all = fed_more so_far.all _ after next more true front (addr_taken so_far.before inside)
-        (sym (append-nil (take fed now)));
-    before = before_more so_far.before inside;
-  }
+  where
+    -- that was found in front
+    pub fed_front : is_front_of w (block_of w.geometry (get_or now at 0)) ≡ true →
+        fed_of after ≡ fed_of w + 0 → IsFedTo (at + 1) fed v after old now
+    fed_front front more = record {
+      all = fed_more so_far.all _ after next true front more (addr_taken so_far.before inside)
+          (sym (append-nil (take fed now)));
+      before = before_more so_far.before inside;
+    }
 
-  -- that was not
-  pub fed_behind : is_front_of w (block_of w.geometry (get_or now at 0)) ≡ false →
-      IsFedTo (at + 1) (fed + 1) v after old (set now fed (get_or now at 0))
-  fed_behind behind = record {
-    all = fed_more so_far.all _ after next more false behind (addr_taken so_far.before inside)
-        (kept_put so_far.before inside);
-    before = before_put so_far.before inside;
-  }
+    -- that was not
+    pub fed_behind : is_front_of w (block_of w.geometry (get_or now at 0)) ≡ false →
+        fed_of after ≡ fed_of w + 1 →
+        IsFedTo (at + 1) (fed + 1) v after old (set now fed (get_or now at 0))
+    fed_behind behind more = record {
+      all = fed_more so_far.all _ after next false behind more (addr_taken so_far.before inside)
+          (kept_put so_far.before inside);
+      before = before_put so_far.before inside;
+    }
 
 module _ {at fed : ℕ} {v w v' w' : ProfileState} {old now : List ℕ}
     (so_far : AreFedTo at fed v w v' w' old now) (inside : at < length old)
-    (after : ProfileState) (next : after ≡ step_of w (get_or now at 0))
-    (more : fed_of after ≤ fed_of w + 1) where
+    (after : ProfileState) (next : after ≡ step_of w (get_or now at 0)) where
   abbrev a : ℕ
   a = get_or now at 0
 
   -- what the first was fed, and what it did not find in front
-  module _ {front : Bool} (h : is_front_of w (block_of w.geometry a) ≡ front) where
+  module _ {front : Bool} (h : is_front_of w (block_of w.geometry a) ≡ front)
+      (more : fed_of after ≡ fed_of w + cond front 0 1) where
     first_fed : IsFed (at + 1) (take (at + 1) old) v after
         (fed_of_batch v (take at old) ++ cond front [] (a ∷ []))
-    first_fed = fed_more so_far.all a after next more front h (addr_taken so_far.before inside) refl
+    first_fed = fed_more so_far.all a after next front h more (addr_taken so_far.before inside) refl
 
     first_all : IsFed (at + 1) (take (at + 1) old) v after (fed_of_batch v (take (at + 1) old))
     first_all = subst (λ l. IsFed (at + 1) (take (at + 1) old) v after l) first_fed.kept first_fed
 
   -- found in front by the first
-  pub both_front : is_front_of w (block_of w.geometry a) ≡ true →
+  pub both_front : is_front_of w (block_of w.geometry a) ≡ true → fed_of after ≡ fed_of w + 0 →
       AreFedTo (at + 1) fed v after v' w' old now
-  both_front front = record {
-    all = first_all front;
+  both_front front more = record {
+    all = first_all front more;
     next = subst (λ l. IsFed (at + 1) l v' w' (take fed now))
-        (sym (append-nil (fed_of_batch v (take at old))) ∙ (first_fed front).kept)
+        (sym (append-nil (fed_of_batch v (take at old))) ∙ (first_fed front more).kept)
         (fed_as_much so_far.next);
     before = before_more so_far.before inside;
   }
 
   -- or fed to it, and then to the second
-  module _ (behind : is_front_of w (block_of w.geometry a) ≡ false) (after' : ProfileState)
-      (next' : after' ≡ step_of w' a) (more' : fed_of after' ≤ fed_of w' + 1) where
-    pub next_front : is_front_of w' (block_of w'.geometry a) ≡ true →
-        AreFedTo (at + 1) fed v after v' after' old now
-    next_front front = record {
-      all = first_all behind;
-      next = fed_more so_far.next a after' next' more' true front (sym (first_fed behind).kept)
-          (sym (append-nil (take fed now)));
-      before = before_more so_far.before inside;
-    }
+  module _ (behind : is_front_of w (block_of w.geometry a) ≡ false)
+      (more : fed_of after ≡ fed_of w + 1) (after' : ProfileState) (next' : after' ≡ step_of w' a)
+    where
+      pub next_front : is_front_of w' (block_of w'.geometry a) ≡ true →
+          fed_of after' ≡ fed_of w' + 0 → AreFedTo (at + 1) fed v after v' after' old now
+      next_front front more' = record {
+        all = first_all behind more;
+        next = fed_more so_far.next a after' next' true front more'
+            (sym (first_fed behind more).kept) (sym (append-nil (take fed now)));
+        before = before_more so_far.before inside;
+      }
 
-    pub both_behind : is_front_of w' (block_of w'.geometry a) ≡ false →
-        AreFedTo (at + 1) (fed + 1) v after v' after' old (set now fed a)
-    both_behind behind' = record {
-      all = first_all behind;
-      next = fed_more so_far.next a after' next' more' false behind'
-          (sym (first_fed behind).kept) (kept_put so_far.before inside);
-      before = before_put so_far.before inside;
-    }
+      pub both_behind : is_front_of w' (block_of w'.geometry a) ≡ false →
+          fed_of after' ≡ fed_of w' + 1 →
+          AreFedTo (at + 1) (fed + 1) v after v' after' old (set now fed a)
+      both_behind behind' more' = record {
+        all = first_all behind more;
+        next = fed_more so_far.next a after' next' false behind' more'
+            (sym (first_fed behind more).kept) (kept_put so_far.before inside);
+        before = before_put so_far.before inside;
+      }

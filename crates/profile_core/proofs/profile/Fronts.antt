@@ -99,6 +99,12 @@ pub reference_fed : (v : ProfileState) (x : ℕ) → IsFit v →
     fed_of (after_reference v x) ≡ fed_of v + 1
 reference_fed v x h = grind (arith, after_fed)
 
+pub unless_front_fed : (v : ProfileState) (x : ℕ) → IsFit v →
+    fed_of (after_unless_front v x) ≡ fed_of v + cond (is_front_of v x) 0 1
+unless_front_fed v x h = cases
+    (λ b. fed_of (cond b v (after_reference v x)) ≡ fed_of v + cond b 0 1) (is_front_of v x)
+    (λ t. omega arith) (λ f. reference_fed v x h)
+
 -- the fields of a profile that counts n more in front
 grows : (p f e n : ℕ) → 1 ≤ e → p ≤ f * e → p + n ≤ (f + n) * e
 grows p f e zero some h = subst (λ (m : ℕ). p + 0 ≤ m * e) {x = f} {y = f + 0} (omega arith)
@@ -111,11 +117,6 @@ grows p f e (suc n) some h =
 some_distance : (behind : List ℕ) → take 1 behind ≡ 0 ∷ [] → 1 ≤ length behind
 some_distance [] first = absurd (cc)
 some_distance (y ∷ bs) first = omega arith
-
-counted : (behind : List ℕ) (p q n : ℕ) → q ≤ p → set behind 0 (p + n - q) ≡ lift n
-    (set behind 0 (p - q))
-counted [] p q n le = refl
-counted (y ∷ bs) p q n le = ap (λ m. m ∷ bs) (omega (arith, le))
 
 module _ {g : GeometryValue} {lists : Lists} {behind missed : List ℕ} {probes : ℕ}
     {v : ProfileState} (h : IsSound g lists behind missed probes)
@@ -132,16 +133,24 @@ module _ {g : GeometryValue} {lists : Lists} {behind missed : List ℕ} {probes 
     occupancy_count = h.occupancy_count;
   })
 
+  pub counted_fed : (n : ℕ) →
+      sum (distances_of (probes + n) behind missed) + sum missed ≡ fed_of v + n
+  counted_fed n = omega (
+    arith,
+    sum-distances probes behind missed h.none_in_front,
+    sum-distances (probes + n) behind missed h.none_in_front,
+    h.told,
+    ap fed_of view_is,
+  )
+
   pub counted_sound : (n : ℕ) → fed_of v + n ≤ most_references →
       IsSound g lists behind missed (probes + n)
   counted_sound n few =
       let was : fed_of v ≡ sum (distances_of probes behind missed) + sum missed =
       sym (ap fed_of view_is) in
-      let before = sum-distances probes behind missed h.none_in_front in
-      let after = sum-distances (probes + n) behind missed h.none_in_front in
       let fed : sum (distances_of (probes + n) behind missed) + sum missed ≡ sum
       (distances_of probes behind missed) + sum missed + n =
-      omega (arith, before, after, h.told) in
+      omega (arith, counted_fed n, was) in
       record {
         depth = h.depth;
         set_count = h.set_count;

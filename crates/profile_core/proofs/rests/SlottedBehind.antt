@@ -5,13 +5,13 @@ use Rattle.std.specs.List.{remove}
 use Rattle.std.proofs.lemmas.Bool.{cases_lt}
 use Rattle.std.proofs.lemmas.List.{take_all, take-take, length-take-le}
 use Rattle.profile_core.specs.declared.set_lists.recency.Standing.TheVariants.{Behind, New}
-use Rattle.profile_core.specs.declared.rests.slotted.Slots.{Slots}
+use Rattle.profile_core.specs.declared.slots.Slots.{Slots}
 use Rattle.profile_core.specs.profile.RecencyList.{index_of}
 use Rattle.profile_core.specs.internal.set_lists.Moves.{standing_of}
-use Rattle.profile_core.specs.internal.rests.Slots.{ordered_numbers}
+use Rattle.profile_core.specs.Slots.{ordered_numbers}
 use Rattle.profile_core.proofs.profile.Feeding.{FoundAt, FoundNowhere, found_behind, found_nowhere}
 use Rattle.profile_core.proofs.rows.Shifting.{length-remove, remove_end}
-use Rattle.profile_core.proofs.rests.SlotLemmas.{length-ordered_numbers, ordered_numbers_take}
+use Rattle.profile_core.proofs.slots.SlotLemmas.{length-ordered_numbers, ordered_numbers_take}
 use Rattle.profile_core.proofs.rests.SlottedRestLemmas.{AreOrdered}
 
 pub removed_take : (h p : ℕ) (xs : List ℕ) → p ≤ h →

@@ -7,18 +7,18 @@ use Rattle.std.proofs.lemmas.Bool.{cases_eq, cases_lt}
 use Rattle.std.proofs.lemmas.List.{get_or_append_left, length-replicate, take-replicate}
 use Rattle.std.proofs.lemmas.List.{get_or_read}
 use Rattle.std.proofs.Math.Seq.{get_or-append_seam}
-use Rattle.profile_core.specs.declared.rests.slotted.Slots.{Slots}
-use Rattle.profile_core.specs.declared.rests.slotted.TheConstants.{BLANK}
+use Rattle.profile_core.specs.declared.slots.Slots.{Slots}
+use Rattle.profile_core.specs.declared.slots.TheConstants.{BLANK}
 use Rattle.profile_core.specs.internal.rows.Rows.{RowsValue, rows_by_set, row_for, with_row}
 use Rattle.profile_core.specs.internal.rests.Places.{taken_count, ArePlaces}
-use Rattle.profile_core.specs.internal.rests.Slots.{ordered_numbers, IsOrder}
+use Rattle.profile_core.specs.Slots.{ordered_numbers, IsOrder}
 use Rattle.profile_core.specs.internal.rests.SlottedRests.{no_slots, slots_at, slotted_rest}
 use Rattle.profile_core.specs.internal.rests.SlottedRests.{ArePlaced, IsSlotted}
 use Rattle.profile_core.proofs.Elements.{all_set, all_same}
 use Rattle.profile_core.proofs.rests.Places.{places_then, one_more, place_left, place_here}
 use Rattle.profile_core.proofs.rests.Places.{place_other, places_taken, taken_none, none_taken}
 use Rattle.profile_core.proofs.rows.RowsBySet.{HasRow, rows_kept, row_is, rows_blank, row_put}
-use Rattle.profile_core.proofs.rests.SlotLemmas.{ordered_numbers_take, blank_order}
+use Rattle.profile_core.proofs.slots.SlotLemmas.{ordered_numbers_take, blank_order}
 
 -- slots that have an order
 abbrev pub AreOrdered : Slots → Type 0

@@ -1,4 +1,3 @@
 pub mod Places
-pub mod Slots
 pub mod SlottedRests
 pub mod SparseRests

@@ -11,6 +11,10 @@ use Rattle.profile_core.specs.profile.State.{ProfileState, list_of, after_refere
 abbrev pub is_front_of : ProfileState → ℕ → Bool
 is_front_of v x = is_front x (list_of v (set_of_block v.geometry x))
 
+-- after references to some addresses
+abbrev pub after_references : ProfileState → List ℕ → ProfileState
+after_references v addrs = fold (λ w a. after_reference w (block_of w.geometry a)) v addrs
+
 -- after a reference to a block, or the same profile if the block is in front
 abbrev pub after_unless_front : ProfileState → ℕ → ProfileState
 after_unless_front v x = if is_front_of v x then v else after_reference v x

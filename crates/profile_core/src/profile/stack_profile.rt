@@ -1,7 +1,7 @@
 //! A profile whose lists are kept in one way, and how it is fed: by single references, or by
 //! batches.
 ghost use Rattle.std.specs.Prelude.{◌≡◌, ◌+◌, ◌*◌, ◌^◌, ◌<◌, ◌≤◌, IfOk, true, false, length, take};
-ghost use Rattle.std.specs.Prelude.{replicate, [], slice_index};
+ghost use Rattle.std.specs.Prelude.{replicate, [], slice_index, if◌then◌else◌};
 ghost use Rattle.cache_core.specs.Geometry.{block_of, set_of_block};
 ghost use Rattle.profile_core.specs.profile.State.{empty, after_reference, after_flush, list_of};
 ghost use Rattle.profile_core.specs.profile.State.{fed_of, held_of};
@@ -111,7 +111,8 @@ impl<L: SetLists> StackProfile<L> {
     #[inline(always)]
     pub fn count_fronts(&mut self, count: u64)
         requires { fed_of self.old + count ≤ MAX_REFERENCES }
-        ensures { self.new ≡ after_fronts count self.old }
+        ensures step { self.new ≡ after_fronts count self.old }
+        ensures more { fed_of self.new ≡ fed_of self.old + count }
     {
         self.histograms.probes += count;
     }
@@ -124,6 +125,7 @@ impl<L: SetLists> StackProfile<L> {
     pub fn feed_each(&mut self, addrs: &mut [u64]) -> usize
         requires { fed_of self.old + length addrs.old ≤ MAX_REFERENCES }
         ensures step { self.new ≡ after_batch self.old addrs.old }
+        ensures more { fed_of self.new ≡ fed_of self.old + result }
         ensures fed { take result addrs.new ≡ fed_of_batch self.old addrs.old }
         ensures within { result ≤ length addrs.new }
         ensures length { length addrs.new ≡ length addrs.old }
@@ -148,7 +150,11 @@ impl<L: SetLists> StackProfile<L> {
         requires few { fed_of self.old + length addrs.old ≤ MAX_REFERENCES }
         requires next_few { fed_of next.old + length addrs.old ≤ MAX_REFERENCES }
         ensures step { self.new ≡ after_batch self.old addrs.old }
+        ensures more { fed_of self.new
+            ≡ fed_of self.old + length (fed_of_batch self.old addrs.old) }
+        ensures at_most { fed_of self.new ≤ fed_of self.old + length addrs.old }
         ensures next_step { next.new ≡ after_batch next.old (fed_of_batch self.old addrs.old) }
+        ensures next_more { fed_of next.new ≡ fed_of next.old + result }
         ensures fed { take result addrs.new
             ≡ fed_of_batch next.old (fed_of_batch self.old addrs.old) }
         ensures within { result ≤ length addrs.new }
@@ -174,7 +180,7 @@ impl<L: SetLists> StackProfile<L> {
         requires { fed_of self.old < MAX_REFERENCES }
         ensures front { result ≡ is_front_of self.old (block_of self.old.geometry addr) }
         ensures step { self.new ≡ after_unless_front self.old (block_of self.old.geometry addr) }
-        ensures more { fed_of self.new ≤ fed_of self.old + 1 }
+        ensures more { fed_of self.new ≡ fed_of self.old + (if result then 0 else 1) }
     {
         let block = self.geometry.block_of(addr);
         let set = self.geometry.set_of(addr) as usize;

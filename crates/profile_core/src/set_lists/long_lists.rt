@@ -38,7 +38,7 @@ enum InRow {
 pub struct LongLists {
     near: RecencyLists<PlainRows>,
     beyond: usize,
-    far: Vec<DeepList>,
+    far: Vec<DeepList<()>>,
 }
 
 impl Model for LongLists {
@@ -114,7 +114,7 @@ impl SetLists for LongLists {
 }
 
 /// Empties lists.
-fn clear_all(far: &mut [DeepList])
+fn clear_all(far: &mut [DeepList<()>])
     ensures { far.new ≡ map empty_deep far.old }
 {
     for list in far.iter_mut() {
@@ -123,7 +123,7 @@ fn clear_all(far: &mut [DeepList])
 }
 
 /// How many blocks these lists have.
-fn held_by(far: &[DeepList]) -> u64
+fn held_by(far: &[DeepList<()>]) -> u64
     requires { sum_by (λ d. length d.blocks) far.now ≤ 2 ^ 22 }
     ensures { result ≡ sum_by (λ d. length d.blocks) far.now }
 {
@@ -164,15 +164,15 @@ fn near_lists(alloc: Global, sets: usize) -> Result<RecencyLists<PlainRows>, All
 }
 
 /// An empty list for the blocks behind each row.
-fn far_lists(alloc: Global, sets: usize, beyond: usize) -> Result<Vec<DeepList>, AllocError>
+fn far_lists(alloc: Global, sets: usize, beyond: usize) -> Result<Vec<DeepList<()>>, AllocError>
     requires some { 1 ≤ beyond }
     requires small { beyond ≤ 2 ^ 22 }
     ensures { IfOk result (λ far.
-        far.items ≡ replicate sets (record { cap = beyond; blocks = [] })) }
+        far.items ≡ replicate sets (record { cap = beyond; blocks = []; values = [] })) }
 {
     let mut far = Vec::with_capacity(alloc, sets)?;
     for made in 0..sets {
-        far.push(DeepList::new(alloc, beyond)?)?;
+        far.push(DeepList::new(alloc, beyond, ())?)?;
     }
     Ok(far)
 }
@@ -180,16 +180,16 @@ fn far_lists(alloc: Global, sets: usize, beyond: usize) -> Result<Vec<DeepList>,
 /// Takes a block out of the deep list behind a row, if it is there, and puts `last`, which was the
 /// last block of the row, in its front. Returns where the block was in the whole list, which has
 /// `held` blocks in the row.
-fn exchange(rest: &mut DeepList, held: usize, block: u64, last: u64) -> Standing
+fn exchange(rest: &mut DeepList<()>, held: usize, block: u64, last: u64) -> Standing
     requires other { is_in last rest.old.blocks ≡ false }
     requires few { held ≤ 2 ^ 22 }
     requires short { length rest.old.blocks ≤ 2 ^ 22 }
     ensures found { result ≡ rest_standing_of held block rest.old.blocks }
-    ensures moved { rest.new ≡ list_after_exchange rest.old block last }
+    ensures moved { rest.new ≡ list_after_exchange rest.old block last tt }
 {
     let more = rest.len();
-    match rest.exchange(block, last) {
-        Some(place) => Standing::Behind(held + place),
+    match rest.exchange(block, last, ()).found {
+        Some((place, ())) => Standing::Behind(held + place),
         None => Standing::New(held + more),
     }
 }

@@ -1,9 +1,9 @@
 -- Rests in slots: a set has its own from its first write on.
 use Rattle.std.specs.Prelude.{ℕ, ◌≡◌, ◌≤◌, ◌<◌, ◌+◌, ◌^◌, List, [], length}
 use Rattle.std.specs.Prelude.{slice_index, slice_index_or}
-use Rattle.profile_core.specs.declared.rests.slotted.Slots.{Slots}
+use Rattle.profile_core.specs.declared.slots.Slots.{Slots}
 use Rattle.profile_core.specs.internal.rests.Places.{taken_count, ArePlaces}
-use Rattle.profile_core.specs.internal.rests.Slots.{ordered_numbers, IsOrder}
+use Rattle.profile_core.specs.Slots.{ordered_numbers, IsOrder}
 
 -- no slots
 abbrev pub no_slots : Slots

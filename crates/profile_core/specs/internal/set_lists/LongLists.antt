@@ -9,22 +9,22 @@ use Rattle.profile_core.specs.internal.set_lists.Moves.{standing_of}
 use Rattle.profile_core.specs.internal.set_lists.Lists.{Lists}
 
 -- each list with the blocks behind it
-abbrev pub whole_lists : List (List ℕ) → List Deep → List (List ℕ)
+abbrev pub whole_lists : {V : Type 0} → List (List ℕ) → List (Deep V) → List (List ℕ)
 whole_lists [] far = []
 whole_lists (xs ∷ near) [] = xs ∷ near
 whole_lists (xs ∷ near) (d ∷ far) = (xs ++ d.blocks) ∷ whole_lists near far
 
 -- no list
-abbrev pub nothing : Deep
-nothing = record { cap = 0; blocks = [] }
+abbrev pub nothing : {V : Type 0} → Deep V
+nothing = record { cap = 0; blocks = []; values = [] }
 
 -- the blocks behind the list of set k
-abbrev pub rest_of : List Deep → ℕ → List ℕ
+abbrev pub rest_of : {V : Type 0} → List (Deep V) → ℕ → List ℕ
 rest_of far k = (slice_index_or far k nothing).blocks
 
 -- the same list without its blocks
-abbrev pub empty_deep : Deep → Deep
-empty_deep d = record d { blocks = [] }
+abbrev pub empty_deep : {V : Type 0} → Deep V → Deep V
+empty_deep d = record d { blocks = []; values = [] }
 
 -- the result of bringing block x to the front of a row of at most w blocks
 abbrev pub in_row_of : ℕ → ℕ → List ℕ → InRow
@@ -34,7 +34,7 @@ in_row_of w x xs =
     (slice_index xs (w - 1)))
 
 -- the invariant: behind each row is a list, which has blocks only if the row is full
-pub record AreSplit (near : Lists) (beyond : ℕ) (far : List Deep) : Type 0 where
+pub record AreSplit {V : Type 0} (near : Lists) (beyond : ℕ) (far : List (Deep V)) : Type 0 where
   pub far_len : length far ≡ length near.lists
   pub two : 2 ≤ near.depth
   pub small : length near.lists * (near.depth + beyond) ≤ 2 ^ 22

@@ -11,7 +11,7 @@ loop-pair-preserved c =
     let ys = c.loop-pair.profiles in let i = c.loop-pair.pair-index in let x = c.pair-item.result in
     let value : record (get_or ys i x) { profile = c.count_fronts.new.self } ≡ pair_with_fronts
     c.args.fed x =
-    ap (λ p. record (get_or ys i x) { profile = p }) (c.count_fronts.ensures ∙
+    ap (λ p. record (get_or ys i x) { profile = p }) (c.count_fronts.ensures.step ∙
     ap (λ n. after_fronts (c.args.fed - n) (get_or ys i x).profile)
     c.fed-behind.ensures.value)
     ∙ ap (pair_with_fronts c.args.fed) (sym c.pair-item.is) in

@@ -2,7 +2,7 @@ use Rattle.std.proofs.Common.{◌≡◌, length}
 use Rattle.deep_list.proofs.deep.DeepList.clear.Given as goal
 
 abbrev pub invariant-loop-self : goal.invariant-loop-self
-invariant-loop-self l = l.self.cap ≡ l.fn.self.cap
+invariant-loop-self g l = l.self.cap ≡ l.fn.self.cap
 
 abbrev pub decreases-loop-self : goal.decreases-loop-self
-decreases-loop-self l = length l.self.blocks
+decreases-loop-self g l = length l.self.blocks

@@ -1,37 +1,35 @@
-use Rattle.std.proofs.Common.{◌-◌, ◌∙◌, ◌≤◌, ◌∷◌, take, ap, List, ℕ}
-use Rattle.std.proofs.Common.{arith}
+use Rattle.std.proofs.Common.{◌-◌, ◌∙◌, ◌≤◌, ◌∷◌, take, ap, ℕ, arith}
 use Rattle.std.specs.List.{remove}
-use Rattle.deep_list.specs.Deep.{Deep, has_block, index_of_block}
-use Rattle.deep_list.proofs.LiveBlockLemmas.{not_in-take, not_in-remove}
-use Rattle.deep_list.proofs.DeepLemmas.{take_cap}
+use Rattle.deep_list.specs.Deep.{has_block, index_of_block, cut_to}
+use Rattle.deep_list.proofs.LiveItemLemmas.{not_in-take, not_in-remove}
+use Rattle.deep_list.proofs.DeepLemmas.{take_cap, same_deep}
 use Rattle.deep_list.proofs.deep.DeepList.exchange.Goals as goal
 
 pub put_first-requires-clause-other : goal.put_first-requires-clause-other
-put_first-requires-clause-other c =
+put_first-requires-clause-other g c =
     let old = c.args.self.now in
-    ap (λ v. has_block c.args.given v.blocks) c.drop_if_full.ensures.dropped
-    ∙ ap (λ v. has_block c.args.given (take (v.cap - 1) v.blocks)) c.take_out-place.ensures.moved
+    ap (λ v. has_block c.args.given v.blocks) c.drop_if_full-fallen.ensures.dropped
+    ∙ ap (λ v. has_block c.args.given (take (v.cap - 1) v.blocks)) c.take_out-found.ensures.moved
     ∙ not_in-take c.args.given (old.cap - 1)
     (remove old.blocks (index_of_block c.args.wanted old.blocks))
     (not_in-remove c.args.given (index_of_block c.args.wanted old.blocks) old.blocks c.requires)
 
 pub returns-clause-moved : goal.returns-clause-moved
-returns-clause-moved c =
+returns-clause-moved g c =
     let old = c.args.self.now in
-    let left : List ℕ = remove old.blocks (index_of_block c.args.wanted old.blocks) in
-    let front : Deep → Deep = λ v. record { cap = v.cap; blocks = c.args.given ∷ v.blocks } in
-    let dropped : Deep → Deep = λ v. record {
-      cap = v.cap;
-      blocks =
-          c.args.given ∷ take (v.cap - 1) v.blocks;
-    } in
-    let made : List ℕ → Deep = λ xs. record { cap = old.cap; blocks = xs } in
+    let index : ℕ = index_of_block c.args.wanted old.blocks in
     let some : 1 ≤ old.cap = omega (
       arith,
-      c.drop_if_full.ensures.room,
-      ap (λ v. v.cap) c.drop_if_full.ensures.dropped,
-      ap (λ v. v.cap) c.take_out-place.ensures.moved,
+      c.drop_if_full-fallen.ensures.room,
+      ap (λ v. v.cap) c.drop_if_full-fallen.ensures.dropped,
+      ap (λ v. v.cap) c.take_out-found.ensures.moved,
     ) in
-    c.put_first.ensures ∙ ap front c.drop_if_full.ensures.dropped ∙
-    ap dropped c.take_out-place.ensures.moved
-    ∙ ap made (take_cap old.cap c.args.given left some)
+    let cut = c.drop_if_full-fallen.ensures.dropped ∙
+    ap (λ v. cut_to (v.cap - 1) v) c.take_out-found.ensures.moved in
+    c.put_first.ensures ∙ ap (λ v. record {
+      cap = v.cap;
+      blocks = c.args.given ∷ v.blocks;
+      values = c.args.value ∷ v.values;
+    }) cut
+    ∙ same_deep old.cap (take_cap old.cap c.args.given (remove old.blocks index) some)
+    (take_cap old.cap c.args.value (remove old.values index) some)

@@ -18,7 +18,7 @@ front_fed : (c : After-count_fronts) → c.count_fronts.new.self ≡ after_refer
 front_fed c =
     let v = c.args.self.now in let x = c.block_of-block.result in
     let front = sym c.feed_block_unless_front.ensures.front ∙ c.if-feed_block_unless_front.true in
-    c.count_fronts.ensures
+    c.count_fronts.ensures.step
     ∙ ap (after_fronts 1) (c.feed_block_unless_front.ensures.step ∙
     ap (λ b. cond b v (after_reference v x)) front)
     ∙ sym (front_reference v x c.geometry.ensures.fit front)

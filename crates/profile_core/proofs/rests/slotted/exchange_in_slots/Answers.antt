@@ -1,7 +1,7 @@
 -- The block's slot, or one that is free, or else the last one's, gets the second block.
 use Rattle.std.proofs.Common.{◌∙◌, ◌+◌, ◌-◌, ◌∷◌, ap, arith}
 use Rattle.std.specs.List.{remove}
-use Rattle.profile_core.specs.internal.rests.Slots.{ordered_numbers}
+use Rattle.profile_core.specs.Slots.{ordered_numbers}
 use Rattle.profile_core.proofs.rests.SlottedBehind.{found_small, found_list}
 use Rattle.profile_core.proofs.rests.SlottedBehind.{new_held, new_list}
 use Rattle.profile_core.proofs.rests.slotted.exchange_in_slots.Goals as goal
@@ -33,12 +33,12 @@ overflow_add-result-in-New c = omega (
 pub returns-in-Behind-clause-moved : goal.returns-in-Behind-clause-moved
 returns-in-Behind-clause-moved c =
     found_list c.args.block c.args.second c.args.len.now c.args.most c.args.slots.now
-    c.put.new.slots c.requires.sound c.requires.some c.requires.most c.requires.two
+    c.put.new.self c.requires.sound c.requires.some c.requires.most c.requires.two
     c.requires.fits c.in-Behind.place c.in-Behind.ensures c.put.ensures.moved
 
 pub returns-in-New-clause-moved : goal.returns-in-New-clause-moved
 returns-in-New-clause-moved c =
-    let after = c.put-in-New.new.slots in
+    let after = c.put-in-New.new.self in
     let whole = ordered_numbers c.args.slots.now.order c.args.slots.now.numbers 16 in
     ap (λ n. ordered_numbers after.order after.numbers (n + 3 - 2)) c.min-place.ensures
     ∙ new_list c.args.block c.args.second c.args.len.now c.args.most c.args.slots.now

@@ -3,4 +3,8 @@ use Rattle.std.specs.Prelude.{replicate}
 use Rattle.profile_core.proofs.set_lists.long_lists.far_lists.Given as goal
 
 abbrev pub invariant-loop-made : goal.invariant-loop-made
-invariant-loop-made l = l.far.items ≡ replicate l.made (record { cap = l.beyond; blocks = [] })
+invariant-loop-made l = l.far.items ≡ replicate l.made (record {
+  cap = l.beyond;
+  blocks = [];
+  values = [];
+})

@@ -12,7 +12,7 @@ loop-pair-preserved c =
     let ys = c.loop-pair.profiles in let i = c.loop-pair.pair-index in let x = c.pair-item.result in
     let value : record (get_or ys i x) { profile = c.end.new.self } ≡ full_pair_ended c.args.fed x =
     ap (λ p. record (get_or ys i x) { profile = p }) (c.end.ensures ∙
-    ap after_end (c.count_settled.ensures ∙
+    ap after_end (c.count_settled.ensures.step ∙
     ap (λ n. after_settled (c.args.fed - n) (get_or ys i x).profile) c.fed-behind.ensures))
     ∙ ap (full_pair_ended c.args.fed) (sym c.pair-item.is) in
     ap (λ v. set ys i v) value

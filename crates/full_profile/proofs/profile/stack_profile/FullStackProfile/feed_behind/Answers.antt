@@ -24,6 +24,9 @@ depth_is g c = omega (
   c.self.invariant.plain.behind_count,
 )
 
+pub bring-requires-clause-behind : goal.bring-requires-clause-behind
+bring-requires-clause-behind g c = (next_inside c.self.invariant c.self.view_is c.requires).behind
+
 pub overflow_add-self : goal.overflow_add-self
 overflow_add-self g c =
     omega (

@@ -1,5 +1,6 @@
 -- Each reference is fed, or left out if it is settled.
-use Rattle.std.proofs.Common.{◌<◌, ◌∙◌, sym, length, arith}
+use Rattle.std.proofs.Common.{◌<◌, ◌+◌, ◌∙◌, cond, sym, ap, length, arith}
+use Rattle.profile_core.specs.profile.State.{fed_of}
 use Rattle.full_profile.proofs.profile.Batches.{fed_settled, fed_unsettled}
 use Rattle.full_profile.proofs.profile.stack_profile.FullStackProfile.feed_each.Goals as goal
 use Rattle.full_profile.proofs.profile.stack_profile.FullStackProfile.feed_each.Goals.{
@@ -19,9 +20,13 @@ loop-at-preserved g c =
     ) in
     elim c.if-not-feed_unless_settled.branch [
       | then-not-feed_unless_settled w ↦
-          rw (w.refs-is, w.fed-is) (fed_unsettled so_far inside _ _ fed.step fed.more
-          (sym fed.settled ∙ w.if-not-feed_unless_settled.true))
+          let left = w.if-not-feed_unless_settled.true in
+          rw (w.refs-is, w.fed-is) (fed_unsettled so_far inside _ _ fed.step
+          (sym fed.settled ∙ left)
+          (fed.more ∙ ap (λ b. fed_of c.loop-at.self.plain + cond b 0 1) left))
       | else-not-feed_unless_settled w ↦
-          rw (w.refs-is, w.fed-is) (fed_settled so_far inside _ _ fed.step fed.more
-          (sym fed.settled ∙ w.if-not-feed_unless_settled.false))
+          let settled = w.if-not-feed_unless_settled.false in
+          rw (w.refs-is, w.fed-is) (fed_settled so_far inside _ _ fed.step
+          (sym fed.settled ∙ settled)
+          (fed.more ∙ ap (λ b. fed_of c.loop-at.self.plain + cond b 0 1) settled))
     ]

@@ -5,7 +5,7 @@ use Rattle.cache_core.specs.Geometry.{set_of_block, set_of, block_of}
 use Rattle.profile_core.specs.profile.RecencyList.{is_front}
 use Rattle.profile_core.specs.profile.State.{fed_of, list_of}
 use Rattle.profile_core.specs.internal.profile.StackProfile.{IsFit}
-use Rattle.profile_core.proofs.profile.Fronts.{reference_fed}
+use Rattle.profile_core.proofs.profile.Fronts.{reference_fed, counted_fed}
 use Rattle.full_profile.specs.State.{FullState, cleans_of, after_reference_in_lists}
 use Rattle.full_profile.specs.State.{after_full_reference}
 use Rattle.full_profile.specs.Batches.{is_settled, after_settled}
@@ -48,6 +48,10 @@ returns-then-not-is_front-clause-more g c =
 pub returns-then-not-is_front-clause-counts : goal.returns-then-not-is_front-clause-counts
 returns-then-not-is_front-clause-counts g c =
     settled_counts g (goal.at.returns-then-not-is_front-clause-counts g c).After-set_of-set
+
+pub returns-clause-more : goal.returns-clause-more
+returns-clause-more g c =
+    counted_fed c.self.invariant.plain (ap (λ (w : FullState). w.plain) c.self.view_is) 1
 
 pub invariant_of-self : goal.invariant_of-self
 invariant_of-self g c =

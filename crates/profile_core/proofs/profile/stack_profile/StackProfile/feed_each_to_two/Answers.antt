@@ -1,5 +1,6 @@
 -- Each reference is fed to the first, to both, or to none.
-use Rattle.std.proofs.Common.{◌<◌, ◌∙◌, sym, length, arith}
+use Rattle.std.proofs.Common.{◌<◌, ◌+◌, ◌∙◌, cond, sym, ap, length, arith}
+use Rattle.profile_core.specs.profile.State.{fed_of}
 use Rattle.profile_core.proofs.profile.Batches.{both_front, next_front, both_behind}
 use Rattle.profile_core.proofs.profile.stack_profile.StackProfile.feed_each_to_two.Goals as goal
 use Rattle.profile_core.proofs.profile.stack_profile.StackProfile.feed_each_to_two.Goals.{
@@ -21,15 +22,22 @@ loop-at-preserved g c =
     elim c.if-not-feed_unless_front.branch [
       | then-not-feed_unless_front+then-not-feed_unless_front-2 w ↦
           let second = w.feed_unless_front-then-not-feed_unless_front.ensures in
-          rw (w.addrs-is, w.left-is, w.next-is) (both_behind so_far inside _ fed.step fed.more
-          (sym fed.front ∙ w.if-not-feed_unless_front.true) _ second.step second.more
-          (sym second.front ∙ w.if-not-feed_unless_front-2.true))
+          let left = w.if-not-feed_unless_front.true in
+          let left' = w.if-not-feed_unless_front-2.true in
+          rw (w.addrs-is, w.left-is, w.next-is) (both_behind so_far inside _ fed.step
+          (sym fed.front ∙ left) (fed.more ∙ ap (λ b. fed_of c.loop-at.self + cond b 0 1) left) _
+          second.step (sym second.front ∙ left')
+          (second.more ∙ ap (λ b. fed_of c.loop-at.next + cond b 0 1) left'))
       | then-not-feed_unless_front+else-not-feed_unless_front-2 w ↦
           let second = w.feed_unless_front-then-not-feed_unless_front.ensures in
-          rw (w.addrs-is, w.left-is, w.next-is) (next_front so_far inside _ fed.step fed.more
-          (sym fed.front ∙ w.if-not-feed_unless_front.true) _ second.step second.more
-          (sym second.front ∙ w.if-not-feed_unless_front-2.false))
+          let left = w.if-not-feed_unless_front.true in
+          let found = w.if-not-feed_unless_front-2.false in
+          rw (w.addrs-is, w.left-is, w.next-is) (next_front so_far inside _ fed.step
+          (sym fed.front ∙ left) (fed.more ∙ ap (λ b. fed_of c.loop-at.self + cond b 0 1) left) _
+          second.step (sym second.front ∙ found)
+          (second.more ∙ ap (λ b. fed_of c.loop-at.next + cond b 0 1) found))
       | else-not-feed_unless_front w ↦
-          rw (w.addrs-is, w.left-is, w.next-is) (both_front so_far inside _ fed.step fed.more
-          (sym fed.front ∙ w.if-not-feed_unless_front.false))
+          let found = w.if-not-feed_unless_front.false in
+          rw (w.addrs-is, w.left-is, w.next-is) (both_front so_far inside _ fed.step
+          (sym fed.front ∙ found) (fed.more ∙ ap (λ b. fed_of c.loop-at.self + cond b 0 1) found))
     ]

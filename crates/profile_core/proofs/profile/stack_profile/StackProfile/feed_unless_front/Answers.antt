@@ -1,4 +1,4 @@
--- A reference of a batch is at most one more.
+-- A reference of a batch that is fed is one more.
 use Rattle.std.proofs.Common.{ap, arith}
 use Rattle.profile_core.specs.profile.State.{fed_of}
 use Rattle.profile_core.proofs.profile.Fronts.{fit_inside, reference_fed}

@@ -1,7 +1,7 @@
 -- Rests of zeros, of which none has slots of its own.
 use Rattle.std.proofs.Common.{◌≡◌, ◌∙◌, ◌∷◌, ◌++◌, [], ap, arith}
 use Rattle.std.specs.Prelude.{replicate}
-use Rattle.profile_core.specs.declared.rests.slotted.TheConstants.{BLANK}
+use Rattle.profile_core.specs.declared.slots.TheConstants.{BLANK}
 use Rattle.profile_core.proofs.rests.SlottedRestLemmas.{new_slotted, new_rests}
 use Rattle.profile_core.proofs.rests.slotted.SlottedRests.new.Goals as goal
 use Rattle.profile_core.proofs.rests.slotted.SlottedRests.new.Goals.{In_ok-vec}

@@ -4,7 +4,7 @@ use Rattle.std.proofs.Common.{ap, arith}
 use Rattle.std.specs.Prelude.{replicate}
 use Rattle.profile_core.specs.internal.set_lists.Lists.{Lists}
 use Rattle.profile_core.specs.internal.set_lists.LongLists.{whole_lists}
-use Rattle.profile_core.proofs.set_lists.LongListLemmas.{new_lists}
+use Rattle.profile_core.proofs.LongListLemmas.{new_lists}
 use Rattle.profile_core.proofs.set_lists.long_lists.LongLists.new.Goals as goal
 
 pub returns : goal.returns

@@ -3,10 +3,10 @@ use Rattle.std.proofs.Common.{◌∙◌, length, ap, arith}
 use Rattle.deep_list.specs.Deep.{list_after_exchange}
 use Rattle.profile_core.specs.profile.RecencyList.{is_in}
 use Rattle.profile_core.specs.internal.set_lists.Moves.{rest_standing_of}
-use Rattle.profile_core.proofs.set_lists.LongListLemmas.{known, within, front_is, second_is, stays}
-use Rattle.profile_core.proofs.set_lists.LongListBringing.{settled_stays, settled_standing, full_is}
-use Rattle.profile_core.proofs.set_lists.LongListBringing.{far_read, last_apart, held_small}
-use Rattle.profile_core.proofs.set_lists.LongListBringing.{rest_small, full_standing, full_renewed}
+use Rattle.profile_core.proofs.LongListLemmas.{known, within, front_is, second_is, stays}
+use Rattle.profile_core.proofs.LongListBringing.{settled_stays, settled_standing, full_is}
+use Rattle.profile_core.proofs.LongListBringing.{far_read, last_apart, held_small}
+use Rattle.profile_core.proofs.LongListBringing.{rest_small, full_standing, full_renewed}
 use Rattle.profile_core.proofs.set_lists.long_lists.LongListsSetLists.bring.Goals as goal
 
 pub bring_near-requires-clause-within : goal.bring_near-requires-clause-within
@@ -66,8 +66,8 @@ invariant_of-self-in-Full c =
     let f = full_is (known c.self.invariant c.self.view_is c.requires.within)
     c.in-Full.ensures.found in
     let read = far_read f c.index_mut.result.now c.index_mut.ensures.value in
-    let renewed = full_renewed f c.exchange.new.rest (c.exchange.ensures.moved ∙
-    ap (λ d. list_after_exchange d c.args.block c.in-Full.last) read) c.in-Full.ensures.moved in
+    let renewed = full_renewed f c.exchange.new.rest tt (c.exchange.ensures.moved ∙
+    ap (λ d. list_after_exchange d c.args.block c.in-Full.last tt) read) c.in-Full.ensures.moved in
     renewed.sound
 
 pub returns-in-Full-clause-found : goal.returns-in-Full-clause-found
@@ -83,6 +83,6 @@ returns-in-Full-clause-moved c =
     let f = full_is (known c.self.invariant c.self.view_is c.requires.within)
     c.in-Full.ensures.found in
     let read = far_read f c.index_mut.result.now c.index_mut.ensures.value in
-    let renewed = full_renewed f c.exchange.new.rest (c.exchange.ensures.moved ∙
-    ap (λ d. list_after_exchange d c.args.block c.in-Full.last) read) c.in-Full.ensures.moved in
+    let renewed = full_renewed f c.exchange.new.rest tt (c.exchange.ensures.moved ∙
+    ap (λ d. list_after_exchange d c.args.block c.in-Full.last tt) read) c.in-Full.ensures.moved in
     renewed.seen

@@ -1,7 +1,7 @@
 -- The second block of a list comes to the front: it stays in its row.
 use Rattle.std.proofs.Common.{◌∙◌, inl}
-use Rattle.profile_core.proofs.set_lists.ListParts.{second_in}
-use Rattle.profile_core.proofs.set_lists.LongListLemmas.{known, within, front_is, second_is, stays}
+use Rattle.profile_core.proofs.ListParts.{second_in}
+use Rattle.profile_core.proofs.LongListLemmas.{known, within, front_is, second_is, stays}
 use Rattle.profile_core.proofs.set_lists.long_lists.LongListsSetLists.bring_second.Goals as goal
 
 pub bring_second-requires-clause-within : goal.bring_second-requires-clause-within

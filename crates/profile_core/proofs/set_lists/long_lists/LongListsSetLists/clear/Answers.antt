@@ -5,7 +5,7 @@ use Rattle.std.specs.Vec.{with_items}
 use Rattle.std.proofs.lemmas.List.{with_items_is, length-map}
 use Rattle.profile_core.specs.internal.set_lists.Lists.{Lists}
 use Rattle.profile_core.specs.internal.set_lists.LongLists.{whole_lists, empty_deep}
-use Rattle.profile_core.proofs.set_lists.LongListLemmas.{split_cleared, cleared_lists}
+use Rattle.profile_core.proofs.LongListLemmas.{split_cleared, cleared_lists}
 use Rattle.profile_core.proofs.set_lists.long_lists.LongListsSetLists.clear.Goals as goal
 use Rattle.profile_core.proofs.set_lists.long_lists.LongListsSetLists.clear.Goals.{After-clear_all}
 

@@ -1,6 +1,6 @@
 -- The front of a list is that of its row.
 use Rattle.std.proofs.Common.{◌∙◌}
-use Rattle.profile_core.proofs.set_lists.LongListLemmas.{known, within, first_is}
+use Rattle.profile_core.proofs.LongListLemmas.{known, within, first_is}
 use Rattle.profile_core.proofs.set_lists.long_lists.LongListsSetLists.front.Goals as goal
 
 pub front-requires : goal.front-requires

@@ -1,5 +1,5 @@
 -- A list has a block if its row has one.
-use Rattle.profile_core.proofs.set_lists.LongListLemmas.{known, within, some_is}
+use Rattle.profile_core.proofs.LongListLemmas.{known, within, some_is}
 use Rattle.profile_core.proofs.set_lists.long_lists.LongListsSetLists.has_block.Goals as goal
 
 pub has_block-requires : goal.has_block-requires

@@ -2,16 +2,16 @@
 use Rattle.std.proofs.Common.{◌+◌, ◌*◌, ◌≤◌, length, ap, arith}
 use Rattle.std.specs.List.{sum_by}
 use Rattle.deep_list.specs.Deep.{Deep}
-use Rattle.profile_core.proofs.set_lists.LongListLemmas.{length-joined, sum-joined, far_few}
-use Rattle.profile_core.proofs.set_lists.LongListLemmas.{far_held}
+use Rattle.profile_core.proofs.LongListLemmas.{length-joined, sum-joined, far_few}
+use Rattle.profile_core.proofs.LongListLemmas.{far_held}
 use Rattle.profile_core.proofs.set_lists.long_lists.LongListsSetLists.held.Goals as goal
 use Rattle.profile_core.proofs.set_lists.long_lists.LongListsSetLists.held.Goals.{After-deref}
 
-behind : (c : After-deref) → sum_by (λ (d : Deep). length d.blocks) c.deref.result.now ≤ length
+behind : (c : After-deref) → sum_by (λ (d : Deep Unit). length d.blocks) c.deref.result.now ≤ length
     c.self.inside.near.lists * c.self.inside.beyond
 behind c = omega (
   arith,
-  ap (sum_by (λ (d : Deep). length d.blocks)) c.deref.ensures.value,
+  ap (sum_by (λ (d : Deep Unit). length d.blocks)) c.deref.ensures.value,
   far_held c.self.invariant,
 )
 
@@ -38,7 +38,7 @@ returns-clause-value c =
       arith,
       c.held.ensures.value,
       c.held_by.ensures,
-      ap (sum_by (λ (d : Deep). length d.blocks)) c.deref.ensures.value,
+      ap (sum_by (λ (d : Deep Unit). length d.blocks)) c.deref.ensures.value,
       sum-joined c.self.inside.near.lists c.self.inside.far.items (far_few c.self.invariant),
       ap (λ v. sum_by length v.lists) c.self.view_is,
     )

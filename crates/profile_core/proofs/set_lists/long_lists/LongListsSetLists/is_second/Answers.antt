@@ -1,6 +1,6 @@
 -- The second of a list is that of its row.
 use Rattle.std.proofs.Common.{◌∙◌}
-use Rattle.profile_core.proofs.set_lists.LongListLemmas.{known, within, second_is}
+use Rattle.profile_core.proofs.LongListLemmas.{known, within, second_is}
 use Rattle.profile_core.proofs.set_lists.long_lists.LongListsSetLists.is_second.Goals as goal
 
 pub is_second-requires : goal.is_second-requires
