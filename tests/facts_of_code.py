@@ -117,8 +117,6 @@ everywhere(r"(?:one|list|lists|depth) of (\d+) to (\d+) (?:blocks )?(?:where|and
 everywhere(r"(?:up to|more than|most) ([\d,]+) sets", lambda: {f"{kept('MANY_SETS'):,}"})
 everywhere(r"depth of (32) to (\d+) and more sets", lambda: {
     f"{kept('MANY_WAYS')}", f"{deep() - 1}"})
-everywhere(r"With (\d+) ways or more, the blocks behind", lambda: {f"{deep()}"})
-fact("docs/architecture.md", r"the blocks behind the first (\d+) of a list", lambda: [f"{row()}"])
 fact("docs/architecture.md", r"Up to ([\d,]+) references wait",
      lambda: [f"{constant('sweep_core', 'batch.rt', 'BATCH'):,}"])
 fact("docs/architecture.md", r"takes `rows/plain\.rt` for all lists of up to (\d+) blocks",
