@@ -195,7 +195,7 @@ class Definitions(unittest.TestCase):
     def setUp(self):
         text = (base.TOP / "docs/definitions.md").read_text()
         entries, _, self.where = text.partition("\n## Where each is\n")
-        parts = re.split(r"\n\n(?=\*\*|## |All are ours)", entries.partition("\n## ")[2])
+        parts = re.split(r"\n\n(?=\*\*|## )", entries.partition("\n## ")[2])
         self.entries = [part for part in parts if part.startswith("**")]
         self.modules = {
             (path.relative_to(base.TOP / "crates").parts[0], path.stem)
