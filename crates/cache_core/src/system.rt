@@ -6,12 +6,14 @@ pub mod stats;
 mod system_cache;
 
 ghost use Rattle.std.specs.Prelude.{◌≡◌, ◌≤◌, ◌<◌, ◌+◌, ◌^◌, ℕ, List, length, ◌∷◌, [], IfOk};
-ghost use Rattle.std.specs.Prelude.{Option, ◌++◌, Some, None, true, MatchBool};
+ghost use Rattle.std.specs.Prelude.{Option, ◌++◌, Some, None, true, false, MatchBool, MatchOption};
+ghost use Rattle.std.specs.Prelude.{is_some};
 ghost use Rattle.cache_core.specs.internal.system.SystemSteps.{AccessesFirst, AccessesFirstLevel};
 ghost use Rattle.cache_core.specs.internal.system.SystemSteps.{EmptiesCache, accesses_of};
 ghost use Rattle.cache_core.specs.internal.system.SystemSteps.{IsNewCache, nothing_down};
 ghost use Rattle.cache_core.specs.internal.system.SystemSteps.{first_name, first_hits_in_front};
 ghost use Rattle.cache_core.specs.internal.system.SystemSteps.{level_hits_in_front};
+ghost use Rattle.cache_core.specs.internal.system.HeldFirst.{first_holds, first_level_holds};
 ghost use Rattle.cache_core.specs.system.SystemSteps.{stats_held};
 ghost use Rattle.cache_core.specs.declared.system.arrival.Arrival.TheVariants.{Cache};
 ghost use Rattle.cache_core.specs.system.SystemStands.{PlannedCacheStandsFor};
@@ -165,8 +167,34 @@ impl System {
             observer.new }
         ensures room { O.room observer.old ≤ O.room observer.new + MAX_ARRIVALS }
     {
+        match hit_first_level(&mut self.i, &mut self.d, &mut self.u, reference, observer) {
+            Some(down) => {
+                self.steps += 1;
+                descend_all(&mut self.second, &mut self.memory, down, observer);
+            }
+            None => self.step_missed(reference, observer),
+        }
+    }
+
+    /// Makes a step at whose first-level cache the reference misses, or that none takes. It is a
+    /// function of its own, so that the path of a hit stays short.
+    #[inline(never)]
+    fn step_missed<O: Observer>(&mut self, reference: Ref, observer: &mut O)
+        requires steps { self.old.steps < MAX_STEPS }
+        requires room { MAX_ARRIVALS ≤ O.room observer.old }
+        requires missed { first_level_holds self.old.i self.old.d self.old.u reference ≡ false }
+        ensures stands { (plan : PlannedCaches) (seed : ℕ) (events : List Event) → IsPlan plan →
+            SystemStandsFor plan seed events self.old →
+            SystemStandsFor plan seed (events ++ event.Reference reference ∷ []) self.new }
+        ensures steps { self.new.steps ≡ self.old.steps + 1 }
+        ensures seen { (plan : PlannedCaches) (seed : ℕ) (events : List Event) → IsPlan plan →
+            SystemStandsFor plan seed events self.old →
+            Saw O.has_seen observer.old (arrivals_of plan seed events (event.Reference reference))
+            observer.new }
+        ensures room { O.room observer.old ≤ O.room observer.new + MAX_ARRIVALS }
+    {
         self.steps += 1;
-        let down = first_level(&mut self.i, &mut self.d, &mut self.u, reference, observer);
+        let down = miss_first_level(&mut self.i, &mut self.d, &mut self.u, reference, observer);
         match down {
             Some(down) => descend_all(&mut self.second, &mut self.memory, down, observer),
             None => {
@@ -244,9 +272,10 @@ fn first_name(u: &Option<SystemCache>, reference: Ref) -> CacheName
     CacheName::L1D
 }
 
-/// Makes a reference at a first-level cache, if it is there, and returns what it sends down.
+/// Makes a reference at a first-level cache if it is there and holds the block, and returns what it
+/// sends down. Otherwise it does nothing.
 #[inline(always)]
-fn access_first<O: Observer>(
+fn hit_first<O: Observer>(
     name: CacheName,
     cache: &mut Option<SystemCache>,
     reference: Ref,
@@ -254,6 +283,38 @@ fn access_first<O: Observer>(
 ) -> Option<[Option<Ref>; 2]>
     requires counts { accesses_of cache.old < 2 ^ 62 }
     requires room { 1 ≤ O.room observer.old }
+    ensures value { MatchOption result
+        ((cache.new ≡ cache.old) × (observer.new ≡ observer.old))
+        (λ down. AccessesFirst cache.old reference (Some down) cache.new) }
+    ensures answers { is_some result ≡ first_holds cache.old reference }
+    ensures seen { is_some result ≡ true → (seed : ℕ) (planned : Option PlannedCache)
+        (events : List Event) → IsPlannedCache planned →
+        PlannedCacheStandsFor seed planned events cache.old →
+        Saw O.has_seen observer.old (cache_arrivals seed name planned events reference)
+        observer.new }
+    ensures room { O.room observer.old ≤ O.room observer.new + 1 }
+{
+    match cache {
+        Some(cache) => match cache.hit(name, reference, observer) {
+            Some(outcome) => Some(outcome.down),
+            None => None,
+        },
+        None => None,
+    }
+}
+
+/// Makes a reference at a first-level cache that does not hold the block, if it is there, and
+/// returns what it sends down.
+#[inline(always)]
+fn miss_first<O: Observer>(
+    name: CacheName,
+    cache: &mut Option<SystemCache>,
+    reference: Ref,
+    observer: &mut O,
+) -> Option<[Option<Ref>; 2]>
+    requires counts { accesses_of cache.old < 2 ^ 62 }
+    requires room { 1 ≤ O.room observer.old }
+    requires missed { first_holds cache.old reference ≡ false }
     ensures value { AccessesFirst cache.old reference result cache.new }
     ensures seen { (seed : ℕ) (planned : Option PlannedCache) (events : List Event) →
         IsPlannedCache planned → PlannedCacheStandsFor seed planned events cache.old →
@@ -262,14 +323,14 @@ fn access_first<O: Observer>(
     ensures room { O.room observer.old ≤ O.room observer.new + 1 }
 {
     match cache {
-        Some(cache) => Some(cache.access(name, reference, observer).down),
+        Some(cache) => Some(cache.miss(name, reference, observer).down),
         None => None,
     }
 }
 
-/// A reference at the first level. `None` if no cache takes it.
+/// `hit_first` at the first-level cache that takes the reference.
 #[inline(always)]
-fn first_level<O: Observer>(
+fn hit_first_level<O: Observer>(
     i: &mut Option<SystemCache>,
     d: &mut Option<SystemCache>,
     u: &mut Option<SystemCache>,
@@ -278,6 +339,39 @@ fn first_level<O: Observer>(
 ) -> Option<[Option<Ref>; 2]>
     requires counts { accesses_of i.old + accesses_of d.old + accesses_of u.old < 2 ^ 62 }
     requires room { 1 ≤ O.room observer.old }
+    ensures value { MatchOption result
+        ((i.new ≡ i.old) × (d.new ≡ d.old) × (u.new ≡ u.old) × (observer.new ≡ observer.old))
+        (λ down.
+        AccessesFirstLevel i.old d.old u.old reference (Some down) i.new d.new u.new) }
+    ensures answers { is_some result ≡ first_level_holds i.old d.old u.old reference }
+    ensures seen { is_some result ≡ true → (plan : PlannedCaches) (seed : ℕ)
+        (events : List Event) → IsPlan plan →
+        PlannedCacheStandsFor seed plan.i (events_for L1I events) i.old →
+        PlannedCacheStandsFor seed plan.d (events_for L1D events) d.old →
+        PlannedCacheStandsFor seed plan.u (events_for L1U events) u.old →
+        Saw O.has_seen observer.old (first_arrivals plan seed events reference) observer.new }
+    ensures room { O.room observer.old ≤ O.room observer.new + 1 }
+{
+    let name = first_name(u, reference);
+    match name {
+        CacheName::L1U => hit_first(name, u, reference, observer),
+        CacheName::L1I => hit_first(name, i, reference, observer),
+        _ => hit_first(name, d, reference, observer),
+    }
+}
+
+/// `miss_first` at the first-level cache that takes the reference. `None` if no cache takes it.
+#[inline(always)]
+fn miss_first_level<O: Observer>(
+    i: &mut Option<SystemCache>,
+    d: &mut Option<SystemCache>,
+    u: &mut Option<SystemCache>,
+    reference: Ref,
+    observer: &mut O,
+) -> Option<[Option<Ref>; 2]>
+    requires counts { accesses_of i.old + accesses_of d.old + accesses_of u.old < 2 ^ 62 }
+    requires room { 1 ≤ O.room observer.old }
+    requires missed { first_level_holds i.old d.old u.old reference ≡ false }
     ensures value { AccessesFirstLevel i.old d.old u.old reference result i.new d.new u.new }
     ensures seen { (plan : PlannedCaches) (seed : ℕ) (events : List Event) → IsPlan plan →
         PlannedCacheStandsFor seed plan.i (events_for L1I events) i.old →
@@ -288,9 +382,9 @@ fn first_level<O: Observer>(
 {
     let name = first_name(u, reference);
     match name {
-        CacheName::L1U => access_first(name, u, reference, observer),
-        CacheName::L1I => access_first(name, i, reference, observer),
-        _ => access_first(name, d, reference, observer),
+        CacheName::L1U => miss_first(name, u, reference, observer),
+        CacheName::L1I => miss_first(name, i, reference, observer),
+        _ => miss_first(name, d, reference, observer),
     }
 }
 
