@@ -4,7 +4,7 @@ use Rattle.cache_core.specs.declared.system.arrival.Arrival.{Arrival}
 use Rattle.cache_core.specs.system.Arrivals.{Saw}
 use Rattle.cache_core.specs.system.SystemStands.{PlannedCacheStandsFor}
 use Rattle.cache_core.proofs.system.Observed.{entered}
-use Rattle.cache_core.proofs.system.hit_first.Goals as goal
+use Rattle.cache_core.proofs.system.first_level.hit_first.Goals as goal
 
 pub returns-in-Some-hit-clause-seen : goal.returns-in-Some-hit-clause-seen
 returns-in-Some-hit-clause-seen g c = λ hit seed planned events good stands.

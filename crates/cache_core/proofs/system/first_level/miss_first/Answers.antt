@@ -4,7 +4,7 @@ use Rattle.cache_core.specs.declared.system.arrival.Arrival.{Arrival}
 use Rattle.cache_core.specs.system.Arrivals.{Saw}
 use Rattle.cache_core.specs.system.SystemStands.{PlannedCacheStandsFor}
 use Rattle.cache_core.proofs.system.Observed.{entered}
-use Rattle.cache_core.proofs.system.miss_first.Goals as goal
+use Rattle.cache_core.proofs.system.first_level.miss_first.Goals as goal
 
 pub returns-in-Some-clause-seen : goal.returns-in-Some-clause-seen
 returns-in-Some-clause-seen g c = λ seed planned events good stands.
