@@ -87,8 +87,6 @@ fact("docs/proofs.md", r"up to the limit \(`\.within`\), which is at most (2\^\d
 fact("docs/proofs.md", r"a job of `parse` takes (2\^\d+) lines", lambda: [power(lines())])
 fact("docs/DECISIONS.md", r"a reader's limit is at most (2\^\d+)", lambda: [power(lines())])
 fact("docs/DECISIONS.md", r"An index begins at (\d+) ways\*\*", lambda: [f"{indexed()}"])
-fact("docs/DECISIONS.md", r"With more than ([\d,]+) sets and (\d+) to (\d+) ways, a set takes",
-     lambda: [f"{kept('MANY_SETS'):,}", f"{kept('MANY_WAYS')}", f"{deep() - 1}"])
 fact("docs/DECISIONS.md", r"Profiles of (\d+) ways or more have deep lists",
      lambda: [f"{deep()}"])
 fact("docs/manual.md", r"with A of (\d+) or more at most", lambda: [f"{full_deep('DEEP')}"])
@@ -119,8 +117,6 @@ everywhere(r"(?:one|list|lists|depth) of (\d+) to (\d+) (?:blocks )?(?:where|and
 everywhere(r"(?:up to|more than|most) ([\d,]+) sets", lambda: {f"{kept('MANY_SETS'):,}"})
 everywhere(r"depth of (32) to (\d+) and more sets", lambda: {
     f"{kept('MANY_WAYS')}", f"{deep() - 1}"})
-everywhere(r"With (\d+) ways or more, the blocks behind", lambda: {f"{deep()}"})
-fact("docs/architecture.md", r"the blocks behind the first (\d+) of a list", lambda: [f"{row()}"])
 fact("docs/architecture.md", r"Up to ([\d,]+) references wait",
      lambda: [f"{constant('sweep_core', 'batch.rt', 'BATCH'):,}"])
 fact("docs/architecture.md", r"takes `rows/plain\.rt` for all lists of up to (\d+) blocks",
@@ -212,8 +208,6 @@ everywhere(r"(?:count for each|4 for each) (\d+) (?:slots|of these)",
 everywhere(r"at most (\d+) flags", lambda: {f"{constant('deep_list', 'slots.rt', 'CHUNK') - 1}"})
 fact("crates/deep_list/CALLING.md", rf"with roundings at most {NUMBER} bytes per block",
      lambda: [limits_memory.told_by_the_manual(limits_memory.LONG_LISTS)[1].partition("*")[0]])
-fact("docs/DECISIONS.md", rf"They took 10 bytes for each way, and an index takes {NUMBER},",
-     lambda: of_caches()[3:4])
 fact("docs/DECISIONS.md", r"at most (\d+) counts and (\d+) flags",
      lambda: counted_at(geometry("MAX_WAYS")))
 fact("docs/DECISIONS.md", r"A batch is two arrays of (\d+) KiB",

@@ -185,16 +185,17 @@ class Callers(unittest.TestCase):
 
 class Definitions(unittest.TestCase):
     """docs/definitions.md says in words what modules of definitions say in the prover's language:
-    each entry names its modules, and each module is named."""
+    each entry ends with its modules, and each module is named."""
 
-    NAMES = re.compile(r"((?:`\w+`(?:, | and )?)+) of `(\w+)`")
+    MODULES = r"`(\w+)`: (`\w+`(?:, `\w+`)*)"
+    END = re.compile(rf"[.*] ({MODULES}(?:; {MODULES})*)\.\Z")
     # crates whose definitions need not be judged, or are a caller's
     OTHERS = {"block_index", "callers", "deep_list"}
 
     def setUp(self):
         text = (base.TOP / "docs/definitions.md").read_text()
         entries, _, self.where = text.partition("\n## Where each is\n")
-        parts = re.split(r"\n\n(?=\*\*|## |All are ours)", entries.partition("\n## ")[2])
+        parts = re.split(r"\n\n(?=\*\*|## )", entries.partition("\n## ")[2])
         self.entries = [part for part in parts if part.startswith("**")]
         self.modules = {
             (path.relative_to(base.TOP / "crates").parts[0], path.stem)
@@ -203,17 +204,15 @@ class Definitions(unittest.TestCase):
 
     def named(self, text):
         """The modules that a text names, each with its crate."""
-        return {(crate, name) for names, crate in self.NAMES.findall(" ".join(text.split()))
-                for name in re.findall(r"\w+", names.replace(" and ", " "))}
+        return {(crate, name) for crate, names in re.findall(self.MODULES, " ".join(text.split()))
+                for name in re.findall(r"\w+", names)}
 
     def test_each_entry_names_its_modules(self):
         self.assertGreater(len(self.entries), 28)
         for entry in self.entries:
-            last = re.search(r"[.*] In ((?:[^.](?!\. ))*[^.])\.\Z", " ".join(entry.split()))
-            self.assertTrue(last, entry)
-            named = self.named(last[1])
-            self.assertTrue(named, entry)
-            self.assertLessEqual(named, self.modules, entry)
+            end = self.END.search(" ".join(entry.split()))
+            self.assertTrue(end, entry)
+            self.assertLessEqual(self.named(end[1]), self.modules, entry)
 
     def test_each_module_is_named(self):
         named = self.named("\n".join([*self.entries, self.where]))
