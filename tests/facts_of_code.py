@@ -315,7 +315,7 @@ fact("docs/cookbook.md", r"LRU caches of any number of sets, here (\d+)\.",
      lambda: shown("docs/cookbook.md", r"any-index examples/sort\.din --bsize 16 --sets (\d+) "))
 fact("docs/cookbook.md", r"For (\d+) sets, in a cache of (\d+):",
      lambda: [*shown("docs/cookbook.md", r"\$set = \$block % (\d+);"),
-              *shown("docs/cookbook.md", r"\$set' examples/sort\.din \|\n.* -l1-usets (\d+) ")])
+              *shown("docs/cookbook.md", r"\$set' \\\n.*\| cachesim din -l1-usets (\d+) ")])
 fact("docs/manual.md", r"`--rows 100` gives the header and (\d+) rows",
      lambda: shown("docs/manual.md", r"`--rows (\d+)` gives"))
 fact("docs/manual.md", r"`32-64k` begins at (\d+)\.",
