@@ -311,13 +311,11 @@ def last_level():
 
 
 fact("docs/cookbook.md", rf"A last level of {NUMBER} MiB behind two levels", last_level)
-fact("docs/cookbook.md", r"for a cache in which pages have (\d+) colours",
-     lambda: shown("docs/cookbook.md", r"mix\(address >> 12\) % (\d+) \* 64 "))
 fact("docs/cookbook.md", r"LRU caches of any number of sets, here (\d+)\.",
      lambda: shown("docs/cookbook.md", r"any-index examples/sort\.din --bsize 16 --sets (\d+) "))
 fact("docs/cookbook.md", r"For (\d+) sets, in a cache of (\d+):",
-     lambda: [*shown("docs/cookbook.md", r"renumber\.py 16 (\d+) < "),
-              *shown("docs/cookbook.md", r"renumber\.py .* -l1-usets (\d+) ")])
+     lambda: [*shown("docs/cookbook.md", r"\$set = \$block % (\d+);"),
+              *shown("docs/cookbook.md", r"\$set' \\\n.*\| cachesim din -l1-usets (\d+) ")])
 fact("docs/manual.md", r"`--rows 100` gives the header and (\d+) rows",
      lambda: shown("docs/manual.md", r"`--rows (\d+)` gives"))
 fact("docs/manual.md", r"`32-64k` begins at (\d+)\.",

@@ -67,9 +67,9 @@ class Tools(base.ToolTest):
         text = (base.TOOLS / "README.md").read_text()
         for tool in map(pathlib.Path, tools()):
             with self.subTest(tool.name):
-                self.assertIn(f"| `{tool.name}", (tool.parent / "README.md").read_text())
+                self.assertIn(f"\n`{tool.name}", (tool.parent / "README.md").read_text())
                 if tool.parent not in (base.TOOLS, base.PACKAGING):
-                    self.assertIn(f"| `{tool.parent.name}/`", text)
+                    self.assertIn(f"\n`{tool.parent.name}/` | ", text)
 
 
 class Scripts(base.ToolTest):
