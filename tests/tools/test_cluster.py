@@ -291,9 +291,8 @@ class OneNode(ToolTest):
     @classmethod
     def stopped(cls):
         cls.slurm.stop()
-        left = daemons(cls.place)
-        if left:
-            raise AssertionError(f"still there: {left}")
+        if not comes(lambda: not daemons(cls.place)):
+            raise AssertionError(f"still there: {daemons(cls.place)}")
 
     def in_cluster(self, *command):
         return self.good(self.run_command(*command, env=self.slurm.env))
@@ -338,5 +337,5 @@ class OneNode(ToolTest):
         self.good(self.run_command("sbatch", "--parsable", "--wrap", "sleep 1000", env=other.env))
         self.assertTrue(comes(lambda: "slurmstepd" in daemons(other.folder)))
         other.stop()
-        self.assertEqual(daemons(other.folder), [])
+        self.assertTrue(comes(lambda: not daemons(other.folder)), daemons(other.folder))
         other.stop()
