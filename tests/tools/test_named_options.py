@@ -124,6 +124,28 @@ class NamedOptions(base.ToolTest):
         self.assertEqual(sorted(it.removeprefix("no command: ") for it in self.judge(text)),
                          sorted(wrong))
 
+    def test_calls_in_helps(self):
+        calls = [words for text in self.helps.values() for line in
+                 text.replace("\\\n", " ").replace("|\n", "| ").split("\n")
+                 if line.startswith("  ") and not re.search(r"\[[-A-Z]|\.\.", line)
+                 for words in commands_in(line) if words[0][0] != "-"]
+        known = [words for words in calls if words[0].rpartition("/")[2] in self.helps]
+        self.assertGreater(len(known), 50)
+        self.assertEqual([it for words in calls for it in self.wrong_in(words, "all")], [])
+
+    def test_defaults_in_helps(self):
+        """What holds without an option, as a tool's help tells it, is its default in the code."""
+        told = r"^ +(--[\w-]+)(?:(?!^ +-).)*?(?:(\w+) without th|\[default: (\w+))"
+        code = r'add_argument\("(--[\w-]+)"[^)]*?\bdefault="?(\w+)'
+        count = 0
+        for name, path in shared.tools().items():
+            defaults = dict(re.findall(code, (base.TOOLS / path).read_text()))
+            for option, *value in re.findall(told, self.helps[name], re.M | re.S):
+                if option in defaults:
+                    self.assertEqual("".join(value), defaults[option], (name, option))
+                    count += 1
+        self.assertGreater(count, 4)
+
     def test_other_programs(self):
         """The columns of lscpu that the cookbook names, and the packages that pages install."""
         text = (base.TOP / "docs/cookbook.md").read_text()
