@@ -6,6 +6,7 @@ import os
 import re
 import shlex
 import sys
+from unittest import mock
 
 import base
 from documents import blocks_of
@@ -131,7 +132,11 @@ class NamedOptions(base.ToolTest):
                  for words in commands_in(line) if words[0][0] != "-"]
         known = [words for words in calls if words[0].rpartition("/")[2] in self.helps]
         self.assertGreater(len(known), 50)
-        self.assertEqual([it for words in calls for it in self.wrong_in(words, "all")], [])
+        # what a call has is not told by the call
+        named = rf"(?m)^  +(?:tools/|tests/)?(?:{'|'.join(filter(None, self.helps))}) (?![^\n]*\[-).*$"
+        bare = {name: re.sub(named, "", text) for name, text in self.helps.items()}
+        with mock.patch.object(type(self), "helps", bare):
+            self.assertEqual([it for words in calls for it in self.wrong_in(words, "all")], [])
 
     def test_defaults_in_helps(self):
         """What holds without an option, as a tool's help tells it, is its default in the code."""
