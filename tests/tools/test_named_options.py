@@ -133,7 +133,8 @@ class NamedOptions(base.ToolTest):
         known = [words for words in calls if words[0].rpartition("/")[2] in self.helps]
         self.assertGreater(len(known), 50)
         # what a call has is not told by the call
-        named = rf"(?m)^  +(?:tools/|tests/)?(?:{'|'.join(filter(None, self.helps))}) (?![^\n]*\[-).*$"
+        names = "|".join(filter(None, self.helps))
+        named = rf"(?m)^  +(?:tools/|tests/)?(?:{names}) (?!.*\[-).*$"
         bare = {name: re.sub(named, "", text) for name, text in self.helps.items()}
         with mock.patch.object(type(self), "helps", bare):
             self.assertEqual([it for words in calls for it in self.wrong_in(words, "all")], [])
