@@ -2,7 +2,7 @@
 
 A fact is a sentence with a group for each number, the page that has it, and a function that says
 what the numbers must be: from the code or the same page (facts_of_code.py), or from what was
-measured (facts_of_measures.py). A sentence that another test compares has no function.
+measured (facts_of_measures.py). A sentence that another test compares names that instead.
 """
 
 import re
@@ -11,6 +11,7 @@ from typing import NamedTuple
 import common
 
 NUMBER = r"([\d,.]*\d)"
+WORDS = "none one two three four five six seven eight nine ten".split()
 
 
 def pages():
@@ -40,8 +41,9 @@ def pattern(sentence):
     return re.compile(re.sub(r"(\[[^]]*\])| ", lambda it: it[1] or r"\s+", sentence), re.M)
 
 
-def fact(pages, sentence, wanted=None):
-    """A sentence that each of these pages has once."""
+def fact(pages, sentence, wanted):
+    """A sentence that each of these pages has once. What is wanted is a function, or a script or a
+    test of test_facts.py that compares it."""
     names = (pages,) if isinstance(pages, str) else tuple(pages)
     FACTS.append(Fact(names, pattern(sentence), wanted, False))
 

@@ -5,7 +5,7 @@ import re
 
 import common
 import limits_memory
-from facts import NUMBER, constant, everywhere, fact, power
+from facts import NUMBER, WORDS, constant, everywhere, fact, power
 
 
 def geometry(name):
@@ -96,6 +96,8 @@ fact("crates/full_profile/CALLING.md", r"only the first (\d+) blocks are walked 
      lambda: [f"{full_deep('ROW')}"])
 fact("docs/definitions.md", r"and stream (\d+)\.",
      lambda: [f"{constant('cache_core', 'replacement.rt', 'STREAM')}"])
+fact("crates/sweep_core/CALLING.md", r"in an array of (\d+) bytes",
+     lambda: [f"{constant('trace_core', 'devices.rt', 'SINK_CAPACITY')}"])
 fact("crates/deep_list/CALLING.md", r"A list has at most `cap` blocks, 1 to (2\^\d+)",
      lambda: [power(geometry("MAX_CACHE_LINES"))])
 
@@ -138,9 +140,9 @@ for count, found in (
 
 # ---- what tests/limits measures
 for sentence in ("ROWS", "SPARSE", "SLOTS", "LONG_LISTS", "BATCH", "CACHES"):
-    fact("docs/manual.md", getattr(limits_memory, sentence))
-fact("docs/speed.md", limits_memory.ALL_PAIRS)
-fact("docs/speed.md", limits_memory.BUFFERS)
+    fact("docs/manual.md", getattr(limits_memory, sentence), "tests/limits")
+fact("docs/speed.md", limits_memory.ALL_PAIRS, "tests/limits")
+fact("docs/speed.md", limits_memory.BUFFERS, "tests/limits")
 
 
 def of_caches():
@@ -148,6 +150,19 @@ def of_caches():
     return [f"{it:g}" for it in limits_memory.told_by_the_manual(limits_memory.CACHES)]
 
 
+def of_slots():
+    """The bytes of a set's slots, and those of them that are written for a third block."""
+    *_, formula, late = limits_memory.told_by_the_manual(limits_memory.SLOTS)
+    return [formula.partition("*")[0], f"{late:g}"]
+
+
+fact("docs/PERF.md", rf"a profile in slots {NUMBER} bytes for each set \([^)]*\), of which "
+     rf"{NUMBER} are written", of_slots)
+fact("docs/PERF.md", rf"a cache of {NUMBER} ways or more {NUMBER} bytes for each line, {NUMBER} "
+     rf"for each set and {NUMBER} more, under random replacement {NUMBER} for each line, {NUMBER} "
+     rf"for each set and {NUMBER} more, in place of {NUMBER} for each line and {NUMBER} for each "
+     "set",
+     lambda: [*of_caches()[2:], *of_caches()[:2]])
 fact("crates/cache_core/CALLING.md",
      rf"{NUMBER} bytes for each line and {NUMBER} for each set\. In a `System` or a `Simulation` "
      rf"one with {NUMBER} ways or more takes {NUMBER} bytes for each line, {NUMBER} for each set "
@@ -168,6 +183,16 @@ fact("examples/README.md", rf"without the fetches: {NUMBER} loads, {NUMBER} stor
      lambda: [f"{held('blocks.lackey').count(it):,}" for it in "LS"])
 fact("examples/README.md", rf"by merging: {NUMBER} reads, {NUMBER} writes, {NUMBER} fetches",
      lambda: [f"{held('sort.din').count(it):,}" for it in "012"])
+
+
+def of_lab():
+    """The caches and the traces by which a student's program is judged."""
+    caches = shown("tools/lab/parts/grading.py", r'CACHES = \("([^)]*)"\)')[0].split()
+    code = (common.TOP / "tools/lab/parts/traces.py").read_text()
+    return [f"{sum(',' in cache for cache in caches)}", WORDS[len(re.findall('yield "', code))]]
+
+
+fact("tools/lab/README.md", r"The cases are (\d+) caches on each of (\w+) traces", of_lab)
 
 
 def pictured():
@@ -221,11 +246,15 @@ def counted_at(ways):
 
 
 # ---- what other tests compare
-fact("docs/manual.md", r"`-l1-uassoc` N \| lines per set, (\d+) by default")  # test_facts, Manual
-fact("docs/manual.md", r"\(\[definitions\]\(definitions\.md#one-cache\)\), (\d+) by default")
-fact("docs/manual.md", r"^(0): done, or help \(.*?\. (1): a fault of the run\. (2): a fault of")
-fact("docs/manual.md", r"Faults of the arguments \(exit status (\d)\)")
-fact("docs/manual.md", r"Faults of the run \(exit status (\d)\)")
+fact("docs/manual.md", r"`-l1-uassoc` N \| lines per set, (\d+) by default",
+     "Manual.test_options")
+fact("docs/manual.md", r"\(\[definitions\]\(definitions\.md#one-cache\)\), (\d+) by default",
+     "Manual.test_options")
+fact("docs/manual.md", r"^(0): done, or help \(.*?\. (1): a fault of the run\. (2): a fault of",
+     "Sentences.test_statuses")
+fact("docs/manual.md", r"Faults of the arguments \(exit status (\d)\)",
+     "Sentences.test_statuses")
+fact("docs/manual.md", r"Faults of the run \(exit status (\d)\)", "Sentences.test_statuses")
 
 # ---- what the tests take, by README and the Makefile
 
@@ -240,6 +269,12 @@ fact("tests/README.md", r"([\d,]+) cases in minutes",
      lambda: [f"{int(said('Makefile', r'--cases ([0-9]+)')):,}"])
 fact("docs/proofs.md", r"with words of up to ([\d,]+) letters",
      lambda: [said("tests/refusals", r"for letters in \([\d_]+, ([\d_]+)\)").replace("_", ",")])
+
+fact("tools/README.md", r"All need Python (3\.\d+) or later",
+     lambda: [".".join(shown("tools/lib/__init__.py", r"version_info < \((\d+), (\d+)\)"))])
+fact("README.md", r"its man page \(which needs (\w+)\)",
+     lambda: [said("package/pages.py", r'said\("(\w+)", "-sTman"')])
+
 
 # ---- how many lines definitions have
 

@@ -3,10 +3,9 @@
 import re
 
 import common
-from facts import NUMBER, fact
+from facts import NUMBER, WORDS, fact
 
 MEASURED = common.TOP / "tests/measured"
-WORDS = "none one two three four five six seven eight nine ten".split()
 PARTS = {"tenth": 10, "fifth": 5, "quarter": 4, "third": 3, "half": 2}
 
 

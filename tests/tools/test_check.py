@@ -13,6 +13,8 @@ TRIED = {
     "crates/cache_core/specs/Geometry.antt": "in crates/cache_core, rt check --jobs 1|"
                                              "tests/spec-names|"
                                              "test-tools --plain documents.Definitions",
+    "crates/cache_core/proofs/Lists.antt": "in crates/cache_core, rt check --jobs 1|"
+                                           "tests/spec-names",
     "crates/cache_core/CALLING.md": "test-tools --plain links documents.Callers",
     "tools/best": "test-tools --plain best style",
     "tools/by-line": "test-tools --plain by_line by_line_hand by_line_names style",
@@ -21,10 +23,11 @@ TRIED = {
     "tools/lib/paging.py": "test-tools --plain din_table sweep_parallel style",
     "tools/lib/tool.py": "test-tools --plain tool unexpected outputs waiting style",
     "tools/lab/replay": "test-tools --plain replay style",
-    "docs/cookbook.md": "test-tools --plain links facts style "
+    "package/install.py": "test-tools --plain make completion package.Version style",
+    "docs/cookbook.md": "test-tools --plain links facts named_options style "
                         "documents.Documents.test_docs_cookbook",
-    "docs/manual.md": "tests/run docs/manual.md|"
-                      "test-tools --plain links facts style documents.Documents.test_docs_manual",
+    "docs/manual.md": "tests/run docs/manual.md|test-tools --plain from_dinero tables man links "
+                      "facts named_options style documents.Documents.test_docs_manual",
     "tests/cases/din.cases": "tests/run|test-tools --plain wrong_models",
     "tests/tools/test_best.py": "test-tools --plain --list|test-tools --plain best style",
     "tests/mutants/options.edits": "test-tools --plain mutants",
@@ -54,7 +57,7 @@ class Check(ToolTest):
         # each thing once
         both = self.listed("tools/best", "tests/tools/test_best.py", "docs/definitions.md")
         self.assertEqual(both, "test-tools --plain --list|test-tools --plain best style "
-                         "documents.Definitions links facts "
+                         "documents.Definitions links facts named_options "
                          "documents.Documents.test_docs_definitions")
         self.assertEqual(self.listed("tests/edits.py", "docs/proofs.md").count("mutants"), 1)
 

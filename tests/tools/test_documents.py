@@ -11,6 +11,7 @@ import re
 import shutil
 import tempfile
 import unittest
+from unittest import mock
 
 import base
 import common
@@ -85,6 +86,29 @@ class Documents(unittest.TestCase):
                     script = "\n".join(["set -eo pipefail", *block.lines])
                     got, status = documents.run(script, folder, **known)
                     self.assertEqual(status, 0, f"{name}:{block.number}: status {status}\n{got}")
+
+
+class Judged(unittest.TestCase):
+    """What is wrong with a document's commands is seen: their status, or what they write."""
+
+    def seen(self, text):
+        """Whether the test of a document with this text fails."""
+        folder = pathlib.Path(tempfile.mkdtemp(prefix="cachesim-documents-")) / "top"
+        folder.mkdir()
+        ran, blocks = unittest.TestResult(), documents.blocks_of(text)
+        with mock.patch.object(documents, "blocks_of", lambda _: blocks), \
+                mock.patch(f"{__name__}.copied_top", lambda: folder):
+            test = Documents("test_tests_README")
+            test.run(ran)
+        self.assertEqual(ran.testsRun, 1)
+        return not ran.wasSuccessful()
+
+    def test_wrong_documents(self):
+        for text, is_wrong in (("    printf 1 | grep 1\n", False),
+                               ("    printf 1 | grep 2\n", True),
+                               ("    $ echo 1\n    1\n", False),
+                               ("    $ echo 1\n    2\n", True)):
+            self.assertEqual(self.seen(text), is_wrong, text)
 
 
 class Blocks(unittest.TestCase):

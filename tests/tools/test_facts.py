@@ -2,8 +2,10 @@
 
 import importlib
 import itertools
+import operator
 import os
 import re
+import sys
 import unittest
 
 import base
@@ -42,8 +44,12 @@ class Facts(unittest.TestCase):
                 self.assertTrue(found)
                 if not fact.is_of_each:
                     self.assertEqual([page for page, _ in found], list(fact.pages))
-                wanted = fact.wanted and fact.wanted()
-                for page, numbers in found if fact.wanted else ():
+                if isinstance(fact.wanted, str):
+                    self.assertTrue((base.TOP / fact.wanted).exists() or operator.attrgetter(
+                        fact.wanted)(sys.modules[__name__]))
+                    continue
+                wanted = fact.wanted()
+                for page, numbers in found:
                     if fact.is_of_each:
                         self.assertLessEqual({*numbers}, {*wanted}, page)
                     else:
@@ -97,6 +103,13 @@ class Measure(base.ToolTest):
         self.executable("bin/git", "echo 0123abcd-dirty")
         path = {"PATH": f"{self.folder}/bin:{os.environ['PATH']}"}
         return self.run_command("python3", self.folder / "tests/measure", *words, env=path)
+
+    def test_the_call_of_the_readme(self):
+        """It keeps again what it kept: the name and the command are those of a kept file."""
+        text = (base.TOP / "tests/README.md").read_text()
+        (name, command), = re.findall(r"^    tests/measure (\S+) (.+)$", text, re.M)
+        kept = base.TOP / "tests/measured" / name
+        self.assertRegex(kept.read_text().split("\n")[0], rf": {re.escape(command)}$")
 
     def test_what_is_kept(self):
         self.executable("tests/one", "echo '1 s'", "echo 2 s")
@@ -179,6 +192,44 @@ class Sentences(base.ToolTest):
         self.assertEqual(self.sweep(*words, stdin=b"0 10\n"), header)
         ran = self.run_command(base.PROGRAM, "sweep", *words, stdin=b"0 10\nx\n")
         self.ends(ran, 1, "cachesim: line 2: bad label\n")
+
+    ONE = "--bsize 16 --sets 1 --assoc 1 --size 16".split()
+    # a sentence, and runs with a trace, with their status and what they write
+    RUNS = {
+        "Labels 3 and 4 also need an address, which is ignored;": (
+            (["sweep", *ONE], b"3 f\n4 f\n", 0, "16,1,1,16,0,0,0\n"),
+            (["sweep", *ONE], b"3\n", 1, "line 1: bad address"),
+            (["sweep", *ONE], b"4\n", 1, "line 1: bad address")),
+        "Options come in any order, each at most once, with their names in full.": (
+            (["sweep", *ONE[4:], *ONE[:4]], b"", 0, "16,1,1,16,0,0,0\n"),
+            (["sweep", *ONE, "--size", "16"], b"", 2, "cannot be used multiple times"),
+            (["sweep", *ONE, "--row", "1"], b"", 2, "unexpected argument '--row'")),
+        "A flush always takes effect": (
+            (["sweep", *ONE, "--kind", "i"], b"2 0\n4 0\n2 0\n", 0, "16,1,1,16,0,2,0\n"),
+            (["sweep", *ONE, "--kind", "d"], b"0 0\n4 0\n0 0\n", 0, "16,1,1,16,0,2,0\n")),
+        "at most one of `k K m M g G`, for 2^10, 2^20 or 2^30:": (
+            ("sweep --bsize 1m --sets 1k --assoc 1 --size 1g".split(), b"", 0,
+             f"{2**20},{2**10},1,{2**30},0,0,0\n"),),
+        "lines per set, 1 by default; if the size is given, a power of two": (
+            ("din -l1-usize 16 -l1-ubsize 16".split(), b"0 0\n0 10\n", 0, "evictions=1 "),
+            ("din -l1-usize 48 -l1-ubsize 16 -l1-uassoc 3".split(), b"", 2, "l1-u: bad"),
+            ("din -l1-usize 64 -l1-ubsize 16 -l1-uassoc 3".split(), b"", 2, "l1-u: bad geometry"),
+            ("din -l1-usets 4 -l1-ubsize 16 -l1-uassoc 3".split(), b"", 0, "l1-u fetches=0 ")),
+        "`csim -v` and `log` have written the lines before it, without the summary (`hits:..`)": (
+            ("csim -v -s 0 -E 1 -b 4 -t /dev/stdin".split(), b" L 10,1\nx\n", 1, "L 10,1 miss\n$"),
+            ("log -l1-usize 16 -l1-ubsize 16".split(), b"0 10\nx\n", 1,
+             "l1-u 0 10 miss\nmemory 0 10\n$")),
+    }
+
+    def test_what_is_read(self):
+        """Where the end of what is written is told, a '$' stands for it."""
+        self.says(*self.RUNS)
+        for sentence, runs in self.RUNS.items():
+            for words, trace, status, wanted in runs:
+                ran = self.run_command(base.PROGRAM, *words, stdin=trace)
+                self.assertEqual(ran.returncode, status, (sentence, words, ran.stderr))
+                seen = f"{ran.stdout.decode()}${ran.stderr.decode()}"
+                self.assertIn(wanted, seen, (sentence, words))
 
     def test_statuses(self):
         """Of help, the manual and the program."""

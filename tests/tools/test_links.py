@@ -1,5 +1,6 @@
 """Documents name files and headings that are there, and pages for callers names that are there."""
 
+import functools
 import re
 import unittest
 
@@ -11,6 +12,9 @@ HEADING = re.compile(r"^#+ (.*)$", re.M)
 # a file or a folder of the repository; NAME and what is built stand for any
 PATH = re.compile(r"`((?:crates|docs|examples|package|tests|tools)/[\w./*-]+)")
 ANY = re.compile(r"NAME|/out\b|\.\.")
+# a source or a script, by its name or the end of its path, and those of other programs
+SOURCE = re.compile(r"`((?:[\w-]+/)*[\w-]+\.(?:rt|antt|py|sbatch))`")
+OF_OTHERS = {"util/decode_packet_trace.py"}
 PAGES = sorted(base.TOP.glob("crates/*/CALLING.md"))
 CODE = re.compile(r"`([^`]+)`")
 NAME = re.compile(r"[A-Za-z]\w+")
@@ -37,6 +41,19 @@ def broken(text, path):
         found = (path for top in (base.TOP, path.parent) for path in top.glob(name.rstrip("/.")))
         if not ANY.search(name) and not any(found):
             yield name
+    ends = sources()
+    yield from (name for name in SOURCE.findall(text)
+                if not ANY.search(name) and name not in ends | OF_OTHERS)
+
+
+@functools.cache
+def sources():
+    """The ends of the paths of all sources and scripts."""
+    folders = ("crates/*/src", "crates/*/specs", "crates/*/proofs", "docs", "examples", "package",
+               "tests", "tools")
+    paths = (path.relative_to(base.TOP) for folder in folders
+             for path in base.TOP.glob(f"{folder}/**/*.*"))
+    return {"/".join(path.parts[at:]) for path in paths for at in range(len(path.parts))}
 
 
 def words_of(crate):
@@ -69,7 +86,9 @@ def unknown(text, crate):
 
 class Links(unittest.TestCase):
     def test_documents(self):
-        texts = {base.TOP / name: (base.TOP / name).read_text() for name in [*DOCUMENTS, *PAGES]}
+        paths = [*map(base.TOP.joinpath, DOCUMENTS), *PAGES, *base.TOP.glob("package/*.md"),
+                 *base.TOP.glob("*/*/README.md")]
+        texts = {path: path.read_text() for path in paths}
         named = sum(len(LINK.findall(text)) + len(PATH.findall(text)) for text in texts.values())
         self.assertGreater(named, 100)
         wrong = [f"{path}: {name}" for path, text in texts.items() for name in broken(text, path)]
@@ -79,9 +98,48 @@ class Links(unittest.TestCase):
         path = base.TOP / "docs/manual.md"
         text = "# A Title, and more\n[a](#a-title-and-more) [b](#b) [c](nowhere.md) "
         text += "[d](proofs.md#promises) [e](proofs.md#promise)\n`tests/run NAME`, `tests/walk`, "
-        text += "`crates/*/specs`, `crates/NAME/src`, [f](https://a.b/c)\n"
-        wrong = ["#b", "nowhere.md", "proofs.md#promise", "tests/walk"]
+        text += "`crates/*/specs`, `crates/NAME/src`, [f](https://a.b/c), `rows/plain.rt`, "
+        text += "`rows/plane.rt`, `lain.rt`\n"
+        wrong = ["#b", "nowhere.md", "proofs.md#promise", "tests/walk", "rows/plane.rt", "lain.rt"]
         self.assertEqual(list(broken(text, path)), wrong)
+
+
+class PagesOnTheCode(unittest.TestCase):
+    """What pages on the code name is there: a function, a type, a constant, a word of a tool. One
+    that is named with its type, as `Profile::feed`, is in a source that has this type."""
+
+    PAGES = "docs/architecture.md", "docs/proofs.md", "docs/DECISIONS.md"
+    CODE = "crates/*/src/**/*.rt", "crates/*/specs/**/*.antt", "crates/*/proofs/**/*.antt"
+    OF_TOOLS = "tests/*", "tests/tools/*.py", "tools/**/*", "package/*", "Makefile"
+    # a name that stands for any, what is of other programs, and the prover's name of a method
+    OTHERS = {"test_NAME", "HashMap", "lscpu", "usbsize", "ListRowsListStore"}
+
+    def words(self, places):
+        """The words of each file, with those of its path."""
+        for path in (path for place in places for path in base.TOP.glob(place)):
+            if path.is_file() and path.suffix != ".md" and "out" not in path.parts and (
+                    path.name not in ("clauses", "promises", "test_links.py")):
+                text = f"{path.relative_to(base.TOP)} {path.read_text(errors='replace')}"
+                yield {*NAME.findall(text)}
+
+    def unknown(self, text, code, known):
+        for span in CODE.findall(FENCED.sub("", text)):
+            yield from (name for name in NAME.findall(span) if name not in known)
+            for owner, name in re.findall(r"\b([A-Z]\w+)::(\w\w+)", span):
+                of_owner = [words for words in code if owner in words]
+                if of_owner and not any(name in words for words in of_owner) and (
+                        owner not in self.OTHERS):
+                    yield f"{owner}::{name}"
+
+    def test_names(self):
+        code = [*self.words(self.CODE)]
+        known = set().union(self.OTHERS, *code, *self.words(self.OF_TOOLS))
+        wrong = [f"{page}: {name}" for page in self.PAGES
+                 for name in self.unknown((base.TOP / page).read_text(), code, known)]
+        self.assertEqual(wrong, [])
+        text = "`Profile::feed_batch`, `Profile::feed_bunch`, `MAX_LINE`, `Profile::read_number`"
+        wrong = ["feed_bunch", "Profile::feed_bunch", "Profile::read_number"]
+        self.assertEqual([*self.unknown(text, code, known)], wrong)
 
 
 class PagesForCallers(unittest.TestCase):

@@ -17,6 +17,7 @@ FAIL = {
     "row-is-missing": EMPTY + HEADER, "row-too-many": EMPTY + HEADER + ROW + ROW,
     "other-beginning": EMPTY + ">^ sets,\n", "no-such-line": EMPTY + ">~ 0,0,0,0,0\n",
     "output-not-mentioned": EMPTY, "status": FAULT + "! cachesim: --size: bad value\n",
+    "other-status": FAULT + "! cachesim: --size: bad value\n? 1\n",
     "fault-not-mentioned": FAULT + "? 2\n", "whole-beside-a-line": EMPTY + ">~ ,0,0,0\n" + HEADER,
     "no-command": "> x\n", "no-such-mark": EMPTY + "% x\n",
     "text-for-a-folder": EMPTY + HEADER + ROW + "@ folder/\n< x\n",

@@ -42,3 +42,11 @@ class Scripts(base.ToolTest):
         ran = self.run_command(self.folder / "tests/spec-names")
         told = "FAILED half: defined in low.One and low.Other\n1 passed, 1 failed\n"
         self.assertEqual((ran.stdout.decode(), ran.returncode), (told, 1))
+
+    def test_from_which_growth_a_test_passes(self):
+        """By refusals-library: it is refused until then, and never again."""
+        least = base.script("refusals-library").least
+        for answers, growth in ((["ok"], 1), (["refused", "refused", "ok", "ok"], 3),
+                                (["refused", "ok", "refused"], None), (["ok", "refused"], None),
+                                (["refused", "a fault", "ok"], None)):
+            self.assertEqual(least(answers), growth, answers)

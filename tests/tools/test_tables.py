@@ -213,6 +213,17 @@ class Examples(unittest.TestCase):
             self.assertEqual(collections.Counter(line.split()[0] for line in lines), told, name)
 
 
+    def test_what_the_small_program_does(self):
+        """As often as its page tells it fetches, reads and writes, by what Valgrind wrote."""
+        text = " ".join((base.EXAMPLES / "formats/README.md").read_text().split())
+        told = re.search(r"executes (\d+) instructions, reads (\d+) times and writes (\d+) times",
+                         text)
+        lines = (base.EXAMPLES / "formats/lackey.txt").read_text().splitlines()
+        kinds = collections.Counter(line.split()[0] for line in lines if line[:1] in (" ", "I"))
+        wanted = [sum(kinds[kind] for kind in kinds_of) for kinds_of in ("I", "LM", "SM")]
+        self.assertEqual([int(count) for count in told.groups()], wanted)
+
+
 class Scripts(base.ToolTest):
     def test_arguments_of_tools(self):
         """What a table tells of a tool's arguments is in the usage of its help."""

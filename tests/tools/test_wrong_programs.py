@@ -13,6 +13,7 @@ import re
 import subprocess
 import unittest
 from concurrent.futures import ThreadPoolExecutor
+from unittest import mock
 
 import base
 import common
@@ -124,14 +125,17 @@ class Fuzz(Wrong):
         variety.high = 1000
         variety.stood.update(dict.fromkeys(thresholds.PLACES, 2))
         variety.stood.update(dict.fromkeys(thresholds.KINDS, 4))
+        variety.letters.update(dict.fromkeys(fuzz.LETTERS_OF, 500))
         with contextlib.redirect_stdout(io.StringIO()) as told:
             variety.judge(total)
-            self.assertEqual((total.passed, total.failed), (5, 0))
+            self.assertEqual((total.passed, total.failed), (6, 0))
             variety.stood[thresholds.PLACES[0]] = 1
             variety.stood[thresholds.KINDS[0]] = 3
             variety.high = 800
+            variety.letters["walloc", "n"] = 499
             variety.judge(total)
-        self.assertEqual((total.passed, total.failed), (7, 3))
+        self.assertEqual((total.passed, total.failed), (8, 4))
+        self.assertIn("[('walloc', 'n')]", told.getvalue())
         self.assertIn("[('sweep', 'ways', 11)]", told.getvalue())
         self.assertIn("[('sweep', 'step', 1)]", told.getvalue())
 
@@ -361,6 +365,19 @@ class Judging(unittest.TestCase):
             seconds = self.of_runs(here, 1.0)
             got = self.judged("in_ratio", ("run", b""), ("other", b""), 2, seconds=seconds)
             self.assertEqual(got, is_right, here)
+
+    def test_a_refusal_that_changes_nothing(self):
+        """It is right only where a library looks for a similar word, and only of a single call."""
+        refusals = base.script("refusals")
+
+        def run(_program, _variables, _arguments, at, _after=False):
+            return (b"the same", b"", 0), at in (1, 2)
+
+        with mock.patch.object(refusals, "run", run):
+            for name, after in itertools.product(refusals.RUNS, (False, True)):
+                _, wrong, least = refusals.refuse_each("program", {}, name, after)
+                is_harmless = name in refusals.LOOK_FOR_SIMILAR_WORDS and not after
+                self.assertEqual((len(wrong), least), (0 if is_harmless else 2, 3), (name, after))
 
 
 if __name__ == "__main__":
