@@ -11,5 +11,4 @@ pub mod IndexedPopping
 pub mod IndexedVisit
 pub mod IndexedFront
 pub mod IndexedAccess
-pub mod IndexedHeld
 pub mod IndexedEmpty

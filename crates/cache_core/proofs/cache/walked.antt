@@ -1,3 +1,2 @@
 pub mod SearchLaw
 pub mod SlabFlush
-pub mod SlabHit

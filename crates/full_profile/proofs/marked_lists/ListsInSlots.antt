@@ -21,7 +21,7 @@ use Rattle.full_profile.specs.internal.Marked.{Marked, blocks_in, cleans_in, cle
 use Rattle.full_profile.specs.internal.Marked.{marked_touch_of, empty_marked, without_list}
 use Rattle.full_profile.proofs.marked_lists.Emptying.{blank_of}
 use Rattle.full_profile.specs.internal.Slotted.{IsInSlots, AreSlotted, blocks_behind, cleans_behind}
-use Rattle.full_profile.specs.internal.Slotted.{listed_blocks, listed_cleans, no_list, list_at}
+use Rattle.full_profile.specs.internal.Slotted.{listed_blocks, listed_cleans, no_list, list_in}
 use Rattle.full_profile.specs.internal.Slotted.{all_blocks, all_cleans}
 use Rattle.full_profile.proofs.marked_lists.Parts.{length-rows, rows_at, rows_put, rows_same}
 
@@ -73,7 +73,7 @@ pub set_count : (d : ℕ) (fronts cleans : List ℕ) (lists : List ListSlots) {m
   cleans = all_cleans cleans lists;
 } ≡ m → length lists ≡ length m.blocks
 set_count d fronts cleans lists seen =
-    sym (length-rows (length lists) (λ i. listed_blocks (get_or fronts i 0) (list_at lists i)))
+    sym (length-rows (length lists) (λ i. listed_blocks (get_or fronts i 0) (list_in lists i)))
     ∙ ap (λ v. length v.blocks) seen
 
 -- the first of a list that is not empty, or 0
@@ -99,29 +99,29 @@ module _ {d k : ℕ} {fronts cleans : List ℕ} {lists : List ListSlots} {m : Ma
   pub depth_is : d ≡ m.depth
   depth_is = ap (λ v. v.depth) h.seen
 
-  pub in_slots : IsInSlots (list_at lists k)
+  pub in_slots : IsInSlots (list_in lists k)
   in_slots = h.sound.sound k within
 
-  pub blocks_are : blocks_in m k ≡ listed_blocks (get_or fronts k 0) (list_at lists k)
+  pub blocks_are : blocks_in m k ≡ listed_blocks (get_or fronts k 0) (list_in lists k)
   blocks_are = ap (λ v. blocks_in v k) (sym h.seen) ∙ rows_at (length lists) k
-      (λ i. listed_blocks (get_or fronts i 0) (list_at lists i)) within
+      (λ i. listed_blocks (get_or fronts i 0) (list_in lists i)) within
 
-  pub cleans_are : cleans_in m k ≡ listed_cleans (get_or cleans k 0) (list_at lists k)
+  pub cleans_are : cleans_in m k ≡ listed_cleans (get_or cleans k 0) (list_in lists k)
   cleans_are = ap (λ v. cleans_in v k) (sym h.seen) ∙ rows_at (length lists) k
-      (λ i. listed_cleans (get_or cleans i 0) (list_at lists i)) within
+      (λ i. listed_cleans (get_or cleans i 0) (list_in lists i)) within
 
-  pub blocks_size : length (blocks_in m k) ≡ (list_at lists k).len
-  blocks_size = ap length blocks_are ∙ length-take-le (list_at lists k).len
-      (get_or fronts k 0 ∷ blocks_behind (list_at lists k))
+  pub blocks_size : length (blocks_in m k) ≡ (list_in lists k).len
+  blocks_size = ap length blocks_are ∙ length-take-le (list_in lists k).len
+      (get_or fronts k 0 ∷ blocks_behind (list_in lists k))
       (omega (arith, blocks_behind_long in_slots, h.sound.short k, h.sound.most))
 
-  pub cleans_size : length (cleans_in m k) ≡ (list_at lists k).len
-  cleans_size = ap length cleans_are ∙ length-take-le (list_at lists k).len
-      (get_or cleans k 0 ∷ cleans_behind (list_at lists k))
+  pub cleans_size : length (cleans_in m k) ≡ (list_in lists k).len
+  cleans_size = ap length cleans_are ∙ length-take-le (list_in lists k).len
+      (get_or cleans k 0 ∷ cleans_behind (list_in lists k))
       (omega (arith, cleans_behind_long in_slots, h.sound.short k, h.sound.most))
 
   -- what is read of it
-  pub list_read : {l : ListSlots} → l ≡ get_or lists k l → l ≡ list_at lists k
+  pub list_read : {l : ListSlots} → l ≡ get_or lists k l → l ≡ list_in lists k
   list_read {l} read = get_or_read lists k l within read no_list
 
   pub front_read : {x : ℕ} → x ≡ get_or fronts k x → x ≡ get_or fronts k 0
@@ -145,12 +145,12 @@ module _ {d k : ℕ} {fronts cleans : List ℕ} {lists : List ListSlots} {m : Ma
       ∙ ap (listed_cleans (get_or cleans k 0)) (list_read read) ∙ sym cleans_are
 
   pub first_block : get_or fronts k 0 ≡ get_or (blocks_in m k) 0 0
-  first_block = first_of (list_at lists k).len (get_or fronts k 0)
-      (blocks_behind (list_at lists k)) (h.sound.blank k) ∙ ap (λ l. get_or l 0 0) (sym blocks_are)
+  first_block = first_of (list_in lists k).len (get_or fronts k 0)
+      (blocks_behind (list_in lists k)) (h.sound.blank k) ∙ ap (λ l. get_or l 0 0) (sym blocks_are)
 
   pub first_clean : 0 < length (blocks_in m k) → get_or cleans k 0 ≡ get_or (cleans_in m k) 0 0
-  first_clean some = first_of (list_at lists k).len (get_or cleans k 0)
-      (cleans_behind (list_at lists k)) (λ none. absurd (omega (arith, none, some, blocks_size)))
+  first_clean some = first_of (list_in lists k).len (get_or cleans k 0)
+      (cleans_behind (list_in lists k)) (λ none. absurd (omega (arith, none, some, blocks_size)))
       ∙ ap (λ l. get_or l 0 0) (sym cleans_are)
 
   -- the lists as new arrays have them
@@ -181,15 +181,15 @@ module _ {d k : ℕ} {fronts cleans : List ℕ} {lists : List ListSlots} {m : Ma
     cleans = all_cleans (set cleans k x) lists;
   } ≡ record m { cleans = set m.cleans k (set (cleans_in m k) 0 x) }
   clean_written x =
-      let l = list_at lists k in
-      let row = λ (cs : List ℕ) (i : ℕ). listed_cleans (get_or cs i 0) (list_at lists i) in
+      let l = list_in lists k in
+      let row = λ (cs : List ℕ) (i : ℕ). listed_cleans (get_or cs i 0) (list_in lists i) in
       ap (λ ls. record { depth = d; blocks = all_blocks fronts lists; cleans = ls })
       (rows_put (length lists) k (row cleans) (row (set cleans k x)) (set (cleans_in m k) 0 x)
       within
       (ap (λ c. listed_cleans c l) (get_or-set_same cleans k x 0 clean_within)
       ∙ first_set l.len (get_or cleans k 0) x (cleans_behind l)
       ∙ ap (λ ls. set ls 0 x) (sym cleans_are))
-      (λ j other. ap (λ c. listed_cleans c (list_at lists j))
+      (λ j other. ap (λ c. listed_cleans c (list_in lists j))
       (get_or-set_other cleans k j x 0 other)))
       ∙ ap (λ (v : Marked). record v { cleans = set v.cleans k (set (cleans_in m k) 0 x) }) h.seen
 
@@ -236,30 +236,30 @@ module _ {d k : ℕ} {fronts cleans : List ℕ} {lists : List ListSlots} {m : Ma
         } ≡ record m { blocks = set m.blocks k new; cleans = set m.cleans k clean_new }
     put_lists new clean_new is clean_is =
         let row = λ (fs : List ℕ) (ls : List ListSlots) (i : ℕ).
-        listed_blocks (get_or fs i 0) (list_at ls i) in
+        listed_blocks (get_or fs i 0) (list_in ls i) in
         let clean_row = λ (cs : List ℕ) (ls : List ListSlots) (i : ℕ).
-        listed_cleans (get_or cs i 0) (list_at ls i) in
-        let there : list_at (set lists k l) k ≡ l = get_or-set_same lists k l no_list within in
-        let elsewhere : (j : ℕ) → (j ≡ k → ⊥) → list_at (set lists k l) j ≡ list_at lists j =
+        listed_cleans (get_or cs i 0) (list_in ls i) in
+        let there : list_in (set lists k l) k ≡ l = get_or-set_same lists k l no_list within in
+        let elsewhere : (j : ℕ) → (j ≡ k → ⊥) → list_in (set lists k l) j ≡ list_in lists j =
         λ j other. get_or-set_other lists k j l no_list other in
         lists_written (set fronts k front) (set cleans k clean) (set lists k l) new clean_new
         (ap (λ n. rows_by_set n (row (set fronts k front) (set lists k l))) (length-set lists k l)
         ∙ rows_put (length lists) k (row fronts lists) (row (set fronts k front) (set lists k l))
         new within
-        (ap (λ f. listed_blocks f (list_at (set lists k l) k))
+        (ap (λ f. listed_blocks f (list_in (set lists k l) k))
         (get_or-set_same fronts k front 0 front_within)
         ∙ ap (listed_blocks front) there ∙ is)
-        (λ j other. ap (λ f. listed_blocks f (list_at (set lists k l) j))
+        (λ j other. ap (λ f. listed_blocks f (list_in (set lists k l) j))
         (get_or-set_other fronts k j front 0 other)
         ∙ ap (listed_blocks (get_or fronts j 0)) (elsewhere j other)))
         (ap (λ n. rows_by_set n (clean_row (set cleans k clean) (set lists k l)))
         (length-set lists k l)
         ∙ rows_put (length lists) k (clean_row cleans lists)
         (clean_row (set cleans k clean) (set lists k l)) clean_new within
-        (ap (λ c. listed_cleans c (list_at (set lists k l) k))
+        (ap (λ c. listed_cleans c (list_in (set lists k l) k))
         (get_or-set_same cleans k clean 0 clean_within)
         ∙ ap (listed_cleans clean) there ∙ clean_is)
-        (λ j other. ap (λ c. listed_cleans c (list_at (set lists k l) j))
+        (λ j other. ap (λ c. listed_cleans c (list_in (set lists k l) j))
         (get_or-set_other cleans k j clean 0 other)
         ∙ ap (listed_cleans (get_or cleans j 0)) (elsewhere j other)))
 
@@ -313,7 +313,7 @@ module _ (d m : ℕ) (fronts cleans : List ℕ) (lists : List ListSlots)
   count : length lists ≡ m
   count = ap length none ∙ length-replicate m EMPTY
 
-  empty_at : (k : ℕ) → k < m → list_at lists k ≡ EMPTY
+  empty_at : (k : ℕ) → k < m → list_in lists k ≡ EMPTY
   empty_at k lt = ap (λ ls. get_or ls k no_list) none ∙ get_or-replicate m k EMPTY no_list lt
 
   pub new_sound : 2 ≤ d → d ≤ 16 → m ≤ 2 ^ 22 → AreSlotted d fronts cleans lists
@@ -324,7 +324,7 @@ module _ (d m : ℕ) (fronts cleans : List ℕ) (lists : List ListSlots)
     fronts_len = ap length no_fronts ∙ length-replicate m 0 ∙ sym count;
     cleans_len = ap length no_cleans ∙ length-replicate m 0 ∙ sym count;
     sound = λ k lt. subst IsInSlots (sym (empty_at k (omega (arith, lt, count)))) empty_in_slots;
-    short = λ k. omega (arith, ap (λ ls. (list_at ls k).len) none, empty_len m k);
+    short = λ k. omega (arith, ap (λ ls. (list_in ls k).len) none, empty_len m k);
     blank = λ k _. ap (λ fs. get_or fs k 0) no_fronts ∙ all_same m k 0;
   }
 
@@ -342,10 +342,10 @@ module _ (d m : ℕ) (fronts cleans : List ℕ) (lists : List ListSlots)
       (λ k lt. each k (omega (arith, lt, count))
       ∙ sym (get_or-replicate m k [] [] (omega (arith, lt, count)))) in
       ap (λ (ls : List (List ℕ)). lists_of ls (all_cleans cleans lists))
-      (rows (λ i. listed_blocks (get_or fronts i 0) (list_at lists i))
+      (rows (λ i. listed_blocks (get_or fronts i 0) (list_in lists i))
       (λ k lt. ap (listed_blocks (get_or fronts k 0)) (empty_at k lt)))
       ∙ ap (λ (ls : List (List ℕ)). lists_of (replicate m []) ls)
-      (rows (λ i. listed_cleans (get_or cleans i 0) (list_at lists i))
+      (rows (λ i. listed_cleans (get_or cleans i 0) (list_in lists i))
       (λ k lt. ap (listed_cleans (get_or cleans k 0)) (empty_at k lt)))
 
 -- a list that begins with a block

@@ -26,7 +26,7 @@ use Rattle.full_profile.specs.State.{clean_in_front}
 use Rattle.full_profile.specs.internal.Marked.{Marked, AreAlike, blocks_in, cleans_in}
 use Rattle.full_profile.specs.internal.Marked.{after_access, after_mark_in_front, without_list}
 use Rattle.full_profile.specs.internal.Marked.{empty_marked}
-use Rattle.full_profile.specs.internal.LongMarked.{whole_cleans, whole_marked, values_of, AreLong}
+use Rattle.full_profile.specs.internal.LongMarked.{whole_cleans, whole_marked, values_of, InParts}
 use Rattle.full_profile.specs.internal.Sound.{plain_lists}
 use Rattle.full_profile.proofs.marked_lists.Touching.{same_size}
 use Rattle.full_profile.proofs.marked_lists.TwoParts.{set_twice, front_set}
@@ -52,18 +52,18 @@ cleans-set (ys ∷ near) (e ∷ far) (suc k) xs d lt within =
 -- what is known of set k's list where it is asked for
 pub record HasMarked (near : Marked) (beyond : ℕ) (far : List (Deep ℕ)) (k : ℕ)
     (m : Marked) : Type 0 where
-  pub sound : AreLong near beyond far
+  pub sound : InParts near beyond far
   pub seen : whole_marked near beyond far ≡ m
   pub is_set : k < length m.blocks
 
 pub known : {near : Marked} {beyond : ℕ} {far : List (Deep ℕ)} {k : ℕ} {m : Marked} →
-    AreLong near beyond far → whole_marked near beyond far ≡ m → k < length m.blocks →
+    InParts near beyond far → whole_marked near beyond far ≡ m → k < length m.blocks →
     HasMarked near beyond far k m
 known sound seen is_set = record { sound = sound; seen = seen; is_set = is_set }
 
 -- the lists once a list was written anew
 pub record IsWritten (near : Marked) (beyond : ℕ) (far : List (Deep ℕ)) (m : Marked) : Type 0 where
-  pub sound : AreLong near beyond far
+  pub sound : InParts near beyond far
   pub seen : whole_marked near beyond far ≡ m
 
 module _ {near : Marked} {beyond : ℕ} {far : List (Deep ℕ)} {k : ℕ} {m : Marked}
@@ -268,12 +268,12 @@ module _ (near : Marked) (sets beyond : ℕ) (far : List (Deep ℕ))
   none = replicate sets (empty_list ℕ beyond)
 
   pub new_long : 1 ≤ beyond → 64 + beyond ≤ 2 ^ 22 → sets * (64 + beyond) ≤ 2 ^ 22 →
-      AreLong near beyond far
+      InParts near beyond far
   new_long some short small =
       let count : length none ≡ sets = length-replicate sets (empty_list ℕ beyond) in
       let set_count : length (replicate {A = List ℕ} sets []) ≡ sets = length-replicate sets [] in
-      subst (λ n. AreLong n beyond far) (sym near_is)
-      (subst (λ f. AreLong (empty_marked sets 64) beyond f) (sym far_is) (record {
+      subst (λ n. InParts n beyond far) (sym near_is)
+      (subst (λ f. InParts (empty_marked sets 64) beyond f) (sym far_is) (record {
         split = split_none (plain_lists (empty_marked sets 64)) beyond sets none refl
             (empty_rest ℕ sets beyond)
             (λ k lt. ap (λ d. d.cap) (get_or-replicate sets k (empty_list ℕ beyond) nothing
@@ -309,7 +309,7 @@ length-cleans (xs ∷ near) [] = refl
 length-cleans (xs ∷ near) (d ∷ far) = ap suc (length-cleans near far)
 
 -- as many clean depths as blocks
-pub whole_alike : {near : Marked} {beyond : ℕ} {far : List (Deep ℕ)} → AreLong near beyond far →
+pub whole_alike : {near : Marked} {beyond : ℕ} {far : List (Deep ℕ)} → InParts near beyond far →
     AreAlike (whole_marked near beyond far)
 whole_alike {near} {beyond} {far} s = record {
   set_count = length-cleans near.cleans far ∙ s.alike.set_count
@@ -333,7 +333,7 @@ whole_alike {near} {beyond} {far} s = record {
   ];
 }
 
-pub whole_count : {near : Marked} {beyond : ℕ} {far : List (Deep ℕ)} → AreLong near beyond far →
+pub whole_count : {near : Marked} {beyond : ℕ} {far : List (Deep ℕ)} → InParts near beyond far →
     length (whole_lists near.blocks far) ≡ length far
 whole_count {near} {beyond} {far} s = length-joined near.blocks far ∙ sym s.split.far_len
 

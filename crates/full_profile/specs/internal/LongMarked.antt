@@ -53,7 +53,7 @@ IsWithin depth (New held) = Unit {0}
 IsWithin depth (Full clean) = Unit {0}
 
 -- the invariant: behind each row is a list, which has blocks only if the row is full
-pub record AreLong (near : Marked) (beyond : ℕ) (far : List (Deep ℕ)) : Type 0 where
+pub record InParts (near : Marked) (beyond : ℕ) (far : List (Deep ℕ)) : Type 0 where
   pub split : AreSplit (plain_lists near) beyond far
   pub some : 1 ≤ beyond
   pub small : near.depth + beyond ≤ 2 ^ 22

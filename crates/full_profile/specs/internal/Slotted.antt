@@ -29,17 +29,17 @@ abbrev pub no_list : ListSlots
 no_list = record { slots = record { marks = []; order = []; numbers = [] }; cleans = []; len = 0 }
 
 -- the slots of a set
-abbrev pub list_at : List ListSlots → ℕ → ListSlots
-list_at lists set = slice_index_or lists set no_list
+abbrev pub list_in : List ListSlots → ℕ → ListSlots
+list_in lists set = slice_index_or lists set no_list
 
 -- the lists of all sets
 abbrev pub all_blocks : List ℕ → List ListSlots → List (List ℕ)
 all_blocks fronts lists = rows_by_set (length lists)
-    (λ set. listed_blocks (slice_index fronts set) (list_at lists set))
+    (λ set. listed_blocks (slice_index fronts set) (list_in lists set))
 
 abbrev pub all_cleans : List ℕ → List ListSlots → List (List ℕ)
 all_cleans cleans lists = rows_by_set (length lists)
-    (λ set. listed_cleans (slice_index cleans set) (list_at lists set))
+    (λ set. listed_cleans (slice_index cleans set) (list_in lists set))
 
 -- the invariant: the front of an empty list is 0
 pub record AreSlotted (depth : ℕ) (fronts cleans : List ℕ)
@@ -49,6 +49,6 @@ pub record AreSlotted (depth : ℕ) (fronts cleans : List ℕ)
   pub few : length lists ≤ 2 ^ 22
   pub fronts_len : length fronts ≡ length lists
   pub cleans_len : length cleans ≡ length lists
-  pub sound : (set : ℕ) → set < length lists → IsInSlots (list_at lists set)
-  pub short : (set : ℕ) → (list_at lists set).len ≤ depth
-  pub blank : (set : ℕ) → (list_at lists set).len ≡ 0 → slice_index fronts set ≡ 0
+  pub sound : (set : ℕ) → set < length lists → IsInSlots (list_in lists set)
+  pub short : (set : ℕ) → (list_in lists set).len ≤ depth
+  pub blank : (set : ℕ) → (list_in lists set).len ≡ 0 → slice_index fronts set ≡ 0

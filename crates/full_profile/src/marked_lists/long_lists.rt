@@ -36,13 +36,13 @@ pub struct LongLists {
 
 impl Model for LongLists {
     ghost use Rattle.full_profile.specs.internal.Marked.{Marked};
-    ghost use Rattle.full_profile.specs.internal.LongMarked.{whole_marked, AreLong};
+    ghost use Rattle.full_profile.specs.internal.LongMarked.{whole_marked, InParts};
 
     ghost Value = { Marked };
 
     ghost view = { λ l. whole_marked l.near l.beyond l.far.items };
 
-    ghost invariant = { λ l. AreLong l.near l.beyond l.far.items };
+    ghost invariant = { λ l. InParts l.near l.beyond l.far.items };
 }
 
 impl LongLists {

@@ -7,7 +7,7 @@ use Rattle.cache_core.specs.system.Systems.{events_for}
 use Rattle.cache_core.proofs.system.FirstLevelLaw.{unified_takes, fetch_cache_takes}
 use Rattle.cache_core.proofs.system.FirstLevelLaw.{data_cache_takes}
 use Rattle.cache_core.proofs.system.Observed.{is_planned, seen_unified, seen_fetch, seen_data}
-use Rattle.cache_core.proofs.system.first_level.miss_first_level.Goals as goal
+use Rattle.cache_core.proofs.system.first_level.Goals as goal
 
 pub returns-in-L1U-clause-seen : goal.returns-in-L1U-clause-seen
 returns-in-L1U-clause-seen g c = λ plan seed events good i d u.
@@ -16,7 +16,7 @@ returns-in-L1U-clause-seen g c = λ plan seed events good i d u.
     let seen = ap (λ n. cache_arrivals seed n plan.u (events_for L1U events) ref) c.in-L1U.is ∙
     seen_unified plan seed events ref good (is_planned seed plan.u _ c.args.u.now u ∙ there) in
     subst (λ (xs : List Arrival). Saw g.O.Observer.has_seen c.args.observer.now xs
-    c.miss_first.new.observer) seen (c.miss_first.ensures.seen seed plan.u _ good.u u)
+    c.access_first.new.observer) seen (c.access_first.ensures.seen seed plan.u _ good.u u)
 
 pub returns-in-L1I-clause-seen : goal.returns-in-L1I-clause-seen
 returns-in-L1I-clause-seen g c = λ plan seed events good i d u.
@@ -26,8 +26,8 @@ returns-in-L1I-clause-seen g c = λ plan seed events good i d u.
     seen_fetch plan seed events ref good (is_planned seed plan.u _ c.args.u.now u ∙ takes.0)
     takes.1 in
     subst (λ (xs : List Arrival). Saw g.O.Observer.has_seen c.args.observer.now xs
-    c.miss_first-in-L1I.new.observer) seen
-    (c.miss_first-in-L1I.ensures.seen seed plan.i _ good.i i)
+    c.access_first-in-L1I.new.observer) seen
+    (c.access_first-in-L1I.ensures.seen seed plan.i _ good.i i)
 
 pub returns-in_default-clause-seen : goal.returns-in_default-clause-seen
 returns-in_default-clause-seen g c = λ plan seed events good i d u.
@@ -38,5 +38,5 @@ returns-in_default-clause-seen g c = λ plan seed events good i d u.
     seen_data plan seed events ref good (is_planned seed plan.u _ c.args.u.now u ∙ takes.0)
     takes.1 in
     subst (λ (xs : List Arrival). Saw g.O.Observer.has_seen c.args.observer.now xs
-    c.miss_first-in_default.new.observer) seen
-    (c.miss_first-in_default.ensures.seen seed plan.d _ good.d d)
+    c.access_first-in_default.new.observer) seen
+    (c.access_first-in_default.ensures.seen seed plan.d _ good.d d)

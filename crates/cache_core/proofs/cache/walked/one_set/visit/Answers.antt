@@ -1,8 +1,8 @@
--- The addresses of the slots fit after a miss, and so does that of the slot that left.
+-- The addresses of the slots fit after a visit, and so does that of the slot that left.
 use Rattle.std.proofs.Common.{arith}
 use Rattle.std.proofs.lemmas.List.{take_min}
 use Rattle.cache_core.proofs.replacement.Addresses.{victim_fits, placed_fits}
-use Rattle.cache_core.proofs.cache.walked.one_set.miss.Goals as goal
+use Rattle.cache_core.proofs.cache.walked.one_set.visit.Goals as goal
 
 pub placing_outcome-outcome-requires-clause-victim :
     goal.placing_outcome-outcome-requires-clause-victim

@@ -16,7 +16,7 @@ use Rattle.cache_core.specs.declared.system.system_cache.SystemCache.{SystemCach
 use Rattle.cache_core.specs.internal.system.CacheSteps.{Enters}
 use Rattle.cache_core.specs.internal.cache.Order.{hit_in_front}
 use Rattle.cache_core.specs.internal.system.SystemSteps.{AccessesFirst, nothing_down}
-use Rattle.cache_core.proofs.system.first_level.access_first_in_front.Goals as goal
+use Rattle.cache_core.proofs.system.access_first_in_front.Goals as goal
 
 held : (b : Bool) (cache : Option SystemCache) (old new : SystemCache) (ref : Ref) →
     cache ≡ Some old →

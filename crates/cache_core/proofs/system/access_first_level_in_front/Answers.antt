@@ -7,7 +7,7 @@ use Rattle.cache_core.specs.system.Systems.{events_for}
 use Rattle.cache_core.proofs.system.FirstLevelLaw.{unified_takes, fetch_cache_takes}
 use Rattle.cache_core.proofs.system.FirstLevelLaw.{data_cache_takes}
 use Rattle.cache_core.proofs.system.Observed.{is_planned, seen_unified, seen_fetch, seen_data}
-use Rattle.cache_core.proofs.system.first_level.access_first_level_in_front.Goals as goal
+use Rattle.cache_core.proofs.system.access_first_level_in_front.Goals as goal
 
 pub returns-in-L1U-clause-seen : goal.returns-in-L1U-clause-seen
 returns-in-L1U-clause-seen c = λ hit plan seed events good i d u.
