@@ -185,16 +185,6 @@ fact("examples/README.md", rf"by merging: {NUMBER} reads, {NUMBER} writes, {NUMB
      lambda: [f"{held('sort.din').count(it):,}" for it in "012"])
 
 
-def of_lab():
-    """The caches and the traces by which a student's program is judged."""
-    caches = shown("tools/lab/parts/grading.py", r'CACHES = \("([^)]*)"\)')[0].split()
-    code = (common.TOP / "tools/lab/parts/traces.py").read_text()
-    return [f"{sum(',' in cache for cache in caches)}", WORDS[len(re.findall('yield "', code))]]
-
-
-fact("tools/lab/README.md", r"The cases are (\d+) caches on each of (\w+) traces", of_lab)
-
-
 def pictured():
     with open(common.TOP / "docs/pictures/sort.csv", newline="", encoding="ascii") as file:
         rows = list(csv.DictReader(file))

@@ -196,26 +196,26 @@ class Sentences(base.ToolTest):
     ONE = "--bsize 16 --sets 1 --assoc 1 --size 16".split()
     # a sentence, and runs with a trace, with their status and what they write
     RUNS = {
-        "Labels 3 and 4 also need an address, which is ignored;": (
+        "Labels 3 and 4 also need an address, which is ignored.": (
             (["sweep", *ONE], b"3 f\n4 f\n", 0, "16,1,1,16,0,0,0\n"),
             (["sweep", *ONE], b"3\n", 1, "line 1: bad address"),
             (["sweep", *ONE], b"4\n", 1, "line 1: bad address")),
-        "Options come in any order, each at most once, with their names in full.": (
+        "Options come in any order, each at most once, with full names.": (
             (["sweep", *ONE[4:], *ONE[:4]], b"", 0, "16,1,1,16,0,0,0\n"),
             (["sweep", *ONE, "--size", "16"], b"", 2, "cannot be used multiple times"),
             (["sweep", *ONE, "--row", "1"], b"", 2, "unexpected argument '--row'")),
-        "A flush always takes effect": (
+        "a flush always takes effect": (
             (["sweep", *ONE, "--kind", "i"], b"2 0\n4 0\n2 0\n", 0, "16,1,1,16,0,2,0\n"),
             (["sweep", *ONE, "--kind", "d"], b"0 0\n4 0\n0 0\n", 0, "16,1,1,16,0,2,0\n")),
         "at most one of `k K m M g G`, for 2^10, 2^20 or 2^30:": (
             ("sweep --bsize 1m --sets 1k --assoc 1 --size 1g".split(), b"", 0,
              f"{2**20},{2**10},1,{2**30},0,0,0\n"),),
-        "lines per set, 1 by default; if the size is given, a power of two": (
+        "lines per set, 1 by default; with a size a power of two": (
             ("din -l1-usize 16 -l1-ubsize 16".split(), b"0 0\n0 10\n", 0, "evictions=1 "),
             ("din -l1-usize 48 -l1-ubsize 16 -l1-uassoc 3".split(), b"", 2, "l1-u: bad"),
             ("din -l1-usize 64 -l1-ubsize 16 -l1-uassoc 3".split(), b"", 2, "l1-u: bad geometry"),
             ("din -l1-usets 4 -l1-ubsize 16 -l1-uassoc 3".split(), b"", 0, "l1-u fetches=0 ")),
-        "`csim -v` and `log` have written the lines before it, without the summary (`hits:..`)": (
+        "`csim -v` and `log` have written the lines before, without the summary (`hits:..`)": (
             ("csim -v -s 0 -E 1 -b 4 -t /dev/stdin".split(), b" L 10,1\nx\n", 1, "L 10,1 miss\n$"),
             ("log -l1-usize 16 -l1-ubsize 16".split(), b"0 10\nx\n", 1,
              "l1-u 0 10 miss\nmemory 0 10\n$")),

@@ -21,10 +21,10 @@ WORD = re.compile(r"(--[A-Za-z][\w-]*|-l\d-\w+|-[a-z]+|-[A-Z])(?:=(.*))?")
 RUNS_ANOTHER = "trace", "profile", "lab-trace"
 # an option of Dinero IV, in the first column of a table of the manual
 OF_DINERO = re.compile(r"^`-.*?\| (?=.*\n)", re.M)
-# alone in the text, and of no command here: of Dinero IV, compilers, Valgrind and GNU parallel, and
-# how those of a cache begin
+# alone in the text, and of no command here: of Dinero IV, compilers, Valgrind and GNU parallel, how
+# those of a cache begin, and the name of a file
 OTHERS = {"-h", "--help", "-skipcount", "-l1-usbsize", "-static", "-march", "--log-file",
-          "--version", "--sshlogin", "-l1-d"}
+          "--version", "--sshlogin", "-l1-d", "-name"}
 
 
 def commands_in(code):
