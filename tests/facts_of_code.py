@@ -5,7 +5,7 @@ import re
 
 import common
 import limits_memory
-from facts import NUMBER, WORDS, constant, everywhere, fact, power
+from facts import NUMBER, constant, everywhere, fact, power
 
 
 def geometry(name):

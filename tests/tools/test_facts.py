@@ -212,7 +212,8 @@ class Sentences(base.ToolTest):
              f"{2**20},{2**10},1,{2**30},0,0,0\n"),),
         "lines per set, 1 by default; with a size a power of two": (
             ("din -l1-usize 16 -l1-ubsize 16".split(), b"0 0\n0 10\n", 0, "evictions=1 "),
-            ("din -l1-usize 48 -l1-ubsize 16 -l1-uassoc 3".split(), b"", 2, "l1-u: bad"),
+            ("din -l1-usize 48 -l1-ubsize 16 -l1-uassoc 3".split(), b"", 2,
+             "-l1-usize: bad value"),
             ("din -l1-usize 64 -l1-ubsize 16 -l1-uassoc 3".split(), b"", 2, "l1-u: bad geometry"),
             ("din -l1-usets 4 -l1-ubsize 16 -l1-uassoc 3".split(), b"", 0, "l1-u fetches=0 ")),
         "`csim -v` and `log` have written the lines before, without the summary (`hits:..`)": (
