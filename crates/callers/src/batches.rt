@@ -5,8 +5,10 @@ ghost use Rattle.profile_core.specs.profile.State.{fed_of};
 ghost use Rattle.profile_core.specs.profile.Fronts.{after_references};
 ghost use Rattle.profile_core.specs.profile.ProfileStandsFor.{ProfileStandsFor};
 
+use full_profile::FullProfile;
 use profile_core::laws::batch_with_its_fronts_is_all;
 use profile_core::{MAX_REFERENCES, Profile};
+use trace_core::Ref;
 
 /// Feeds a batch, and counts at once what found its block in front: the same as feeding each of its
 /// references alone.
@@ -65,4 +67,16 @@ pub fn feed_two_profiles(
     profile.feed_batch_with(next, second);
     profile.count_fronts(all - profile.fed());
     next.count_fronts(next_all - next.fed());
+}
+
+/// Feeds two batches to a full profile, and counts afterwards what was settled in both.
+pub fn feed_two_full_batches(profile: &mut FullProfile, first: &mut [Ref], second: &mut [Ref])
+    requires { fed_of profile.old.plain + length first.old + length second.old ≤ MAX_REFERENCES }
+    ensures { fed_of profile.new.plain
+        ≡ fed_of profile.old.plain + length first.old + length second.old }
+{
+    let first_fed = profile.feed_batch(first);
+    let second_fed = profile.feed_batch(second);
+    profile.count_settled((first.len() - first_fed) as u64);
+    profile.count_settled((second.len() - second_fed) as u64);
 }
