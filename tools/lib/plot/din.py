@@ -17,24 +17,40 @@ TEXTS = {"size": bytes_text, "sets": lambda sets: counted(sets, "set", short),
          "bsize": lambda size: f"blocks of {short(size)}", "assoc": ways_text}
 GLOBAL = "-global"  # in a column's name: misses by the references to the first level
 
-# a table that is drawn, the option on its horizontal axis, and its file
-View = namedtuple("View", "table across file")
+
+class View(namedtuple("View", "table across file")):
+    """A table that is drawn, whose cases have a value by each option, the option on its horizontal
+    axis, and its file."""
+
+    @property
+    def varied(self):
+        """The options of which there are several values."""
+        return [option for option in self.table.options if len(self.values(option)) > 1]
+
+    def values(self, option):
+        return {case.given[option] for case in self.table.cases}
+
+    def where(self, is_kept):
+        """That with some of the cases."""
+        cases = [*filter(is_kept, self.table.cases)]
+        return self._replace(table=self.table._replace(cases=cases))
+
+    def groups(self, options):
+        """The cases that share the values of some options, by these."""
+        found = {}
+        for case in self.table.cases:
+            found.setdefault(tuple(case.given[option] for option in options), []).append(case)
+        return found
 
 
-def varied(table):
-    """The options of which there are several values."""
-    return [option for at, option in enumerate(table.options)
-            if len({case.given[at] for case in table.cases}) > 1]
-
-
-def across_of(wanted, table, file):
+def across_of(wanted, view):
     """The option on the horizontal axis: the wanted one, else the last size or number that varies.
     """
-    numbers = [option for option in table.options if kind(option) in NUMBERS]
+    numbers = [option for option in view.table.options if kind(option) in NUMBERS]
     if wanted:
         return wanted if wanted in numbers else fail(
-            f"{file}: no option {wanted} with numbers; there are {', '.join(numbers)}")
-    among = varied(table) or table.options
+            f"{view.file}: no option {wanted} with numbers; there are {', '.join(numbers)}")
+    among = view.varied or view.table.options
     sizes, others = ([option for option in options if kind(option) in kinds] for options, kinds in (
         (among, ("size", "sets")), (among, NUMBERS)))
     return (sizes or others or [option for option in numbers if kind(option) in ACROSS])[-1]
@@ -42,154 +58,135 @@ def across_of(wanted, table, file):
 
 def measure_of(views):
     """How the measure is called. Where tables have other ones each, it is the miss ratio."""
-    table = views[0].table
+    measure, options = views[0].table.measure, views[0].table.options
     if len({view.table.measure for view in views}) > 1:
         return Measure()
-    if not table.measure.endswith("-percent"):
-        own = re.fullmatch("(l[12]-[diu])-(.*)", table.measure)
-        name = f"{own[2].replace('-', ' ')} of {own[1]}" if own else table.measure.replace("-", " ")
-        return Measure(name, name[0].upper() + name[1:], False)
-    own = table.measure.removesuffix("-percent")
-    caches = {cache(option) for option in table.options}
+    if not measure.endswith("-percent"):
+        own = re.fullmatch("(l[12]-[diu])-(.*)", measure)
+        return Measure(f"{own[2].replace('-', ' ')} of {own[1]}" if own else
+                       measure.replace("-", " "))
+    own = measure.removesuffix("-percent")
+    caches = {cache(option) for option in options}
     of = f" of {own.removesuffix(GLOBAL)}" if len(caches) > 1 else ""
     # that of a second level is by the references to this level or to the first
     is_local = own.startswith("l2-") and any(one.startswith("l1-") for one in caches)
     which = "global " if own.endswith(GLOBAL) else "local " * is_local
-    name = f"{which}miss ratio{of}"
-    return Measure(f"{name} in per cent", f"{name[0].upper()}{name[1:]}")
+    return Measure(f"{which}miss ratio{of} in per cent")
 
 
-def value_text(option, value, has_caches):
-    """A value as a legend has it, with its cache where there are several."""
-    word = kind(option)
-    text = WORDS[word].get(value, value) if word in WORDS else TEXTS[word](int(value))
-    return f"{cache(option)} {text}" if has_caches else text
+def label(given, options, has_caches):
+    """The values of some options as a legend has them, each with its cache where there are several.
+    Options that other tables have are empty."""
+    def text(option, value):
+        word = kind(option)
+        text = WORDS[word].get(value, value) if word in WORDS else TEXTS[word](int(value))
+        return f"{cache(option)} {text}" if has_caches else text
+
+    return ", ".join(text(option, given[option]) for option in options if given[option])
 
 
-def label(pairs, has_caches):
-    return ", ".join(value_text(*pair, has_caches) for pair in pairs if pair[1])
-
-
-def told(table, lines, has_caches, case):
-    """What is said of a case, and its label. Options that other tables have are empty."""
-    given = dict(zip(table.options, case.given))
-    texts = [f"{option} {value}" for option, value in given.items() if value]
-    return ("\n".join([*texts, f"size {case.size}"]),
-            label([(option, given[option]) for option in lines], has_caches))
+def told(options, has_caches, case):
+    """What is said of a case, and its label."""
+    texts = [f"{option} {value}" for option, value in case.given.items() if value]
+    return "\n".join([*texts, f"size {case.size}"]), label(case.given, options, has_caches)
 
 
 def points(cases, x, *about):
     """Some cases as points, each with the least and the greatest of several seeds that differ."""
-    for case in cases:
-        ends = float(min(case.values)), float(max(case.values))
-        yield Point(x(case), float(case.measured), functools.partial(told, *about, case),
-                    ends if ends[0] < ends[1] else ())
+    return [Point(x(case), float(case.measured), functools.partial(told, *about, case),
+                  tuple(map(float, (min(case.values), max(case.values))))
+                  if len({*case.values}) > 1 else ()) for case in cases]
 
 
-def fixed(asked, table, across, lines, file):
+def fixed(asked, view, lines):
     """The table with one associativity or block size where these are asked for, of the cache on the
-    horizontal axis, or where there would be too many lines; and the options that are fixed so, each
-    with its value."""
-    found = []
+    horizontal axis, or where there would be too many lines; and the values that are fixed so."""
+    found, across = {}, view.across
     for word, wanted, usual in (("assoc", asked.ways, 4), ("bsize", asked.bsize, 64)):
-        for option in [one for one in table.options if kind(one) == word and one != across]:
+        for option in [one for one in view.table.options if kind(one) == word and one != across]:
             is_asked = wanted is not None and cache(option) == cache(across)
-            if is_asked or (option in lines and len(groups(table, lines)) > MOST_LINES):
-                at = table.options.index(option)
-                values = sorted({int(case.given[at]) for case in table.cases})
+            if is_asked or option in lines and len(view.groups(lines)) > MOST_LINES:
+                values = sorted(map(int, view.values(option)))
                 value = wanted if is_asked else pictures.nearest(values, usual)
                 if value not in values:
-                    there = ", ".join(map(str, values))
-                    fail(f"{file}: no run has {option} {wanted}; there are {there}")
-                table = table._replace(cases=[case for case in table.cases
-                                              if int(case.given[at]) == value])
-                found.append((option, value))
-    return table, found
+                    fail(f"{view.file}: no run has {option} {wanted}; there are "
+                         f"{', '.join(map(str, values))}")
+                view = view.where(lambda case, at=option, value=value: int(case.given[at]) == value)
+                found[option] = value
+    return view, found
 
 
-def groups(table, lines):
-    """The cases of each line, by the values that they share."""
-    places = [table.options.index(option) for option in lines]
-    found = {}
-    for case in table.cases:
-        found.setdefault(tuple(case.given[at] for at in places), []).append(case)
-    return found
-
-
-def by_across(asked, view, measure):
-    """The measure by the option on the horizontal axis; a line for each value of the others that
-    change the measure: those of its own cache alone, if that is in level 1."""
-    table, across, file = view
-    at = table.options.index(across)
-    cases = [case for case in table.cases if case.given[at]]
-    if len(cases) < len(table.cases):
-        warn(f"{file}: {len(table.cases) - len(cases)} of {len(table.cases)} caches have no "
-             f"{across}, and are left out")
-        table = table._replace(cases=cases)
-    is_first = table.measure.startswith("l1-")
-    lines = [option for option in varied(table) if option != across
-             and (not is_first or table.measure.startswith(f"{cache(option)}-"))]
+def lines_of(asked, view):
+    """The measure by the option on the horizontal axis: a line for each value of the others that
+    change the measure, those of its own cache alone, if that is in level 1; what is fixed, and
+    whether there are several caches."""
+    across, own, some = view.across, view.table.measure, len(view.table.cases)
+    view = view.where(lambda case: case.given[across])
+    if len(view.table.cases) < some:
+        warn(f"{view.file}: {some - len(view.table.cases)} of {some} caches have no {across}, and "
+             "are left out")
+    lines = [option for option in view.varied if option != across
+             and (not own.startswith("l1-") or own.startswith(f"{cache(option)}-"))]
     has_caches = len({cache(option) for option in [across, *lines]}) > 1
-    table, values = fixed(asked, table, across, lines, file)
-    lines = [option for option in lines if option in varied(table)]
-    found, shown = groups(table, lines), []
-    for given in evenly(list(found)):
-        cases = {int(case.given[at]): case for case in reversed(found[given])}
-        shown.append(Line(label(zip(lines, given), has_caches), list(points(
-            [cases[x] for x in sorted(cases)], lambda case: int(case.given[at]),
-            table, lines, has_caches))))
-    what = ACROSS[kind(across)]
-    remarks = [label(values, has_caches)] * bool(values)
-    remarks += [f"{len(shown)} of {len(found)} lines"] * (len(shown) < len(found))
-    title = f"{measure.name} by {what.removesuffix(' in bytes')}"
-    title = ": ".join([title, *[", ".join(remarks)] * bool(remarks)])
-    return Picture("size", 0, title, what + f" ({cache(across)})" * has_caches, "", shown)
+    view, values = fixed(asked, view, lines)
+    lines = [option for option in lines if option in view.varied]
+    found = []
+    for cases in view.groups(lines).values():
+        first = {int(case.given[across]): case for case in reversed(cases)}
+        found.append(Line(label(cases[0].given, lines, has_caches), points(
+            [case for _, case in sorted(first.items())], lambda case: int(case.given[across]),
+            lines, has_caches)))
+    return found, label(values, values, has_caches), f" ({cache(across)})" * has_caches
 
 
-def by_front(table, measure):
+def by_across(asked, tables, views, measure):
+    """The picture of all lines of the tables. In a title is what is fixed in all of them."""
+    several = [lines_of(asked, view) for view in views]
+    values, caches = ({*each} for each in zip(*(rest for _, *rest in several)))
+    has_own = len({view.table.measure for view in views}) > 1
+    found = [line._replace(name=", ".join(filter(None, (
+        given.name + f" ({cache(view.across)})" * has_own, line.name))))
+        for given, view, (lines, *_) in zip(tables, views, several) for line in lines]
+    lines, what = evenly(found), ACROSS[kind(views[0].across)]
+    remarks = [*values] * (len(values) == 1 and values != {""})
+    remarks += [f"{len(lines)} of {len(found)} lines"] * (len(lines) < len(found))
+    title = ": ".join(filter(None, (f"{measure.name} by {what.removesuffix(' in bytes')}",
+                                    ", ".join(remarks))))
+    return Picture("size", 0, title, what + "".join(caches) * (len(caches) == 1), "", lines)
+
+
+def by_front(view, measure):
     """The cases of which none as small is as good, by the size of all caches, before all others."""
-    sizes = [option for option in table.options if kind(option) in ("size", "sets")]
-    lines = [option for option in varied(table) if kind(option) != "size" or len(sizes) > 1]
+    cases = view.table.cases
+    sizes = [option for option in view.table.options if kind(option) in ("size", "sets")]
+    lines = [option for option in view.varied if kind(option) != "size" or len(sizes) > 1]
     has_caches = len({cache(option) for option in lines}) > 1
-    every, front = (list(points(cases, lambda case: case.size, table, lines, has_caches))
-                    for cases in (table.cases, pareto(table.cases)))
+    every, front = (points(some, lambda case: case.size, lines, has_caches)
+                    for some in (cases, pareto(cases)))
     words = "size of all caches in bytes" if len(sizes) > 1 else pictures.SIZE
     return Picture("pareto", 0, measure.least, words, "",
                    pictures.front_of(every, front, "least up to this size"))
 
 
-def of_several(asked, tables, views, measure):
-    """The picture of several tables."""
-    drawn = [by_across(asked, view, measure) for view in views]
-    has_own = len({view.table.measure for view in views}) > 1
-    found = []
-    for given, view, picture in zip(tables, views, drawn):
-        name = given.name + f" ({cache(view.across)})" * has_own
-        found += [line._replace(name=", ".join(filter(None, (name, line.name))))
-                  for line in picture.lines]
-    lines = evenly(found)
-    remarks = [f"{len(lines)} of {len(found)} lines"] * (len(lines) < len(found))
-    titles, axes = ({getattr(picture, name) for picture in drawn} for name in ("title", "across"))
-    title = drawn[0].title if len(titles) == 1 else drawn[0].title.split(": ")[0]
-    across = drawn[0].across if len(axes) == 1 else ACROSS[kind(views[0].across)]
-    return drawn[0]._replace(title=": ".join([title, *remarks]), across=across, lines=lines)
-
-
 def read(asked, given, first=None):
     """A table with its measure and the option on its axis: those that are asked for, or of the
     first table, where this one has them; else its own, as of a split cache beside a unified one."""
-    table, columns = read_table(given.lines, given.shown), given.lines[0].strip().split(",")
-    as_first = first.across if first and first.across in table.options else None
-    across = across_of(asked.across or as_first, table, given.file)
+    def table_of(measure):
+        found = read_table(given.lines, given.shown, measure)
+        return found._replace(cases=[case._replace(given=dict(zip(found.options, case.given)))
+                                     for case in found.cases])
+
+    view, columns = View(table_of(None), "", given.file), given.lines[0].strip().split(",")
+    as_first = first.across if first and first.across in view.table.options else None
+    across = across_of(asked.across or as_first, view)
     if first and kind(across) != kind(first.across):
-        across_of(first.across, table, given.file)  # which fails
+        across_of(first.across, view)  # which fails
     # without a measure it is the miss ratio of the cache on the horizontal axis
     own = f"{cache(across)}-percent"
     measure = asked.measure or (own if own in columns else usual_measure(columns))
     if first and not asked.measure and first.table.measure in columns:
         measure = first.table.measure
-    if measure != table.measure:
-        table = read_table(given.lines, given.shown, measure)
+    table = view.table if measure == view.table.measure else table_of(measure)
     if table.left_out:
         warn(table.left_out)
     return View(table, across, given.file)
@@ -207,10 +204,8 @@ def drawn(asked, tables):
     runs = sum(len(case.values) for case in first.table.cases)
     counts = f"{counted(runs, 'run', '{:,}'.format)}, {first.table.references:,} references"
     if asked.only == "pareto" and len(tables) == 1:
-        return by_front(first.table, measure), measure, counts
+        return by_front(first, measure), measure, counts
     if asked.only not in (None, "size"):
         fail("several tables of din have the picture size alone" if len(tables) > 1 else
              f"{first.file}: a table of din has the pictures size and pareto")
-    picture = (of_several(asked, tables, views, measure) if len(tables) > 1
-               else by_across(asked, first, measure))
-    return picture, measure, counts
+    return by_across(asked, tables, views, measure), measure, counts

@@ -4,12 +4,9 @@ import os
 from collections import namedtuple
 
 from lib import costs, files, table, tool
-from lib.plot import din, kinds, pictures, sweep, text
+from lib.plot import din, pictures, sweep, text
 
 LONGEST = 24  # letters of a table's name in the legend
-
-# pictures with a measure of their own
-OWN = {"three-c": "misses by their kinds", "kinds": "misses by their kinds", "traffic": "traffic"}
 
 # a table: its file, its name in the legend, its lines, what faults call it, and its rows
 Given = namedtuple("Given", "file name lines shown rows", defaults=((),))
@@ -47,23 +44,21 @@ def write_file(out, data):
 def of_sweeps(asked, tables):
     """The pictures of tables of sweeps."""
     if asked.across:
-        tool.fail(f"{asked.tables[0]}: --across is for a table of din")
+        tool.fail(f"{asked.table}: --across is for a table of din")
     if len(tables) > 1 and asked.only not in (None, "size", "curve", "pareto"):
         tool.fail(f"several tables have the pictures size, curve, pareto, and not {asked.only}")
-    if asked.only in OWN and costs.column_of(asked) != "misses":
-        tool.fail(f"--only {asked.only} draws {OWN[asked.only]}, and no other measure")
-    if asked.only in kinds.MEASURES:
-        picture, offered, rows = kinds.drawn(asked, tables[0])
-        drawn, measure = [picture], kinds.MEASURES[asked.only]
-    else:
-        measure, offered = sweep.measure_of(asked), None
-        sweeps = sweep.Sweeps(asked, [sweep.with_rows(asked, one) for one in tables], measure)
-        drawn, rows = sweep.drawn(sweeps), sweeps.rows
-    if len(tables) == 1 and not rows[0].references:
+    if asked.only in sweep.OWN and costs.column_of(asked) != "misses":
+        tool.fail(f"--only {asked.only} draws {sweep.OWN[asked.only].what}, and no other measure")
+    sweeps = sweep.Sweeps(asked, [sweep.with_rows(asked, one) for one in tables],
+                          sweep.measure_of(asked))
+    rows, references = sweeps.rows, sweeps.rows[0].references
+    if len(tables) == 1 and not references:
         asked.title = f"{asked.title} (no references)".strip()
+    if asked.only == "kinds":
+        sweeps = sweeps.at("assoc")
     counts = pictures.counted(len(rows), "cache", "{:,}".format)
-    return Drawn(drawn, measure, f"{counts}, {rows[0].references:,} references",
-                 lambda picture: offered or sweep.choices(sweeps, picture))
+    return Drawn(sweep.drawn(sweeps), sweeps.measure, f"{counts}, {references:,} references",
+                 lambda picture: sweep.choices(sweeps, picture))
 
 
 def of_dins(asked, tables):

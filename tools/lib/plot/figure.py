@@ -32,6 +32,8 @@ os.environ.setdefault("OPENBLAS_NUM_THREADS", "1")  # which is said where there 
 is_named = "MPLCONFIGDIR" in os.environ
 try:
     import matplotlib
+    from matplotlib.artist import setp
+    from matplotlib.backends.backend_agg import FigureCanvasAgg
     from matplotlib.backends.backend_pgf import LatexError
     from matplotlib.figure import Figure
     from matplotlib.ticker import NullFormatter, NullLocator
@@ -49,6 +51,9 @@ DASHES = ("-", (0, (5, 2)), (0, (1, 1.5)), (0, (5, 1.5, 1, 1.5)), (0, (9, 3)), (
           (0, (5, 1.5, 1, 1.5, 1, 1.5)))
 LETTER, LINE = 0.6, 1.25  # the width of a letter and the height of a line, by the type's size
 LEAST = 36, 11  # letters and lines that a picture needs
+# of so many pictures the sides on a screen, the height by the width, and how many stand in each row
+SHEETS = ((860, 480), 0.56, [1]), ((920, 420), 0.46, [2]), ((920, 800), 0.87, [2, 1])
+PAPER = 7 * 96  # as broad as this
 # the first that has a letter draws it
 FONTS = ["DejaVu Sans", "Verdana", "Noto Sans CJK JP", "Droid Sans Fallback", "sans-serif"]
 # No setting of a user's changes a picture, and that of the same table is the same file.
@@ -60,10 +65,7 @@ LOOKS = {
     "axes.spines.top": False, "axes.spines.right": False, "axes.edgecolor": "#606060",
     "axes.grid": True, "axes.axisbelow": True, "grid.color": "#e4e4e4", "xtick.direction": "in",
     "ytick.direction": "in", "legend.frameon": False, "legend.labelspacing": 0.25}
-SCALED = ("lines.linewidth", "lines.markersize", "axes.linewidth", "grid.linewidth",
-          *(f"{axis}tick.{part}" for axis in "xy" for part in (
-              "major.size", "minor.size", "major.width", "minor.width", "major.pad")))
-UNDATED = {".svg": {"Date": None}, ".pdf": {"CreationDate": None}}
+SCALED = re.compile("(lines|axes|grid)[.]linewidth|lines[.]markersize|[xy]tick[.]m.*(size|width|pad)")
 # the letters that LaTeX takes for something else
 LATEX = {**{letter: f"\\{letter}" for letter in "#$%&_{}"}, "-": "-{}", **{
     letter: f"\\text{name}{{}}" for letter, name in {
@@ -80,21 +82,22 @@ class Canvas:
         # 14 pixels; for print 8 points, and 7 in a column
         is_column = asked.size and asked.size.width < 4.5 * 96
         self.em = asked.scale * ((7 if is_column else 8) / 0.75 if is_print else 14)
-        sides = (672, None) if is_print else ((860, 480), (920, 420), (920, 800))[count - 1]
+        sides, shape, rows = SHEETS[count - 1]
         width, height = asked.size[:2] if asked.size else (
-            side and side * asked.scale for side in sides)
+            asked.scale * side for side in ((PAPER, 0) if is_print else sides))
         self.is_narrow = width < pictures.NARROW * LETTER * self.em
-        rows = [1] * count if self.is_narrow else ([1], [2], [2, 1])[count - 1]
-        height = height or width * (
-            0.8 * count if self.is_narrow else (0.56, 0.46, 0.87)[count - 1])
+        if self.is_narrow:
+            shape, rows = 0.8 * count, [1] * count
+        height = height or width * shape
         if width < LEAST[0] * LETTER * self.em or height < len(rows) * LEAST[1] * LINE * self.em:
             tool.misused(f"--size is too small for {pictures.counted(count, 'picture')} with type "
                          "that can be read")
-        self.unit = (300 if is_print else 96) / 96
         self.set_looks()
-        dots = 96 * self.unit
-        self.figure = Figure([round(side * self.unit) / dots for side in (width, height)], dots,
+        dots = 300 if is_print else 96
+        self.pixels = self.em * dots / 96
+        self.figure = Figure([round(side * dots / 96) / dots for side in (width, height)], dots,
                              layout="constrained")
+        FigureCanvasAgg(self.figure)  # measures texts
         if asked.title:
             title = textwrap.wrap(asked.title, int(width / self.em / LETTER / 1.3))
             self.figure.suptitle("\n".join(map(self.text, title)))
@@ -106,103 +109,98 @@ class Canvas:
     def set_looks(self):
         matplotlib.rcdefaults()
         points = 0.75 * self.em
-        matplotlib.rcParams.update(LOOKS)
-        matplotlib.rcParams.update({
+        looks = matplotlib.rcParams
+        looks.update(LOOKS)
+        looks.update({
             "font.family": "serif" if self.ending == ".pgf" else FONTS,
             "font.size": points, "figure.constrained_layout.h_pad": points / 150,
             "figure.constrained_layout.w_pad": points / 150,
             "legend.handlelength": 3.2 if self.mono else 2.2,
-            **{name: matplotlib.rcParams[name] * points / 10.5 for name in SCALED}})
+            **{name: looks[name] * points / 10.5 for name in filter(SCALED.fullmatch, looks)}})
 
     def text(self, words):
         """A text as it is drawn, which is text whatever its letters."""
         words = pictures.printable(words)
-        return words if self.ending != ".pgf" else re.sub(
-            ".", lambda found: LATEX.get(found[0], found[0]), words)
+        return words if self.ending != ".pgf" else "".join(LATEX.get(each, each) for each in words)
 
     def lay_out(self):
         self.figure.get_layout_engine().execute(self.figure)
 
 
-def draw_line(canvas, axes, number, line, colour):
+def draw_line(canvas, axes, line, colour, number, up):
     """A line with its marks, and the bars from the least to the greatest of several seeds."""
-    x, y = zip(*[(point.x, point.y) if point else (float("nan"),) * 2 for point in line.points])
-    spread = [point for point in line.points if point and point.ends]
+    x, y = zip(*[(point.x, up.place(point.y)) if point else (math.nan, math.nan)
+                 for point in line.points])
+    spread = [(point.x, *map(up.place, (point.y, *point.ends)))
+              for point in line.whole if point.ends]
     if spread:
-        below, above = zip(*((point.y - point.ends[0], point.ends[1] - point.y)
-                             for point in spread))
-        axes.errorbar([point.x for point in spread], [point.y for point in spread],
-                      (below, above), fmt="none", ecolor=colour, capsize=0.3 * canvas.em)
-    looks = {"color": colour, "marker": MARKS[number], "fillstyle": "none" if number > 4 else None}
-    if line.style in ("front", "dots"):
-        looks.update(marker="o", markersize=(0.3 if line.style == "front" else 0.18) * canvas.em)
-    if line.style in ("front", "steps"):
-        looks["drawstyle"] = "steps-post"
-    if line.style in ("curve", "tail"):
-        looks["marker"] = ""
-    dash = DASHES[number] if canvas.mono and line.style not in ("front", "tail") else "-"
-    return axes.plot(x, y, linestyle="" if line.style == "dots" else dash, **looks)[0]
+        below, above = zip(*((mean - least, most - mean) for _, mean, least, most in spread))
+        axes.errorbar(*zip(*(bar[:2] for bar in spread)), (below, above), fmt="none",
+                      ecolor=colour, capsize=0.3 * canvas.em)
+    style = line.style
+    return axes.plot(x, y, color=colour, marker=MARKS[number] if style.mark else "",
+                     markersize=style.mark * matplotlib.rcParams["lines.markersize"],
+                     fillstyle="none" if number > 4 else "full",
+                     linestyle=DASHES[number if canvas.mono else 0] if style.is_joined else "",
+                     drawstyle="steps-post" if style.is_stepped else "default")[0]
 
 
-def draw_area(canvas, axes, number, line, colour):
+def draw_area(canvas, axes, line, colour, *_):
     """An area from 0 on the earlier ones, with an edge; of a single size a mark."""
-    x, y = zip(*line.places)
-    axes.plot(x, y, color=pictures.BLACK, linewidth=0.05 * canvas.em, zorder=2.5, label="_",
+    x, y = zip(*[(point.x, point.y) for point in line.points])
+    axes.plot(x, y, color=pictures.BLACK, linewidth=0.05 * canvas.em, zorder=2.5,
               marker="o" if len(x) == 1 else "")
     return axes.fill_between(x, y, facecolor=colour, edgecolor=pictures.BLACK, linewidth=0.5)
 
 
-def draw_bar(canvas, axes, number, line, colour):
+def draw_bar(_, axes, line, colour, *__):
     """Bars on those of the lines before."""
-    x, y = zip(*line.places)
-    feet = [sum(patches[at].get_height() for patches in axes.containers) for at in x]
-    return axes.bar(x, y, 0.7, feet, color=colour, edgecolor=pictures.BLACK, linewidth=0.5)
+    x, y = zip(*[(point.x, point.y) for point in line.points])
+    feet = [sum(bar.get_height() for bar in stack) for stack in zip(*axes.containers)]
+    return axes.bar(x, y, 0.7, feet or 0, color=colour, edgecolor=pictures.BLACK, linewidth=0.5)
 
 
 def draw(canvas, axes, picture, across, up):
-    """All lines of a picture, for its legend those with a name. Each has one in an SVG."""
-    named = []
-    for number, (line, colour) in enumerate(picture.coloured(canvas.mono)):
-        line = pictures.standing(pictures.seen(line, across, up), up)
-        drawn = {"area": draw_area, "bar": draw_bar}.get(line.style, draw_line)(
-            canvas, axes, number, line, colour)
-        named += [drawn] * bool(line.name)
-        for artist in drawn if line.style == "bar" else [drawn]:
-            artist.set_gid(f"{picture.name}_{number + 1}")
+    """All lines of a picture, and for its legend those with a name. Each has one in an SVG."""
+    named = {}
+    for at, (line, colour, number) in enumerate(picture.drawn(canvas.mono, across, up), 1):
+        drawn = {"area": draw_area, "bar": draw_bar}.get(line.look, draw_line)(
+            canvas, axes, line, colour, number, up)
+        setp(drawn, gid=f"{picture.name}_{at}")
+        if line.name:
+            named[drawn] = line.name
     return named
 
 
 def add_legend(canvas, axes, picture, columns, named):
     """The legend right of the picture or, where it is narrow and for a front, above it."""
-    names = [line.name for line in picture.lines if line.name]
-    if not names:
+    if not named:
         return
-    if canvas.is_narrow or picture.front:
-        broadest = max(map(len, names)) + (9 if canvas.mono else 7)
-        rows = math.ceil(len(names) / max(1, int((columns - 10) / broadest)))
+    place = {"loc": "upper left", "bbox_to_anchor": (1.01, 1.02), "alignment": "left"}
+    if canvas.is_narrow or picture.is_front:
+        broadest = max(map(len, named.values())) + (9 if canvas.mono else 7)
+        rows = math.ceil(len(named) / max(1, int((columns - 10) / broadest)))
         place = {"loc": "lower center", "bbox_to_anchor": (0.5, 1), "columnspacing": 1.5,
-                 "ncol": math.ceil(len(names) / rows)}
-    else:
-        place = {"loc": "upper left", "bbox_to_anchor": (1.01, 1.02), "alignment": "left"}
+                 "ncol": math.ceil(len(named) / rows)}
     legend = axes.legend(named, ["name"] * len(named), borderaxespad=0,
                          title=canvas.text(picture.legend) or None, **place)
-    for text, name in zip(legend.get_texts(), names):
+    for text, name in zip(legend.get_texts(), named.values()):
         text.set_text(canvas.text(name))  # matplotlib leaves out what begins with '_'
 
 
 def label_front(canvas, axes, picture, up):
     """Labels below and to the left of the caches of the front that have room for one."""
-    inside, small = axes.get_window_extent(), 0.86 * canvas.em * canvas.unit
-    boxes, kept = [], []
-    for point in pictures.standing(pictures.Line("", picture.front), up).points:
-        (x, y), label = axes.transData.transform((point.x, point.y)), point.told()[1]
-        left, low, high = x - (len(label) + 1) * LETTER * small, y - 1.5 * small, y - 0.2 * small
-        if label and left > inside.x0 and low > inside.y0 and all(
-                left > box[2] or box[0] > x or low > box[3] or box[1] > high for box in boxes):
-            boxes.append((left, low, x, high))
-            kept.append((point.x, point.y))
-            axes.annotate(canvas.text(label), kept[-1], (-0.4, -0.4), textcoords="offset fontsize",
-                          fontsize=0.64 * canvas.em, ha="right", va="top")
+    inside, boxes, kept = axes.get_window_extent(), [], []
+    for point in picture.front:
+        place, label = (point.x, up.place(point.y)), point.told()[1]
+        text = axes.annotate(canvas.text(label), place, (-0.4, -0.4), ha="right", va="top",
+                             textcoords="offset fontsize", fontsize=0.64 * canvas.em)
+        box = text.get_window_extent().padded(0.1 * canvas.pixels)
+        if label and box.x0 > inside.x0 and box.y0 > inside.y0 and not box.count_overlaps(boxes):
+            boxes.append(box)
+            kept.append(place)
+        else:
+            text.remove()
     if kept:
         axes.plot(*zip(*kept), "o", color="black", fillstyle="none", markersize=0.45 * canvas.em,
                   gid="pareto_labelled")
@@ -210,8 +208,8 @@ def label_front(canvas, axes, picture, up):
 
 def set_axis(axes, letter, axis):
     """The scale, ends and ticks of an axis."""
-    axes.set(**{f"{letter}scale": "log" if axis.log else "linear"})
-    axes.set(**{f"{letter}lim": (axis.low, axis.high)})
+    axes.set(**{f"{letter}scale": "log" if axis.is_log else "linear",
+                f"{letter}lim": (axis.low, axis.high)})
     which = getattr(axes, f"{letter}axis")
     which.set_ticks(*zip(*axis.ticks))
     which.set_minor_formatter(NullFormatter())
@@ -235,12 +233,11 @@ def figure_of(drawn, asked):
         set_axis(axes, "y", up)
         add_legend(canvas, axes, picture, columns, named)
     canvas.lay_out()
-    boxes = [axes.get_window_extent() for _, _, axes, _ in places]
-    em = canvas.em * canvas.unit
-    up = pictures.value_axis(drawn.pictures, drawn.measure,
-                             1.3 * LINE * em / min(box.height for box in boxes))
-    for (picture, _, axes, _), box in zip(places, boxes):
-        set_axis(axes, "x", pictures.size_axis(picture, 5.5 * LETTER * em / box.width))
+    height = min(axes.get_window_extent().height for _, _, axes, _ in places)
+    up = pictures.value_axis(drawn.pictures, drawn.measure, 1.3 * LINE * canvas.pixels / height)
+    for picture, _, axes, _ in places:
+        width = axes.get_window_extent().width
+        set_axis(axes, "x", pictures.size_axis(picture, 5.5 * LETTER * canvas.pixels / width))
         set_axis(axes, "y", up)
     canvas.lay_out()
     for picture, _, axes, _ in places:
@@ -254,12 +251,11 @@ def bytes_of(drawn, asked):
     """The file of a picture."""
     if asked.ending == ".pgf":
         tool.needs("pdflatex", "texlive-pictures")
-    file, more = io.BytesIO(), {}
-    if asked.ending in UNDATED:
-        more = {"metadata": UNDATED[asked.ending]}
+    os.environ["SOURCE_DATE_EPOCH"] = "0"  # which it would have the date of
+    file = io.BytesIO()
     with warnings.catch_warnings(record=True) as told:
         try:
-            figure_of(drawn, asked).savefig(file, format=asked.ending[1:], **more)
+            figure_of(drawn, asked).savefig(file, format=asked.ending[1:])
         except (ValueError, LatexError) as fault:
             if asked.ending != ".pgf":
                 raise

@@ -23,7 +23,7 @@ UUID = re.compile("[0-9a-f]{8}(-[0-9a-f]{4}){3}-[0-9a-f]{12}")
 BLOCK_SIZE = ("Block size", "bsize", pictures.bytes_text)
 WAYS = ("Associativity", "ways", pictures.ways_text)
 FONT = "system-ui, 'DejaVu Sans', Verdana, sans-serif"
-CLEAR, BLANK = "rgba(0,0,0,0)", "\N{NO-BREAK SPACE}"
+CLEAR = "rgba(0,0,0,0)"
 EDGE = {"color": "#222222", "width": 1}  # of areas and bars
 # How all is laid out.
 LAYOUT = {
@@ -89,67 +89,54 @@ def about(point, line, measure):
     """What the pointer shows of a cache."""
     number = "{:.4g}" if measure.is_percent else "{:.10g}"
     ends = " ({} to {})".format(*map(number.format, point.ends)) if point.ends else ""
-    name = f"{line.name}\n" * (line.style in ("marks", "curve", "steps") and bool(line.name))
+    name = f"{line.name}\n" * (line.look in ("marks", "curve", "steps") and bool(line.name))
     return plain(f"{name}{point.told()[0]}\n{measure.up}: {number.format(point.y)}{ends}")
 
 
-def trace(number, line, colour, up, measure, mono):
+def trace(line, colour, number, up, measure, mono):
     """A line of a picture as plotly has it. None cuts it."""
-    some, is_area = line.points, line.style == "area"
+    some, style, is_area = line.points, line.style, line.look == "area"
     given = {"x": [point and point.x for point in some],
-             "y": [point and point.y for point in pictures.standing(line, up).points],
-             "name": plain(line.name),
+             "y": [point and up.place(point.y) for point in some], "name": plain(line.name),
              "hovertext": [point and about(point, line, measure) for point in some],
              "hoverinfo": "text", "showlegend": bool(line.name)}
-    if line.style == "bar":
+    if line.look == "bar":
         return graph_objects.Bar(given, marker={"color": colour, "line": EDGE})
-    if any(point and point.ends for point in some):
-        ends = [(point.ends or (point.y, point.y)) if point else (0, 0)
-                for point in pictures.standing(line, up).points]
-        given["error_y"] = {
-            "type": "data", "symmetric": False, "color": colour, "thickness": 1,
-            "array": [point and end[1] - point.y for end, point in zip(ends, some)],
-            "arrayminus": [point and point.y - end[0] for end, point in zip(ends, some)]}
+    if any(point.ends for point in line.whole):  # then it is not cut
+        low, high = ([abs(up.place((point.ends or (point.y,))[end]) - up.place(point.y))
+                      for point in some] for end in (0, -1))
+        given["error_y"] = {"type": "data", "symmetric": False, "color": colour, "thickness": 1,
+                            "array": high, "arrayminus": low}
     if is_area:
         given.update(fill="tozeroy", fillcolor=colour)
-    is_step, is_small = line.style in ("front", "steps"), line.style in ("front", "dots", "tail")
     return graph_objects.Scatter(
-        given, mode={"dots": "markers", "curve": "lines", "tail": "lines"}.get(
-            line.style, "lines+markers"),
-        line=EDGE if is_area else {"color": colour, "shape": "hv" if is_step else "linear",
-                                   "dash": DASHES[number] if mono and not is_small else "solid"},
-        marker={"color": EDGE["color"] if is_area else colour, "size": {
-            "area": 4, "dots": 5, "front": 7}.get(line.style, 8),
-                "symbol": "circle" if is_area or is_small else SYMBOLS[number]})
+        given, mode="+".join(["lines"] * style.is_joined + ["markers"] * bool(style.mark)),
+        line=EDGE if is_area else {"color": colour, "dash": DASHES[number if mono else 0],
+                                   "shape": "hv" if style.is_stepped else "linear"},
+        marker={"color": EDGE["color"] if is_area else colour, "size": 8 * style.mark,
+                "symbol": SYMBOLS[0 if is_area else number]})
 
 
 def axis(ends, words):
     """An axis as plotly has it."""
-    measure = math.log10 if ends.log else float
+    measure = math.log10 if ends.is_log else float
     places, texts = zip(*ends.ticks)
-    return {"type": "log" if ends.log else "linear", "tickvals": places, "ticktext": texts,
+    return {"type": "log" if ends.is_log else "linear", "tickvals": places, "ticktext": texts,
             "range": [measure(ends.low), measure(ends.high)], "zeroline": False,
             "title": {"text": plain(words), "standoff": 12, "font": {"size": 14}},
             "automargin": True, "gridcolor": "#e4e4e4", "tickangle": 0, "tickfont": {"size": 12},
             "ticks": "outside", "tickcolor": CLEAR}
 
 
-def size_axis(picture):
-    """One of sizes with a line for each power of two, and texts where a narrow page has room."""
-    few, every = (pictures.size_axis(picture, closest) for closest in (0.12, 0.03))
-    return every._replace(ticks=[(value, dict(few.ticks).get(value, BLANK))
-                                 for value, _ in every.ticks])
-
-
 def figure(offered, fixed, up, measure, mono):
     """A picture as plotly has it, with all that may be chosen instead."""
     picture, traces = offered[fixed], []
-    across = size_axis(picture._replace(
-        lines=[line for one in offered.values() for line in one.lines]))
+    across = pictures.size_axis(picture._replace(
+        lines=[line for one in offered.values() for line in one.lines]), 0.12)
     for choice, one in offered.items():
-        for number, (line, colour) in enumerate(one.coloured(mono)):
-            made = trace(number, pictures.seen(line, across, up), colour, up, measure, mono)
-            traces.append(made.update(meta=choice, visible=choice == fixed))
+        for drawn in one.drawn(mono, across, up):
+            traces.append(trace(*drawn, up, measure, mono).update(
+                meta=choice, visible=choice == fixed))
     return graph_objects.Figure(traces, LAYOUT).update_layout(
         xaxis=axis(across, picture.across), yaxis=axis(up, measure.up),
         legend_title={"text": picture.legend, "font": {"size": 14}})

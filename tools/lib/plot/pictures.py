@@ -10,7 +10,7 @@ from lib.tool import size_text
 
 SIZE = "cache size in bytes"
 NARROW = 72  # in fewer letters a legend has no room beside its picture
-UNIT = re.compile(r" in (per cent|bytes|cycles \(AMAT\))$")
+UNIT = re.compile(r" in (per cent|bytes|cycles)( of references$| \(AMAT\)$|,|$)")
 # of Okabe and Ito, except for a pale yellow: all people can tell them apart, also the colour-blind
 COLOURS = ("#0072b2", "#d55e00", "#009e73", "#cc79a7", "#e69f00", "#56b4e9", "#000000")
 # areas of a stack, above the two lowest: shades that differ in lightness too
@@ -18,35 +18,49 @@ STACK = ("#feedde", "#fdbe85", "#fd8d3c", "#d94701", "#8c2d04", "#6baed6", "#083
 GREYS = ("#f4f4f4", "#dcdcdc", "#c0c0c0", "#a2a2a2", "#848484", "#606060", "#202020")
 CELLS = {"curve": (1000, 500), "dots": (400, 200)}  # columns and rows of what can be seen
 PALE, FRONT, BLACK = "#bbbbbb", "#d55e00", "#000000"
+# styles of lines: whether their points are joined, by steps, and how large their marks are. An
+# `area` lies on the earlier ones, and a `bar` stands on them.
+Style = namedtuple("Style", "is_joined is_stepped mark", defaults=(True, False, 0.0))
+STYLES = {"marks": Style(mark=1), "steps": Style(is_stepped=True, mark=1), "curve": Style(),
+          "tail": Style(), "dots": Style(False, mark=0.5), "front": Style(is_stepped=True, mark=0.75),
+          "area": Style(mark=0.5), "bar": Style(mark=1)}
+
+# a cache in a picture: its place, a function of what is said of it and its label, which few of a
+# million are asked for, and the ends over several seeds
+Point = namedtuple("Point", "x y told ends", defaults=((),))
 
 
-class Point(namedtuple("Point", "x y told ends", defaults=((),))):
-    """A cache in a picture: its place, ends over several seeds, and a function of what is said of
-    it and its label, which few of a million are asked for."""
-
-
-class Line(namedtuple("Line", "name points style", defaults=("marks",))):
-    """A line of a picture: its name in the legend, its points, with None where it is cut, and a
-    style: `marks`; `curve` has no marks, `dots` nothing else; a `front` goes in steps, as do those
-    of several tables, `steps`, and has a `tail`; an `area` lies on the earlier ones, and a `bar`
-    stands on them."""
+class Line(namedtuple("Line", "name points look", defaults=("marks",))):
+    """A line of a picture: its name in the legend, its points, with None where it is cut, and what
+    its style is called."""
 
     @property
-    def places(self):
-        return [(point.x, point.y) for point in self.points if point]
+    def style(self):
+        return STYLES[self.look]
+
+    @property
+    def whole(self):
+        return [point for point in self.points if point]
 
 
-class Measure(namedtuple("Measure", "up name is_percent is_linear",
-                         defaults=("miss ratio in per cent", "Miss ratio", True, False))):
-    """The vertical axis: its name there and above pictures, if it is per cent, and whether it must
-    begin at 0."""
+class Measure(namedtuple("Measure", "up is_linear", defaults=("miss ratio in per cent", False))):
+    """The vertical axis: its name there, and whether it must begin at 0."""
+
+    @property
+    def name(self):
+        """That above pictures, without a unit."""
+        return self.up[:1].upper() + UNIT.sub("", self.up[1:])
+
+    @property
+    def is_percent(self):
+        return "in per cent" in self.up
 
     @property
     def least(self):
         """The title of the Pareto front."""
-        if self.name == "Miss ratio":
-            return "The smallest caches that miss least"
-        return f"The smallest caches with the least {UNIT.sub('', self.up)}"
+        is_usual = self == Measure()
+        return "The smallest caches " + ("that miss least" if is_usual else
+                                         f"with the least {UNIT.sub('', self.up)}")
 
 
 class Picture(namedtuple("Picture", "name fixed title across legend lines labels names",
@@ -57,13 +71,17 @@ class Picture(namedtuple("Picture", "name fixed title across legend lines labels
 
     @property
     def points(self):
-        return [point for line in self.lines for point in line.points if point]
+        return [point for line in self.lines for point in line.whole]
+
+    @property
+    def is_front(self):
+        return self.lines[0].look == "dots"
 
     @property
     def front(self):
         """The caches that may have a label, in the order in which they get one: first that which
         misses least, then sizes that are powers of two."""
-        front = self.lines[1].points if self.lines[0].style == "dots" else []
+        front = self.lines[1].points if self.is_front else []
         return sorted(front, key=lambda one: one != front[-1] and 1 + (one.x & (one.x - 1) != 0))
 
     def title_lines(self, columns):
@@ -74,17 +92,19 @@ class Picture(namedtuple("Picture", "name fixed title across legend lines labels
         parts = [whole] if len(whole) <= columns else [*self.title.split(": ", 1), labels]
         return [line for part in parts for line in textwrap.wrap(part, max(columns, 9))]
 
-    def coloured(self, mono):
-        """Each line with its colour. The two lowest areas are always the same."""
+    def drawn(self, mono, across, up):
+        """Each line with no more points than can be seen, its colour, and the number of its dashes
+        and marks. The two lowest areas have the same colours always."""
         colours = [BLACK] * MOST_LINES if mono else COLOURS
-        if self.lines[0].style == "area":
+        if self.lines[0].look == "area":
             shades = GREYS if mono else STACK
             colours = [*shades[:len(self.lines) - 2], *shades[-2:]]
-        elif self.lines[0].style == "dots":
+        elif self.is_front:
             colours = PALE, *[BLACK if mono else FRONT] * 2
         elif self.names and mono:
             colours = GREYS[1::2]
-        return list(zip(self.lines, colours))
+        for number, (line, colour) in enumerate(zip(self.lines, colours)):
+            yield seen(line, across, up), colour, 0 if self.is_front else number
 
 
 def front_of(every, front, name):
@@ -94,14 +114,17 @@ def front_of(every, front, name):
             Line("", [front[-1], end], "tail")]
 
 
-class Axis(namedtuple("Axis", "low high log ticks foot", defaults=(0.0,))):
+class Axis(namedtuple("Axis", "low high is_log ticks foot", defaults=(0.0,))):
     """An axis: its ends, whether it is logarithmic, ticks with their texts, and where 0 is."""
+
+    def place(self, value):
+        return value or self.foot
 
     def fractions(self, values):
         """How far along the axis some values stand: 0 at its low end, 1 at the high one."""
-        measure = math.log if self.log else float
+        measure = math.log if self.is_log else float
         low, high = measure(self.low), measure(self.high)
-        return [(measure(value or self.foot) - low) / (high - low) for value in values]
+        return [(measure(self.place(value)) - low) / (high - low) for value in values]
 
 
 def printable(words):
@@ -211,15 +234,14 @@ def size_axis(picture, closest):
     if picture.names:
         step = math.ceil(closest * len(picture.names))
         return Axis(-0.5, len(picture.names) - 0.5, False, list(enumerate(picture.names))[::step])
-    sizes = [point.x for point in picture.points]
-    least, greatest = min(sizes), max(sizes)
-    if least == greatest:
-        return Axis(least / 2, least * 2, True, [(least, short(least))])
+    least, greatest = (end(point.x for point in picture.points) for end in (min, max))
     span = math.log2(greatest / least)
-    step = math.ceil(closest * span * 1.08)
-    powers = range(math.ceil(math.log2(least)), math.floor(math.log2(greatest)) + 1, step)
-    return Axis(least / 2 ** (0.04 * span), greatest * 2 ** (0.04 * span), True, [
-        (value, short(value)) for value in [2 ** power for power in powers] or (least, greatest)])
+    powers = range(math.ceil(math.log2(least)), math.floor(math.log2(greatest)) + 1,
+                   math.ceil(closest * span * 1.08) or 1)
+    margin = 2 ** (0.04 * span or 1)
+    return Axis(least / margin, greatest * margin, True, [
+        (value, short(value)) for value in [2 ** power for power in powers] or
+        sorted({least, greatest})])
 
 
 def is_broad(picture):
@@ -229,18 +251,11 @@ def is_broad(picture):
 
 def seen(line, across, up):
     """A line with no more points than can be seen: the last in each cell of the picture."""
-    if line.style not in CELLS:
+    if line.look not in CELLS:
         return line
-    columns, rows = CELLS[line.style]
+    columns, rows = CELLS[line.look]
     right = across.fractions(point.x for point in line.points)
     high = up.fractions(point.y for point in line.points)
     return line._replace(points=list({
         (round(columns * x), round(rows * y)): point
         for x, y, point in zip(right, high, line.points)}.values()))
-
-
-def standing(line, up):
-    """A line whose zeros are at the foot of a logarithmic axis."""
-    return line._replace(points=[point and point._replace(
-        y=point.y or up.foot, ends=tuple(end or up.foot for end in point.ends))
-        for point in line.points])

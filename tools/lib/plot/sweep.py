@@ -6,18 +6,38 @@ from collections import namedtuple
 
 from lib import costs, table
 from lib.plot import pictures
-from lib.plot.pictures import (Line, Measure, Picture, Point, bytes_text, counted, handful,
+from lib.plot.pictures import (SIZE, Line, Measure, Picture, Point, bytes_text, counted, handful,
                                is_broad, short, ways_text)
 from lib.tool import MOST, fail
 
-# what is made of misses and block size, above pictures and with its unit
-NAMES = {costs.ACCESS_TIME: "Access time"}
+# the vertical axes of what is made of misses and block size
 UNITS = {costs.ACCESS_TIME: "access time in cycles (AMAT)", costs.TRAFFIC: "traffic in bytes"}
-BOTH_WAYS = Measure("traffic in bytes, with copy-backs", "Traffic with copy-backs", False)
+# pictures with a measure of their own: the columns that it is made of, what a fault calls it, and
+# the axis
+Own = namedtuple("Own", "columns what measure")
+OWN = {"three-c": Own(("capacity", "compulsory"), "misses by their kinds", Measure(is_linear=True)),
+       "kinds": Own(("fetch-misses", "read-misses", "write-misses"), "misses by their kinds",
+                    Measure("misses in per cent of references", is_linear=True)),
+       "traffic": Own(("copybacks",), "traffic", Measure("traffic in bytes, with copy-backs"))}
+# what a picture may fix: its name in faults, the usual value, and what a title says of one
+Fixed = namedtuple("Fixed", "what usual text")
+FIXED = {
+    "sets": Fixed("number of sets", 1,
+                  lambda sets: "fully associative" if sets == 1 else f"{sets} sets"),
+    "bsize": Fixed("block size", 64, lambda size: f"blocks of {bytes_text(size)}"),
+    "assoc": Fixed("associativity", 4, ways_text)}
+# a picture of lines: the column on its horizontal axis, that which it fixes, that of which each
+# line has a value, what its name says of this, the legend's title, and the column of which a line
+# skips no value
+Lines = namedtuple("Lines", "across fixed each text legend step", defaults=("", None))
+LINES = {"size": Lines("size", "bsize", "assoc", ways_text, step="sets"),
+         "block": Lines("bsize", "assoc", "size", short, "cache size", "bsize"),
+         "traffic": Lines("size", "assoc", "bsize", short, "block size", "size"),
+         "curve": Lines("size", "bsize", "sets", lambda count: counted(count, "set"))}
+CURVES = Lines("size", "sets", "bsize", bytes_text, "block size")  # of one number of sets
 AXES = {"size": "cache size", "bsize": "block size"}
-# what a picture may fix, with the usual value
-FIXED = {"bsize": ("block size", 64), "assoc": ("associativity", 4), "sets": ("number of sets", 1)}
 MANY = 32  # from so many points on a curve has no marks
+MOST_WAYS = len(pictures.STACK) - 2
 MOST_CHOICES = 64  # of a menu of a page
 
 
@@ -32,42 +52,42 @@ class Sweeps(namedtuple("Sweeps", "asked tables measure")):
     def is_one(self):
         return len(self.tables) == 1
 
-    def only(self, column, value):
-        """Those with the rows of one block size, associativity or number of sets."""
-        return self._replace(tables=[given._replace(rows=[
-            row for row in given.rows if getattr(row, column) == value]) for given in self.tables])
+    def values(self, column):
+        return {getattr(row, column) for row in self.rows}
 
-    def fixed(self, column):
-        """The block size, associativity or number of sets of a picture: the one that is asked for,
-        or of those that are in all tables the usual one or the nearest to it."""
-        what, usual = FIXED[column]
+    def where(self, is_kept):
+        """Those with some of the rows."""
+        return self._replace(tables=[given._replace(rows=[*filter(is_kept, given.rows)])
+                                     for given in self.tables])
+
+    def at(self, column, value=None):
+        """Those with the rows of one block size, associativity or number of sets: this one, that
+        which is asked for, or of those in all tables the usual one or the nearest to it."""
+        value = value or self.asked_for(column) or self.usual(column)
+        return self.where(lambda row: getattr(row, column) == value)
+
+    def asked_for(self, column):
         wanted = {"bsize": self.asked.bsize, "assoc": self.asked.ways}.get(column)
-        values = [{getattr(row, column) for row in given.rows} for given in self.tables]
-        if wanted is None:
-            common = set.intersection(*values)
-            return (pictures.nearest(common, usual) if common
-                    else fail(f"the tables have no {what} in common"))
-        for own, given in zip(values, self.tables):
+        for given in self.tables if wanted is not None else ():
+            own = {getattr(row, column) for row in given.rows}
             if wanted not in own:
                 some = handful(own, 12)
                 there = ", ".join(map(str, some)) + " and others" * (len(some) < len(own))
-                fail(f"{given.file}: no cache has the {what} {wanted}; there are {there}")
+                fail(f"{given.file}: no cache has the {FIXED[column].what} {wanted}; there are "
+                     f"{there}")
         return wanted
 
-    def grouped(self, column, text):
-        """The rows of a handful of values of a column, each with its text; or of each table."""
-        if not self.is_one:
-            return [(given.name, given.rows) for given in self.tables]
-        return [(text(value), [row for row in self.rows if getattr(row, column) == value])
-                for value in handful(getattr(row, column) for row in self.rows)]
+    def usual(self, column):
+        common = set.intersection(*({getattr(row, column) for row in given.rows}
+                                    for given in self.tables))
+        what, usual, _ = FIXED[column]
+        return (pictures.nearest(common, usual) if common
+                else fail(f"the tables have no {what} in common"))
 
-    def picture(self, name, fixed, groups, title, across="size", legend="", step=None):
-        """A picture with a line for each group of rows. It is cut where the next row skips a step
-        that another line has: a value of a column."""
-        steps = {getattr(row, step) for given in self.tables for row in given.rows} if step else ()
-        lines = [Line(name, points(rows, across, step, steps)) for name, rows in groups]
-        return Picture(name, fixed, f"{self.measure.name} by {AXES[across]}: {title}",
-                       f"{AXES[across]} in bytes", legend, lines)
+    def grouped(self, column):
+        """The rows of each of a handful of values of a column."""
+        return {value: [row for row in self.rows if getattr(row, column) == value]
+                for value in handful(self.values(column))}
 
 
 def judge(rows, name):
@@ -82,10 +102,16 @@ def judge(rows, name):
 
 
 def with_rows(asked, given):
-    """A table with its rows, which are of one sweep."""
-    if asked.only == "traffic":
-        rows = [row._replace(value=row.bsize * (row.misses + row.value), is_count=False)
-                for row in table.read_table(given.lines, given.shown, "copybacks")]
+    """A table with its rows, which are of one sweep. A picture of its own has several values of
+    each."""
+    if asked.only in OWN:
+        several = [table.read_table(given.lines, given.shown, name)
+                   for name in OWN[asked.only].columns]
+        found = [{row.cache: row.value for row in rows} for rows in several]
+        rows = [row._replace(value=[values[row.cache] for values in found], is_count=False)
+                for row in several[0]]
+        if asked.only == "traffic":
+            rows = [row._replace(value=row.bsize * (row.misses + row.value[0])) for row in rows]
     else:
         rows = costs.rows_of(asked, given.lines, given.shown)
     judge(rows, given.file)
@@ -95,13 +121,12 @@ def with_rows(asked, given):
 def measure_of(asked):
     """How the measure is called. It is drawn in per cent of the references where it counts some."""
     column = costs.column_of(asked)
-    if asked.only == "traffic":
-        return BOTH_WAYS
+    if asked.only in OWN:
+        return OWN[asked.only].measure
     if column == "misses":
         return Measure()
-    name, is_count = NAMES.get(column) or column[:1].upper() + column[1:], column in table.COUNTS
-    up = f"{column} in per cent of references" if is_count else UNITS.get(column, column)
-    return Measure(up, name, is_count)
+    return Measure(f"{column} in per cent of references" if column in table.COUNTS
+                   else UNITS.get(column, column))
 
 
 def cache_text(row):
@@ -125,62 +150,37 @@ def points(rows, across="size", step=None, steps=()):
     return found
 
 
-def by_size(sweeps, bsize=None):
-    """By cache size at one block size: a line for each associativity, or at one for each table."""
-    bsize = bsize or sweeps.fixed("bsize")
-    sweeps, title = sweeps.only("bsize", bsize), f"blocks of {bytes_text(bsize)}"
-    if not sweeps.is_one:
-        ways = sweeps.fixed("assoc")
-        title += f", {ways_text(ways)}"
-    shown = sweeps if sweeps.is_one else sweeps.only("assoc", ways)
-    return sweeps.picture("size", bsize, shown.grouped("assoc", ways_text), title, step="sets")
+def by_column(sweeps, name, value):
+    """A picture with a line for each value of a column, or at one of them for each table."""
+    shape, measure = LINES[name], sweeps.measure
+    is_curve = name == "curve"
+    if is_curve and sweeps.is_one and len(sweeps.values("sets")) == 1:
+        shape = CURVES
+    sweeps, fixed = sweeps.at(shape.fixed, value), [shape.fixed]
+    if not sweeps.is_one or is_curve and len(sweeps.values(shape.each)) == 1:
+        sweeps, fixed = sweeps.at(shape.each), [*fixed, shape.each]
+        groups = [(given.name, given.rows) for given in sweeps.tables]
+    else:
+        shown = sweeps
+        if name == "block":  # sizes of several blocks, if any
+            blocks = collections.Counter(row.size for row in sweeps.rows)
+            shown = sweeps.where(lambda row: blocks[row.size] >= min(2, max(blocks.values())))
+        groups = [(shape.text(each), rows) for each, rows in shown.grouped(shape.each).items()]
+    steps = {getattr(row, shape.step) for given in sweeps.tables for row in given.rows
+             } if shape.step else ()
+    drawn = [points(rows, shape.across, shape.step, steps) for _, rows in groups]
+    look = "curve" if is_curve and max(map(len, drawn)) >= MANY else "marks"
+    title = ", ".join(text(getattr(sweeps.rows[0], column))
+                      for column, (_, _, text) in FIXED.items() if column in fixed)
+    axis = AXES[shape.across]
+    return Picture(name, 0 if shape is CURVES else getattr(sweeps.rows[0], shape.fixed),
+                   f"{measure.name} by {axis}: {title}", f"{axis} in bytes", shape.legend,
+                   [Line(name, some, look) for (name, _), some in zip(groups, drawn)])
 
 
-def by_ways(sweeps, bsize=None):
-    """The curves over all ways: one for each table at a block size and a number of sets; of one
-    table for each number of sets at a block size, or for each block size."""
-    if not sweeps.is_one or len({row.sets for row in sweeps.rows}) > 1:
-        bsize = bsize or sweeps.fixed("bsize")
-        sweeps = sweeps.only("bsize", bsize)
-    if not sweeps.is_one:
-        sweeps = sweeps.only("sets", sweeps.fixed("sets"))
-    sets, blocks = ({getattr(row, column) for row in sweeps.rows} for column in ("sets", "bsize"))
-    groups = (sweeps.grouped("bsize", bytes_text) if len(sets) == 1
-              else sweeps.grouped("sets", lambda count: counted(count, "set")))
-    if sweeps.is_one and len(sets) == len(blocks) == 1:
-        groups = [("", sweeps.rows)]
-    fixed = ["fully associative" if sets == {1} else f"{min(sets)} sets"] * (len(sets) == 1)
-    fixed += [f"blocks of {bytes_text(min(blocks))}"] * (len(blocks) == 1)
-    picture = sweeps.picture("curve", bsize or 0, groups, ", ".join(fixed),
-                             legend="block size" * (len(blocks) > 1))
-    if max(len(line.points) for line in picture.lines) < MANY:
-        return picture
-    return picture._replace(lines=[line._replace(style="curve") for line in picture.lines])
-
-
-def by_block(sweeps, ways=None):
-    """By block size at one associativity, a line for each size (of several blocks, if any)."""
-    ways = ways or sweeps.fixed("assoc")
-    sweeps = sweeps.only("assoc", ways)
-    sizes = collections.Counter(row.size for row in sweeps.rows)
-    most = min(2, max(sizes.values()))
-    several = [row for row in sweeps.rows if sizes[row.size] >= most]
-    shown = sweeps._replace(tables=[sweeps.tables[0]._replace(rows=several)])
-    return sweeps.picture("block", ways, shown.grouped("size", short), ways_text(ways), "bsize",
-                          "cache size", "bsize")
-
-
-def by_traffic(sweeps, ways=None):
-    """By cache size at one associativity, a line for each block size."""
-    ways = ways or sweeps.fixed("assoc")
-    sweeps = sweeps.only("assoc", ways)
-    return sweeps.picture("traffic", ways, sweeps.grouped("bsize", short), ways_text(ways),
-                          legend="block size", step="size")
-
-
-def by_front(sweeps, _=None):
+def by_front(sweeps, name, _):
     """The smallest caches that miss least: before all others, or for each table."""
-    given = "pareto", 0, sweeps.measure.least, pictures.SIZE, ""
+    given = name, 0, sweeps.measure.least, SIZE, ""
     if not sweeps.is_one:
         return Picture(*given, [Line(one.name, points(table.pareto(one.rows)), "steps")
                                 for one in sweeps.tables])
@@ -189,8 +189,56 @@ def by_front(sweeps, _=None):
         points(sweeps.rows), points(table.pareto(sweeps.rows)), named), "block size, sets, ways")
 
 
-MADE = {"size": by_size, "curve": by_ways, "block": by_block, "pareto": by_front,
-        "traffic": by_traffic}
+def kind(name, rows, misses, text, look="area", place=int):
+    """Some caches by size, given how many misses of each are drawn, and what is said of it."""
+    return Line(name, [Point(place(row.size), float(100 * misses(row) / max(1, row.references)),
+                             lambda row=row: (f"{row.size:,} bytes\n{text(row)}", ""))
+                       for row in sorted(rows, key=lambda row: row.size)], look)
+
+
+def three_c(sweeps, name, bsize):
+    """The three C's, stacked by cache size as Hennessy and Patterson draw them, at one block size:
+    from the top the misses of 1 way, of 2 ways and so on, and those of a fully associative cache,
+    which are capacity and compulsory ones."""
+    sweeps = sweeps.at("bsize", bsize)
+    # associativities that are powers of two have sizes in common, if any have
+    powers = {ways for ways in sweeps.values("assoc") if ways & (ways - 1) == 0}
+    ways = handful(powers or sweeps.values("assoc"), MOST_WAYS)
+    rows = sorted(row for row in sweeps.rows if row.assoc in ways)
+    sizes = {row.size: row for row in rows}.values()
+    lines = [kind(ways_text(count), [row for row in rows if row.assoc == count],
+                  lambda row: row.misses,
+                  lambda row: f"{ways_text(row.assoc)}: misses {row.misses:,}, of these conflict "
+                              f"{row.misses - sum(row.value):,}") for count in ways]
+    lines += [kind("capacity", sizes, lambda row: sum(row.value),
+                   lambda row: f"fully associative: misses {sum(row.value):,}, of these capacity "
+                               f"{row.value[0]:,}"),
+              kind("compulsory", sizes, lambda row: row.value[1],
+                   lambda row: f"compulsory misses {row.value[1]:,}")]
+    bsize, least = rows[0].bsize, f"{ways[0]} to " * (len(ways) > 1)
+    return Picture(name, bsize, f"The three C's by cache size: conflict misses of {least}"
+                   f"{ways_text(ways[-1])}, {FIXED['bsize'].text(bsize)}", SIZE, "", lines)
+
+
+def of_references(sweeps, name, bsize):
+    """Bars of the misses of fetches, reads and writes, at one block size. In a page those of all
+    block sizes have the same places."""
+    fixed = sweeps.at("bsize", bsize)
+    rows = fixed.rows
+    sizes = sorted((sweeps if sweeps.asked.ending == ".html" else fixed).values("size"))
+    lines = [kind(word, rows, lambda row, at=at: row.value[at],
+                  lambda row, at=at, word=word: f"{word} misses {row.value[at]:,} of "
+                                                f"{row.misses:,}", "bar", sizes.index)
+             for at, word in enumerate(("fetch", "read", "write"))]
+    title = f"{FIXED['bsize'].text(rows[0].bsize)}, {ways_text(rows[0].assoc)}"
+    return Picture(name, rows[0].bsize, f"Misses by cache size: {title}", SIZE, "", lines,
+                   names=[*map(short, sizes)])
+
+
+def made(sweeps, name, value=None):
+    """One of the pictures, at the usual block size or ways or at this one."""
+    maker = {"pareto": by_front, "three-c": three_c, "kinds": of_references}.get(name, by_column)
+    return maker(sweeps, name, value)
 
 
 def drawn(sweeps):
@@ -200,10 +248,15 @@ def drawn(sweeps):
     def is_curve(rows):
         return len({row.sets for row in rows}) == 1 and len({row.assoc for row in rows}) > 1
 
+    only = sweeps.asked.only
     first = "curve" if all(is_curve(given.rows) for given in sweeps.tables) else "size"
-    if sweeps.asked.only or not sweeps.is_one:
-        return [MADE[sweeps.asked.only or first](sweeps)]
-    usual = [MADE[name](sweeps) for name in (first, "block", "pareto")]
+    if only or not sweeps.is_one:
+        picture = made(sweeps, only or first)
+        if only == "three-c" and not is_broad(picture):
+            fail(f"{sweeps.tables[0].file}: a picture of the three C's is of caches of several "
+                 "sizes")
+        return [picture]
+    usual = [made(sweeps, name) for name in (first, "block", "pareto")]
     is_page = sweeps.asked.ending == ".html"
     return [each for each in usual if any(
         map(is_broad, choices(sweeps, each).values() if is_page else [each]))] or usual[:1]
@@ -214,5 +267,6 @@ def choices(sweeps, picture):
     if not sweeps.is_one or not picture.fixed:
         return {picture.fixed: picture}
     column = "assoc" if picture.name in ("block", "traffic") else "bsize"
-    values = handful((getattr(row, column) for row in sweeps.rows), MOST_CHOICES)
-    return {value: MADE[picture.name](sweeps, value) for value in sorted({*values, picture.fixed})}
+    values = handful(sweeps.values(column), MOST_CHOICES)
+    return {value: made(sweeps, picture.name, value)
+            for value in sorted({*values, picture.fixed})}

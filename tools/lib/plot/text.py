@@ -10,17 +10,17 @@ STROKES, MARKS = "*#$%@&=", "ABCDEFG"
 
 def looks_of(picture):
     """Each line with the letters for its strokes and its marks, which may be none."""
-    for line, stroke, mark in zip(picture.lines, STROKES, MARKS):
-        own = {"dots": ("", "."), "front": ("-", "o"), "tail": ("-", ""), "curve": (stroke, "")}
-        yield (line, *own.get(line.style, (stroke, mark)))
+    letters = zip("---", ".oo") if picture.is_front else zip(STROKES, MARKS)
+    for line, (stroke, mark) in zip(picture.lines, letters):
+        yield line, stroke * line.style.is_joined, mark * bool(line.style.mark)
 
 
 def legend_of(picture, columns):
     """The lines of a legend: beside the picture one for each name; above it several in each."""
-    names = [f"{mark if picture.front else stroke * 3 + mark + stroke * 3} {line.name}"
+    names = [f"{mark if picture.is_front else stroke * 3 + mark + stroke * 3} {line.name}"
              for line, stroke, mark in looks_of(picture) if line.name]
-    title = [picture.legend] * bool(picture.legend)
-    if columns >= NARROW and not picture.front:
+    title = [picture.legend] * bool(picture.legend and names)
+    if columns >= NARROW and not picture.is_front:
         return title + names
     broadest = max(map(len, names), default=0) + 2
     beside = max(1, (columns - 8) // broadest)
@@ -39,7 +39,7 @@ def draw(rows, picture, place):
                 (left, top), (right, bottom) = place(point), place(after)
                 steps = max(abs(right - left), abs(bottom - top), 1)
                 for step in range(steps + 1):
-                    part = int(step == steps) if line.style in ("front", "steps") else step / steps
+                    part = int(step == steps) if line.style.is_stepped else step / steps
                     dot((left + round((right - left) * step / steps),
                          top + round((bottom - top) * part)), stroke)
     for line, _, mark in looks_of(picture):
@@ -56,7 +56,7 @@ def draw(rows, picture, place):
 def page(picture, measure, title, columns, lines):
     """A picture in so many columns and lines: titles, what the axes are, and what is drawn."""
     legend = legend_of(picture, columns)
-    is_beside = columns >= NARROW and not picture.front
+    is_beside = columns >= NARROW and not picture.is_front
     head = [words.center(columns) for words in (
         *[title[:columns]] * bool(title), *picture.title_lines(columns))]
     head += [measure.up] + [" " * 4 + line for line in legend] * (not is_beside)
