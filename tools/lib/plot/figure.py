@@ -65,7 +65,7 @@ LOOKS = {
     "axes.spines.top": False, "axes.spines.right": False, "axes.edgecolor": "#606060",
     "axes.grid": True, "axes.axisbelow": True, "grid.color": "#e4e4e4", "xtick.direction": "in",
     "ytick.direction": "in", "legend.frameon": False, "legend.labelspacing": 0.25}
-SCALED = re.compile("(lines|axes|grid)[.]linewidth|lines[.]markersize|[xy]tick[.]m.*(size|width|pad)")
+SCALED = re.compile("((lines|axes|grid)[.]line|[xy]tick[.]m.*[.])(size|width|pad)|lines.markersize")
 # the letters that LaTeX takes for something else
 LATEX = {**{letter: f"\\{letter}" for letter in "#$%&_{}"}, "-": "-{}", **{
     letter: f"\\text{name}{{}}" for letter, name in {
@@ -122,9 +122,6 @@ class Canvas:
         """A text as it is drawn, which is text whatever its letters."""
         words = pictures.printable(words)
         return words if self.ending != ".pgf" else "".join(LATEX.get(each, each) for each in words)
-
-    def lay_out(self):
-        self.figure.get_layout_engine().execute(self.figure)
 
 
 def draw_line(canvas, axes, line, colour, number, up):
@@ -195,7 +192,7 @@ def label_front(canvas, axes, picture, up):
         place, label = (point.x, up.place(point.y)), point.told()[1]
         text = axes.annotate(canvas.text(label), place, (-0.4, -0.4), ha="right", va="top",
                              textcoords="offset fontsize", fontsize=0.64 * canvas.em)
-        box = text.get_window_extent().padded(0.1 * canvas.pixels)
+        box = text.get_window_extent().padded(0.2 * canvas.pixels)
         if label and box.x0 > inside.x0 and box.y0 > inside.y0 and not box.count_overlaps(boxes):
             boxes.append(box)
             kept.append(place)
@@ -206,41 +203,39 @@ def label_front(canvas, axes, picture, up):
                   gid="pareto_labelled")
 
 
-def set_axis(axes, letter, axis):
-    """The scale, ends and ticks of an axis."""
-    axes.set(**{f"{letter}scale": "log" if axis.is_log else "linear",
-                f"{letter}lim": (axis.low, axis.high)})
-    which = getattr(axes, f"{letter}axis")
-    which.set_ticks(*zip(*axis.ticks))
-    which.set_minor_formatter(NullFormatter())
-    if letter == "x" or axis.foot or axis.high > 1e7 * axis.low:
-        which.set_minor_locator(NullLocator())
+def set_axes(axes, across, up):
+    """The scales, ends and ticks of both axes."""
+    for letter, axis in ("x", across), ("y", up):
+        axes.set(**{f"{letter}scale": "log" if axis.is_log else "linear",
+                    f"{letter}lim": (axis.low, axis.high)})
+        which = getattr(axes, f"{letter}axis")
+        which.set_ticks(*zip(*axis.ticks))
+        which.set_minor_formatter(NullFormatter())
+        if letter == "x" or axis.foot or axis.high > 1e7 * axis.low:
+            which.set_minor_locator(NullLocator())
 
 
 def figure_of(drawn, asked):
     """The figure with all pictures. What room ticks and labels have is known when all else is laid
     out."""
     canvas = Canvas(asked, len(drawn.pictures))
-    places = [(picture, *place) for picture, place in zip(drawn.pictures, canvas.places)]
     up = pictures.value_axis(drawn.pictures, drawn.measure, 0.1)
-    for picture, part, axes, columns in places:
-        across = pictures.size_axis(picture, 0.2)
+    for picture, (part, axes, columns) in zip(drawn.pictures, canvas.places):
         part.suptitle("\n".join(map(canvas.text, picture.title_lines(int(columns) - 2))),
                       fontsize="medium")
         axes.set(xlabel=canvas.text(picture.across), ylabel=canvas.text(drawn.measure.up))
-        named = draw(canvas, axes, picture, across, up)
-        set_axis(axes, "x", across)
-        set_axis(axes, "y", up)
-        add_legend(canvas, axes, picture, columns, named)
-    canvas.lay_out()
-    height = min(axes.get_window_extent().height for _, _, axes, _ in places)
-    up = pictures.value_axis(drawn.pictures, drawn.measure, 1.3 * LINE * canvas.pixels / height)
-    for picture, _, axes, _ in places:
-        width = axes.get_window_extent().width
-        set_axis(axes, "x", pictures.size_axis(picture, 5.5 * LETTER * canvas.pixels / width))
-        set_axis(axes, "y", up)
-    canvas.lay_out()
-    for picture, _, axes, _ in places:
+        across = pictures.size_axis(picture, 0.2)
+        add_legend(canvas, axes, picture, columns, draw(canvas, axes, picture, across, up))
+        set_axes(axes, across, up)
+    lay_out = canvas.figure.get_layout_engine().execute
+    lay_out(canvas.figure)
+    boxes = [axes.get_window_extent() for _, axes, _ in canvas.places]
+    up = pictures.value_axis(drawn.pictures, drawn.measure, 1.3 * LINE * canvas.pixels
+                             / min(box.height for box in boxes))
+    for picture, (_, axes, _), box in zip(drawn.pictures, canvas.places, boxes):
+        set_axes(axes, pictures.size_axis(picture, 5.5 * LETTER * canvas.pixels / box.width), up)
+    lay_out(canvas.figure)
+    for picture, (_, axes, _) in zip(drawn.pictures, canvas.places):
         label_front(canvas, axes, picture, up)
     if asked.ending != ".pgf":  # in which LaTeX says how broad a text is
         canvas.figure.set_layout_engine("none")

@@ -114,7 +114,7 @@ def trace(line, colour, number, up, measure, mono):
         line=EDGE if is_area else {"color": colour, "dash": DASHES[number if mono else 0],
                                    "shape": "hv" if style.is_stepped else "linear"},
         marker={"color": EDGE["color"] if is_area else colour, "size": 8 * style.mark,
-                "symbol": SYMBOLS[0 if is_area else number]})
+                "symbol": SYMBOLS[number]})
 
 
 def axis(ends, words):

@@ -22,8 +22,9 @@ PALE, FRONT, BLACK = "#bbbbbb", "#d55e00", "#000000"
 # `area` lies on the earlier ones, and a `bar` stands on them.
 Style = namedtuple("Style", "is_joined is_stepped mark", defaults=(True, False, 0.0))
 STYLES = {"marks": Style(mark=1), "steps": Style(is_stepped=True, mark=1), "curve": Style(),
-          "tail": Style(), "dots": Style(False, mark=0.5), "front": Style(is_stepped=True, mark=0.75),
-          "area": Style(mark=0.5), "bar": Style(mark=1)}
+          "dots": Style(False, mark=0.5), "front": Style(is_stepped=True, mark=0.75),
+          "tail": Style(), "area": Style(mark=0.5), "bar": Style(mark=1)}
+SAME = ("dots", "front", "tail", "area")  # in dashes and marks
 
 # a cache in a picture: its place, a function of what is said of it and its label, which few of a
 # million are asked for, and the ends over several seeds
@@ -94,7 +95,7 @@ class Picture(namedtuple("Picture", "name fixed title across legend lines labels
 
     def drawn(self, mono, across, up):
         """Each line with no more points than can be seen, its colour, and the number of its dashes
-        and marks. The two lowest areas have the same colours always."""
+        and marks, 0 where all have the same. The two lowest areas always have the same colours."""
         colours = [BLACK] * MOST_LINES if mono else COLOURS
         if self.lines[0].look == "area":
             shades = GREYS if mono else STACK
@@ -104,7 +105,7 @@ class Picture(namedtuple("Picture", "name fixed title across legend lines labels
         elif self.names and mono:
             colours = GREYS[1::2]
         for number, (line, colour) in enumerate(zip(self.lines, colours)):
-            yield seen(line, across, up), colour, 0 if self.is_front else number
+            yield seen(line, across, up), colour, 0 if line.look in SAME else number
 
 
 def front_of(every, front, name):

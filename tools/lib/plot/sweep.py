@@ -63,26 +63,18 @@ class Sweeps(namedtuple("Sweeps", "asked tables measure")):
     def at(self, column, value=None):
         """Those with the rows of one block size, associativity or number of sets: this one, that
         which is asked for, or of those in all tables the usual one or the nearest to it."""
-        value = value or self.asked_for(column) or self.usual(column)
-        return self.where(lambda row: getattr(row, column) == value)
-
-    def asked_for(self, column):
-        wanted = {"bsize": self.asked.bsize, "assoc": self.asked.ways}.get(column)
-        for given in self.tables if wanted is not None else ():
-            own = {getattr(row, column) for row in given.rows}
+        what, usual, _ = FIXED[column]
+        wanted = value or {"bsize": self.asked.bsize, "assoc": self.asked.ways}.get(column)
+        several = [{getattr(row, column) for row in given.rows} for given in self.tables]
+        if wanted is None:
+            common = set.intersection(*several) or fail(f"the tables have no {what} in common")
+            wanted = pictures.nearest(common, usual)
+        for own, given in zip(several, self.tables):
             if wanted not in own:
                 some = handful(own, 12)
                 there = ", ".join(map(str, some)) + " and others" * (len(some) < len(own))
-                fail(f"{given.file}: no cache has the {FIXED[column].what} {wanted}; there are "
-                     f"{there}")
-        return wanted
-
-    def usual(self, column):
-        common = set.intersection(*({getattr(row, column) for row in given.rows}
-                                    for given in self.tables))
-        what, usual, _ = FIXED[column]
-        return (pictures.nearest(common, usual) if common
-                else fail(f"the tables have no {what} in common"))
+                fail(f"{given.file}: no cache has the {what} {wanted}; there are {there}")
+        return self.where(lambda row: getattr(row, column) == wanted)
 
     def grouped(self, column):
         """The rows of each of a handful of values of a column."""
