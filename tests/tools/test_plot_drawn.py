@@ -67,7 +67,7 @@ class Drawn(PlotTest):
     def test_the_same_file(self):
         """Of the same table, whatever settings of matplotlib a user has."""
         self.write("matplotlibrc", "lines.linewidth: 9\ntext.usetex: True\n")
-        for out in "a.png", "a.svg", "a.pdf", "a.html":
+        for out in "a.png", "a.svg", "a.pdf", "a.eps", "a.html":
             drawn = self.drawn("--only", "size", "eight.csv", out)
             (self.folder / "matplotlibrc").unlink(missing_ok=True)
             self.assertTrue(drawn == self.drawn("--only", "size", "eight.csv", out), out)

@@ -47,13 +47,12 @@ def across_of(wanted, view):
     """The option on the horizontal axis: the wanted one, else the last size or number that varies.
     """
     numbers = [option for option in view.table.options if kind(option) in NUMBERS]
-    if wanted:
-        return wanted if wanted in numbers else fail(
-            f"{view.file}: no option {wanted} with numbers; there are {', '.join(numbers)}")
-    among = view.varied or view.table.options
-    sizes, others = ([option for option in options if kind(option) in kinds] for options, kinds in (
-        (among, ("size", "sets")), (among, NUMBERS)))
-    return (sizes or others or [option for option in numbers if kind(option) in ACROSS])[-1]
+    if wanted and wanted not in numbers:
+        fail(f"{view.file}: no option {wanted} with numbers; there are {', '.join(numbers)}")
+    varied = view.varied
+    ranks = [(option in varied, kind(option) in ("size", "sets"), at)
+             for at, option in enumerate(numbers)]
+    return wanted or numbers[max(ranks)[-1]]
 
 
 def measure_of(views):

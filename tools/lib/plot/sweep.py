@@ -201,12 +201,12 @@ def three_c(sweeps, name, bsize):
     lines = [kind(ways_text(count), [row for row in rows if row.assoc == count],
                   lambda row: row.misses,
                   lambda row: f"{ways_text(row.assoc)}: misses {row.misses:,}, of these conflict "
-                              f"{row.misses - sum(row.value):,}") for count in ways]
+                              f"{row.misses - int(sum(row.value)):,}") for count in ways]
     lines += [kind("capacity", sizes, lambda row: sum(row.value),
-                   lambda row: f"fully associative: misses {sum(row.value):,}, of these capacity "
-                               f"{row.value[0]:,}"),
+                   lambda row: f"fully associative: misses {int(sum(row.value)):,}, of these "
+                               f"capacity {int(row.value[0]):,}"),
               kind("compulsory", sizes, lambda row: row.value[1],
-                   lambda row: f"compulsory misses {row.value[1]:,}")]
+                   lambda row: f"compulsory misses {int(row.value[1]):,}")]
     bsize, least = rows[0].bsize, f"{ways[0]} to " * (len(ways) > 1)
     return Picture(name, bsize, f"The three C's by cache size: conflict misses of {least}"
                    f"{ways_text(ways[-1])}, {FIXED['bsize'].text(bsize)}", SIZE, "", lines)
@@ -219,7 +219,7 @@ def of_references(sweeps, name, bsize):
     rows = fixed.rows
     sizes = sorted((sweeps if sweeps.asked.ending == ".html" else fixed).values("size"))
     lines = [kind(word, rows, lambda row, at=at: row.value[at],
-                  lambda row, at=at, word=word: f"{word} misses {row.value[at]:,} of "
+                  lambda row, at=at, word=word: f"{word} misses {int(row.value[at]):,} of "
                                                 f"{row.misses:,}", "bar", sizes.index)
              for at, word in enumerate(("fetch", "read", "write"))]
     title = f"{FIXED['bsize'].text(rows[0].bsize)}, {ways_text(rows[0].assoc)}"
@@ -249,14 +249,13 @@ def drawn(sweeps):
                  "sizes")
         return [picture]
     usual = [made(sweeps, name) for name in (first, "block", "pareto")]
-    is_page = sweeps.asked.ending == ".html"
-    return [each for each in usual if any(
-        map(is_broad, choices(sweeps, each).values() if is_page else [each]))] or usual[:1]
+    return [each for each in usual
+            if any(map(is_broad, choices(sweeps, each).values()))] or usual[:1]
 
 
 def choices(sweeps, picture):
-    """The pictures that may be chosen instead of one: by what they fix."""
-    if not sweeps.is_one or not picture.fixed:
+    """The pictures of which one may be chosen in a page, by what they fix."""
+    if sweeps.asked.ending != ".html" or not sweeps.is_one or not picture.fixed:
         return {picture.fixed: picture}
     column = "assoc" if picture.name in ("block", "traffic") else "bsize"
     values = handful(sweeps.values(column), MOST_CHOICES)
