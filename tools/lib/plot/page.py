@@ -89,7 +89,7 @@ def about(point, line, measure):
     """What the pointer shows of a cache."""
     number = "{:.4g}" if measure.is_percent else "{:.10g}"
     ends = " ({} to {})".format(*map(number.format, point.ends)) if point.ends else ""
-    name = f"{line.name}\n" * (line.look in ("marks", "curve", "steps") and bool(line.name))
+    name = f"{line.name}\n" * (line.style.is_own and bool(line.name))
     return plain(f"{name}{point.told()[0]}\n{measure.up}: {number.format(point.y)}{ends}")
 
 

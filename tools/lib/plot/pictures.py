@@ -16,15 +16,16 @@ COLOURS = ("#0072b2", "#d55e00", "#009e73", "#cc79a7", "#e69f00", "#56b4e9", "#0
 # areas of a stack, above the two lowest: shades that differ in lightness too
 STACK = ("#feedde", "#fdbe85", "#fd8d3c", "#d94701", "#8c2d04", "#6baed6", "#08306b")
 GREYS = ("#f4f4f4", "#dcdcdc", "#c0c0c0", "#a2a2a2", "#848484", "#606060", "#202020")
-CELLS = {"curve": (1000, 500), "dots": (400, 200)}  # columns and rows of what can be seen
 PALE, FRONT, BLACK = "#bbbbbb", "#d55e00", "#000000"
-# styles of lines: whether their points are joined, by steps, and how large their marks are. An
-# `area` lies on the earlier ones, and a `bar` stands on them.
-Style = namedtuple("Style", "is_joined is_stepped mark", defaults=(True, False, 0.0))
-STYLES = {"marks": Style(mark=1), "steps": Style(is_stepped=True, mark=1), "curve": Style(),
-          "dots": Style(False, mark=0.5), "front": Style(is_stepped=True, mark=0.75),
-          "tail": Style(), "area": Style(mark=0.5), "bar": Style(mark=1)}
-SAME = ("dots", "front", "tail", "area")  # in dashes and marks
+# a style of lines: whether each has dashes and marks of its own, if its points are joined, by
+# steps, how large the marks are, and in how many columns and rows points can be told apart
+Style = namedtuple("Style", "is_own is_joined is_stepped mark cells",
+                   defaults=(True, True, False, 0, ()))
+# an `area` lies on the earlier ones, and a `bar` stands on them
+STYLES = {"marks": Style(mark=1), "steps": Style(is_stepped=True, mark=1),
+          "curve": Style(cells=(1000, 500)), "area": Style(False, mark=0.5),
+          "dots": Style(False, False, mark=0.5, cells=(400, 200)), "bar": Style(False, mark=1),
+          "front": Style(False, is_stepped=True, mark=0.75), "tail": Style(False)}
 
 # a cache in a picture: its place, a function of what is said of it and its label, which few of a
 # million are asked for, and the ends over several seeds
@@ -105,7 +106,7 @@ class Picture(namedtuple("Picture", "name fixed title across legend lines labels
         elif self.names and mono:
             colours = GREYS[1::2]
         for number, (line, colour) in enumerate(zip(self.lines, colours)):
-            yield seen(line, across, up), colour, 0 if line.look in SAME else number
+            yield seen(line, across, up), colour, number if line.style.is_own else 0
 
 
 def front_of(every, front, name):
@@ -252,9 +253,9 @@ def is_broad(picture):
 
 def seen(line, across, up):
     """A line with no more points than can be seen: the last in each cell of the picture."""
-    if line.look not in CELLS:
+    if not line.style.cells:
         return line
-    columns, rows = CELLS[line.look]
+    columns, rows = line.style.cells
     right = across.fractions(point.x for point in line.points)
     high = up.fractions(point.y for point in line.points)
     return line._replace(points=list({
