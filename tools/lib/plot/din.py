@@ -18,54 +18,47 @@ TEXTS = {"size": bytes_text, "sets": lambda sets: counted(sets, "set", short),
 GLOBAL = "-global"  # in a column's name: misses by the references to the first level
 
 
-class View(namedtuple("View", "table across file")):
-    """A table that is drawn, whose cases have a value by each option, the option on its horizontal
-    axis, and its file."""
+# a table that is drawn: its file, options, measure, references, cases, which have a value by each
+# option, and the option on the horizontal axis
+View = namedtuple("View", "file options measure references cases across")
 
-    @property
-    def varied(self):
-        """The options of which there are several values."""
-        return [option for option in self.table.options if len(self.values(option)) > 1]
 
-    def values(self, option):
-        return {case.given[option] for case in self.table.cases}
+def varied(view):
+    """The options of which there are several values."""
+    return [option for option in view.options
+            if len({case.given[option] for case in view.cases}) > 1]
 
-    def where(self, is_kept):
-        """That with some of the cases."""
-        cases = [*filter(is_kept, self.table.cases)]
-        return self._replace(table=self.table._replace(cases=cases))
 
-    def groups(self, options):
-        """The cases that share the values of some options, by these."""
-        found = {}
-        for case in self.table.cases:
-            found.setdefault(tuple(case.given[option] for option in options), []).append(case)
-        return found
+def groups(cases, options):
+    """The cases that share the values of some options, by these."""
+    found = {}
+    for case in cases:
+        found.setdefault(tuple(case.given[option] for option in options), []).append(case)
+    return found
 
 
 def across_of(wanted, view):
     """The option on the horizontal axis: the wanted one, else the last size or number that varies.
     """
-    numbers = [option for option in view.table.options if kind(option) in NUMBERS]
+    numbers, several = [each for each in view.options if kind(each) in NUMBERS], varied(view)
     if wanted and wanted not in numbers:
         fail(f"{view.file}: no option {wanted} with numbers; there are {', '.join(numbers)}")
-    varied = view.varied
-    ranks = [(option in varied, kind(option) in ("size", "sets"), at)
+    ranks = [(option in several, kind(option) in ("size", "sets"), at)
              for at, option in enumerate(numbers)]
     return wanted or numbers[max(ranks)[-1]]
 
 
 def measure_of(views):
     """How the measure is called. Where tables have other ones each, it is the miss ratio."""
-    measure, options = views[0].table.measure, views[0].table.options
-    if len({view.table.measure for view in views}) > 1:
+    measure = views[0].measure
+    if len({view.measure for view in views}) > 1:
         return Measure()
     if not measure.endswith("-percent"):
         own = re.fullmatch("(l[12]-[diu])-(.*)", measure)
         return Measure(f"{own[2].replace('-', ' ')} of {own[1]}" if own else
                        measure.replace("-", " "))
     own = measure.removesuffix("-percent")
-    caches = {cache(option) for option in options}
+    caches = {cache(option) for option in views[0].options}
     of = f" of {own.removesuffix(GLOBAL)}" if len(caches) > 1 else ""
     # that of a second level is by the references to this level or to the first
     is_local = own.startswith("l2-") and any(one.startswith("l1-") for one in caches)
@@ -102,15 +95,16 @@ def fixed(asked, view, lines):
     horizontal axis, or where there would be too many lines; and the values that are fixed so."""
     found, across = {}, view.across
     for word, wanted, usual in (("assoc", asked.ways, 4), ("bsize", asked.bsize, 64)):
-        for option in [one for one in view.table.options if kind(one) == word and one != across]:
+        for option in [one for one in view.options if kind(one) == word and one != across]:
             is_asked = wanted is not None and cache(option) == cache(across)
-            if is_asked or option in lines and len(view.groups(lines)) > MOST_LINES:
-                values = sorted(map(int, view.values(option)))
+            if is_asked or option in lines and len(groups(view.cases, lines)) > MOST_LINES:
+                values = sorted({int(case.given[option]) for case in view.cases})
                 value = wanted if is_asked else pictures.nearest(values, usual)
                 if value not in values:
                     fail(f"{view.file}: no run has {option} {wanted}; there are "
                          f"{', '.join(map(str, values))}")
-                view = view.where(lambda case, at=option, value=value: int(case.given[at]) == value)
+                view = view._replace(cases=[case for case in view.cases
+                                            if int(case.given[option]) == value])
                 found[option] = value
     return view, found
 
@@ -118,19 +112,19 @@ def fixed(asked, view, lines):
 def lines_of(asked, view):
     """The measure by the option on the horizontal axis: a line for each value of the others that
     change the measure, those of its own cache alone, if that is in level 1; what is fixed, and
-    whether there are several caches."""
-    across, own, some = view.across, view.table.measure, len(view.table.cases)
-    view = view.where(lambda case: case.given[across])
-    if len(view.table.cases) < some:
-        warn(f"{view.file}: {some - len(view.table.cases)} of {some} caches have no {across}, and "
-             "are left out")
-    lines = [option for option in view.varied if option != across
+    which cache it is, if there are several."""
+    across, own, cases = view.across, view.measure, view.cases
+    view = view._replace(cases=[case for case in cases if case.given[across]])
+    if len(view.cases) < len(cases):
+        warn(f"{view.file}: {len(cases) - len(view.cases)} of {len(cases)} caches have no {across},"
+             " and are left out")
+    lines = [option for option in varied(view) if option != across
              and (not own.startswith("l1-") or own.startswith(f"{cache(option)}-"))]
     has_caches = len({cache(option) for option in [across, *lines]}) > 1
     view, values = fixed(asked, view, lines)
-    lines = [option for option in lines if option in view.varied]
+    lines = [option for option in lines if option in varied(view)]
     found = []
-    for cases in view.groups(lines).values():
+    for cases in groups(view.cases, lines).values():
         first = {int(case.given[across]): case for case in reversed(cases)}
         found.append(Line(label(cases[0].given, lines, has_caches), points(
             [case for _, case in sorted(first.items())], lambda case: int(case.given[across]),
@@ -142,7 +136,7 @@ def by_across(asked, tables, views, measure):
     """The picture of all lines of the tables. In a title is what is fixed in all of them."""
     several = [lines_of(asked, view) for view in views]
     values, caches = ({*each} for each in zip(*(rest for _, *rest in several)))
-    has_own = len({view.table.measure for view in views}) > 1
+    has_own = len({view.measure for view in views}) > 1
     found = [line._replace(name=", ".join(filter(None, (
         given.name + f" ({cache(view.across)})" * has_own, line.name))))
         for given, view, (lines, *_) in zip(tables, views, several) for line in lines]
@@ -156,12 +150,11 @@ def by_across(asked, tables, views, measure):
 
 def by_front(view, measure):
     """The cases of which none as small is as good, by the size of all caches, before all others."""
-    cases = view.table.cases
-    sizes = [option for option in view.table.options if kind(option) in ("size", "sets")]
-    lines = [option for option in view.varied if kind(option) != "size" or len(sizes) > 1]
+    sizes = [option for option in view.options if kind(option) in ("size", "sets")]
+    lines = [option for option in varied(view) if kind(option) != "size" or len(sizes) > 1]
     has_caches = len({cache(option) for option in lines}) > 1
-    every, front = (points(some, lambda case: case.size, lines, has_caches)
-                    for some in (cases, pareto(cases)))
+    every, front = (points(cases, lambda case: case.size, lines, has_caches)
+                    for cases in (view.cases, pareto(view.cases)))
     words = "size of all caches in bytes" if len(sizes) > 1 else pictures.SIZE
     return Picture("pareto", 0, measure.least, words, "",
                    pictures.front_of(every, front, "least up to this size"))
@@ -170,25 +163,26 @@ def by_front(view, measure):
 def read(asked, given, first=None):
     """A table with its measure and the option on its axis: those that are asked for, or of the
     first table, where this one has them; else its own, as of a split cache beside a unified one."""
-    def table_of(measure):
-        found = read_table(given.lines, given.shown, measure)
-        return found._replace(cases=[case._replace(given=dict(zip(found.options, case.given)))
-                                     for case in found.cases])
+    def view_of(table, across=None):
+        cases = [case._replace(given=dict(zip(table.options, case.given))) for case in table.cases]
+        return View(given.file, table.options, table.measure, table.references, cases, across)
 
-    view, columns = View(table_of(None), "", given.file), given.lines[0].strip().split(",")
-    as_first = first.across if first and first.across in view.table.options else None
+    table, columns = read_table(given.lines, given.shown), given.lines[0].strip().split(",")
+    view = view_of(table)
+    as_first = first.across if first and first.across in view.options else None
     across = across_of(asked.across or as_first, view)
     if first and kind(across) != kind(first.across):
         across_of(first.across, view)  # which fails
     # without a measure it is the miss ratio of the cache on the horizontal axis
     own = f"{cache(across)}-percent"
     measure = asked.measure or (own if own in columns else usual_measure(columns))
-    if first and not asked.measure and first.table.measure in columns:
-        measure = first.table.measure
-    table = view.table if measure == view.table.measure else table_of(measure)
+    if first and not asked.measure and first.measure in columns:
+        measure = first.measure
+    if measure != table.measure:
+        table = read_table(given.lines, given.shown, measure)
     if table.left_out:
         warn(table.left_out)
-    return View(table, across, given.file)
+    return view_of(table, across)
 
 
 def drawn(asked, tables):
@@ -196,12 +190,12 @@ def drawn(asked, tables):
     are by the first."""
     first = read(asked, tables[0])
     views = [first, *(read(asked, given, first) for given in tables[1:])]
-    measures = {view.table.measure for view in views}
+    measures = {view.measure for view in views}
     if len(measures) > 1 and not all(measure.endswith("-percent") for measure in measures):
         fail("the tables have no measure in common: name one by --measure")
     measure = measure_of(views)
-    runs = sum(len(case.values) for case in first.table.cases)
-    counts = f"{counted(runs, 'run', '{:,}'.format)}, {first.table.references:,} references"
+    runs = sum(len(case.values) for case in first.cases)
+    counts = f"{counted(runs, 'run', '{:,}'.format)}, {first.references:,} references"
     if asked.only == "pareto" and len(tables) == 1:
         return by_front(first, measure), measure, counts
     if asked.only not in (None, "size"):

@@ -76,11 +76,6 @@ class Sweeps(namedtuple("Sweeps", "asked tables measure")):
                 fail(f"{given.file}: no cache has the {what} {wanted}; there are {there}")
         return self.where(lambda row: getattr(row, column) == wanted)
 
-    def grouped(self, column):
-        """The rows of each of a handful of values of a column."""
-        return {value: [row for row in self.rows if getattr(row, column) == value]
-                for value in handful(self.values(column))}
-
 
 def judge(rows, name):
     """Ends the tool where the rows are not of one sweep."""
@@ -157,7 +152,9 @@ def by_column(sweeps, name, value):
         if name == "block":  # sizes of several blocks, if any
             blocks = collections.Counter(row.size for row in sweeps.rows)
             shown = sweeps.where(lambda row: blocks[row.size] >= min(2, max(blocks.values())))
-        groups = [(shape.text(each), rows) for each, rows in shown.grouped(shape.each).items()]
+        groups = [(shape.text(value), [row for row in shown.rows
+                                       if getattr(row, shape.each) == value])
+                  for value in handful(shown.values(shape.each))]
     steps = {getattr(row, shape.step) for given in sweeps.tables for row in given.rows
              } if shape.step else ()
     drawn = [points(rows, shape.across, shape.step, steps) for _, rows in groups]
