@@ -4,9 +4,10 @@ import functools
 import re
 from collections import namedtuple
 
+from lib import costs
 from lib.plot import pictures
-from lib.plot.pictures import (MOST_LINES, Line, Measure, Picture, Point, bytes_text, counted,
-                               evenly, short, ways_text)
+from lib.plot.pictures import (MOST_LINES, Drawn, Line, Measure, Picture, Point, bytes_text,
+                               counted, evenly, short, ways_text)
 from lib.table import pareto
 from lib.table_din import NUMBERS, WORDS, cache, kind, read_table, usual_measure
 from lib.tool import fail, warn
@@ -186,19 +187,18 @@ def read(asked, given, first=None):
 
 
 def drawn(asked, tables):
-    """The picture that is asked for, its measure, and what a page says of a single table. The axes
-    are by the first."""
+    """What is drawn of tables of din: one picture. The axes are by the first."""
+    costs.refuse_din(asked)
     first = read(asked, tables[0])
     views = [first, *(read(asked, given, first) for given in tables[1:])]
     measures = {view.measure for view in views}
     if len(measures) > 1 and not all(measure.endswith("-percent") for measure in measures):
         fail("the tables have no measure in common: name one by --measure")
-    measure = measure_of(views)
-    runs = sum(len(case.values) for case in first.cases)
-    counts = f"{counted(runs, 'run', '{:,}'.format)}, {first.references:,} references"
-    if asked.only == "pareto" and len(tables) == 1:
-        return by_front(first, measure), measure, counts
-    if asked.only not in (None, "size"):
+    if asked.only not in ((None, "size") if len(tables) > 1 else (None, "size", "pareto")):
         fail("several tables of din have the picture size alone" if len(tables) > 1 else
              f"{first.file}: a table of din has the pictures size and pareto")
-    return by_across(asked, tables, views, measure), measure, counts
+    measure, runs = measure_of(views), sum(len(case.values) for case in first.cases)
+    picture = (by_front(first, measure) if asked.only == "pareto" else
+               by_across(asked, tables, views, measure))
+    counts = f"{counted(runs, 'run', '{:,}'.format)}, {first.references:,} references"
+    return Drawn([picture], measure, counts, lambda picture: {0: picture})

@@ -4,16 +4,13 @@ import os
 import stat
 from collections import namedtuple
 
-from lib import costs, files, table, tool
+from lib import files, table, tool
 from lib.plot import din, pictures, sweep, text
 
 LONGEST = 24  # letters of a table's name in the legend
 
 # a table: its file, its name in the legend, its lines, what faults call it, and its rows
 Given = namedtuple("Given", "file name lines shown rows", defaults=((),))
-# the pictures, their measure, what a page says of a single table, and a function of what may be
-# chosen there instead of a picture
-Drawn = namedtuple("Drawn", "pictures measure counts choices")
 
 
 def names_of(paths):
@@ -40,33 +37,6 @@ def write_file(out, data):
                 file.write(data)
 
 
-def of_sweeps(asked, tables):
-    """The pictures of tables of sweeps."""
-    if asked.across:
-        tool.fail(f"{asked.table}: --across is for a table of din")
-    if len(tables) > 1 and asked.only not in (None, "size", "curve", "pareto"):
-        tool.fail(f"several tables have the pictures size, curve, pareto, and not {asked.only}")
-    if asked.only in sweep.OWN and costs.column_of(asked) != "misses":
-        tool.fail(f"--only {asked.only} draws {sweep.OWN[asked.only].what}, and no other measure")
-    sweeps = sweep.Sweeps(asked, [sweep.with_rows(asked, one) for one in tables],
-                          sweep.measure_of(asked))
-    rows, references = sweeps.rows, sweeps.rows[0].references
-    if len(tables) == 1 and not references:
-        asked.title = f"{asked.title} (no references)".strip()
-    if asked.only == "kinds":
-        sweeps = sweeps.at("assoc")
-    counts = pictures.counted(len(rows), "cache", "{:,}".format)
-    return Drawn(sweep.drawn(sweeps), sweeps.measure, f"{counts}, {references:,} references",
-                 lambda picture: sweep.choices(sweeps, picture))
-
-
-def of_dins(asked, tables):
-    """The picture of tables of din."""
-    costs.refuse_din(asked)
-    picture, measure, counts = din.drawn(asked, tables)
-    return Drawn([picture], measure, counts, lambda _: {picture.fixed: picture})
-
-
 def drawn_of(asked):
     """What is drawn of the tables that are asked for, or their fault."""
     tables = [Given(path, name, *table.lines_of(path))
@@ -75,7 +45,7 @@ def drawn_of(asked):
     if len(are_din) > 1:
         tool.fail("tables of sweeps and of din have no picture in common")
     try:
-        return (of_dins if are_din.pop() else of_sweeps)(asked, tables)
+        return (din if are_din.pop() else sweep).drawn(asked, tables)
     except table.BadTable as fault:
         tool.fail(str(fault))
 

@@ -109,6 +109,11 @@ class Picture(namedtuple("Picture", "name fixed title across legend lines labels
             yield seen(line, across, up), colour, number if line.style.is_own else 0
 
 
+# pictures, their measure, what a page says of a single table, and a function of what may be chosen
+# there instead of a picture
+Drawn = namedtuple("Drawn", "pictures measure counts choices")
+
+
 def front_of(every, front, name):
     """The lines of a Pareto front before all caches. It goes on to the largest of these."""
     end = front[-1]._replace(x=max(point.x for point in every))

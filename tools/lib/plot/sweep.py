@@ -6,8 +6,8 @@ from collections import namedtuple
 
 from lib import costs, table
 from lib.plot import pictures
-from lib.plot.pictures import (SIZE, Line, Measure, Picture, Point, bytes_text, counted, handful,
-                               is_broad, short, ways_text)
+from lib.plot.pictures import (SIZE, Drawn, Line, Measure, Picture, Point, bytes_text, counted,
+                               handful, is_broad, short, ways_text)
 from lib.tool import MOST, fail
 
 # the vertical axes of what is made of misses and block size
@@ -230,7 +230,7 @@ def made(sweeps, name, value=None):
     return maker(sweeps, name, value)
 
 
-def drawn(sweeps):
+def pictures_of(sweeps):
     """The pictures that are asked for: one of several tables. Without a wish those of one table are
     three, the first a curve if there is one number of sets, except those that are a column whatever
     is chosen in a page."""
@@ -258,3 +258,22 @@ def choices(sweeps, picture):
     values = handful(sweeps.values(column), MOST_CHOICES)
     return {value: made(sweeps, picture.name, value)
             for value in sorted({*values, picture.fixed})}
+
+
+def drawn(asked, tables):
+    """What is drawn of tables of sweeps."""
+    if asked.across:
+        fail(f"{asked.table}: --across is for a table of din")
+    if len(tables) > 1 and asked.only not in (None, "size", "curve", "pareto"):
+        fail(f"several tables have the pictures size, curve, pareto, and not {asked.only}")
+    if asked.only in OWN and costs.column_of(asked) != "misses":
+        fail(f"--only {asked.only} draws {OWN[asked.only].what}, and no other measure")
+    sweeps = Sweeps(asked, [with_rows(asked, one) for one in tables], measure_of(asked))
+    rows, references = sweeps.rows, sweeps.rows[0].references
+    if len(tables) == 1 and not references:
+        asked.title = f"{asked.title} (no references)".strip()
+    if asked.only == "kinds":
+        sweeps = sweeps.at("assoc")
+    counts = f"{counted(len(rows), 'cache', '{:,}'.format)}, {references:,} references"
+    return Drawn(pictures_of(sweeps), sweeps.measure, counts,
+                 lambda picture: choices(sweeps, picture))
