@@ -127,11 +127,12 @@ class Axis(namedtuple("Axis", "low high is_log ticks foot", defaults=(0.0,))):
     def place(self, value):
         return value or self.foot
 
-    def fractions(self, values):
-        """How far along the axis some values stand: 0 at its low end, 1 at the high one."""
+    def cells(self, values, count):
+        """How many of so many steps along the axis some values are from its low end."""
         measure = math.log if self.is_log else float
         low, high = measure(self.low), measure(self.high)
-        return [(measure(self.place(value)) - low) / (high - low) for value in values]
+        return [round(count * ((measure(self.place(value)) - low) / (high - low)))
+                for value in values]
 
 
 def printable(words):
@@ -261,8 +262,6 @@ def seen(line, across, up):
     if not line.style.cells:
         return line
     columns, rows = line.style.cells
-    right = across.fractions(point.x for point in line.points)
-    high = up.fractions(point.y for point in line.points)
-    return line._replace(points=list({
-        (round(columns * x), round(rows * y)): point
-        for x, y, point in zip(right, high, line.points)}.values()))
+    cells = zip(across.cells((point.x for point in line.points), columns),
+                up.cells((point.y for point in line.points), rows))
+    return line._replace(points=[*dict(zip(cells, line.points)).values()])

@@ -29,28 +29,26 @@ def legend_of(picture, columns):
 
 
 def draw(rows, picture, place):
-    """All lines as letters in rows, and then their marks, and the labels that have room."""
-    def dot(at, letter):
-        rows[at[1]][at[0]] = letter
-
+    """All lines as letters in rows, the lowest first, then their marks, and the labels that have
+    room."""
     for line, stroke, _ in looks_of(picture):
         for point, after in zip(line.points, line.points[1:] if stroke else []):
             if point and after:
-                (left, top), (right, bottom) = place(point), place(after)
-                steps = max(abs(right - left), abs(bottom - top), 1)
+                (left, start), (right, end) = place(point), place(after)
+                steps = max(abs(right - left), abs(end - start), 1)
                 for step in range(steps + 1):
                     part = int(step == steps) if line.style.is_stepped else step / steps
-                    dot((left + round((right - left) * step / steps),
-                         top + round((bottom - top) * part)), stroke)
+                    rows[start + round((end - start) * part)][
+                        left + round((right - left) * step / steps)] = stroke
     for line, _, mark in looks_of(picture):
-        for point in filter(None, line.points * bool(mark)):
-            dot(place(point), mark)
+        for column, row in map(place, line.whole if mark else []):
+            rows[row][column] = mark
     for point in picture.front:
         (column, row), label = place(point), point.told()[1]
-        start, below = column - len(label), rows[row + 1] if row + 1 < len(rows) else "x"
+        start, below = column - len(label), rows[row - 1] if row else "x"
         if start > 0 and not {*below[start - 1:column + 1]} - {*" ."}:
             below[start:column] = label
-            dot((column, row), "O")
+            rows[row][column] = "O"
 
 
 def page(picture, measure, title, columns, lines):
@@ -66,22 +64,19 @@ def page(picture, measure, title, columns, lines):
     broad = columns - left - 4 - (max(map(len, legend), default=0) + 2 if is_beside else 0)
     across = pictures.size_axis(picture, 5.5 / broad)
 
-    def column(x):
-        return round(across.fractions([x])[0] * (broad - 1))
-
-    def row(y):
-        return round((1 - up.fractions([y])[0]) * (high - 1))
-
     rows = [[" "] * broad for _ in range(high)]
-    draw(rows, picture, lambda point: (column(point.x), row(point.y)))
-    ticks = {row(value): words for value, words in up.ticks}
+    draw(rows, picture, lambda point: (*across.cells([point.x], broad - 1),
+                                       *up.cells([point.y], high - 1)))
+    values, texts = zip(*up.ticks)
+    ticks = dict(zip(up.cells(values, high - 1), texts))
     beside = legend * is_beside + [""] * high
+    values, texts = zip(*across.ticks)
     below = ""
-    for value, words in across.ticks:
-        start = left + 2 + column(value) - len(words) // 2
+    for column, words in zip(across.cells(values, broad - 1), texts):
+        start = left + 2 + column - len(words) // 2
         below = below.ljust(start) + words if start >= len(below) else below
-    return [*head, *(f"{ticks.get(at, ''):>{left}} |{''.join(row)}  {beside[at]}"
-                     for at, row in enumerate(rows)),
+    return [*head, *(f"{ticks.get(at, ''):>{left}} |{''.join(rows[at])}  {beside[high - 1 - at]}"
+                     for at in reversed(range(high))),
             " " * (left + 1) + "+" + "-" * broad, below,
             (" " * left + picture.across.center(broad))]
 
