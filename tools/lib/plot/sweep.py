@@ -10,8 +10,9 @@ from lib.plot.pictures import (SIZE, Drawn, Line, Measure, Picture, Point, bytes
                                handful, is_broad, short, ways_text)
 from lib.tool import MOST, fail
 
-# the vertical axes of what is made of misses and block size
-UNITS = {costs.ACCESS_TIME: "access time in cycles (AMAT)", costs.TRAFFIC: "traffic in bytes"}
+# the vertical axes of misses, and of what is made of them and the block size
+UNITS = {"misses": Measure().up, costs.ACCESS_TIME: "access time in cycles (AMAT)",
+         costs.TRAFFIC: "traffic in bytes"}
 # pictures with a measure of their own: the columns that it is made of, what a fault calls it, and
 # the axis
 Own = namedtuple("Own", "columns what measure")
@@ -107,13 +108,11 @@ def with_rows(asked, given):
 
 def measure_of(asked):
     """How the measure is called. It is drawn in per cent of the references where it counts some."""
-    column = costs.column_of(asked)
     if asked.only in OWN:
         return OWN[asked.only].measure
-    if column == "misses":
-        return Measure()
-    return Measure(f"{column} in per cent of references" if column in table.COUNTS
-                   else UNITS.get(column, column))
+    column = costs.column_of(asked)
+    of_references = " in per cent of references" * (column in table.COUNTS)
+    return Measure(UNITS.get(column, column + of_references))
 
 
 def cache_text(row):
