@@ -174,7 +174,7 @@ def add_legend(canvas, axes, picture, columns, named):
     if not named:
         return
     place = {"loc": "upper left", "bbox_to_anchor": (1.01, 1.02), "alignment": "left"}
-    if canvas.is_narrow or picture.is_front:
+    if canvas.is_narrow or picture.front:
         broadest = max(map(len, named.values())) + (9 if canvas.mono else 7)
         rows = math.ceil(len(named) / max(1, int((columns - 10) / broadest)))
         place = {"loc": "lower center", "bbox_to_anchor": (0.5, 1), "columnspacing": 1.5,
@@ -190,14 +190,17 @@ def label_front(canvas, axes, picture, up):
     inside, boxes, kept = axes.get_window_extent(), [], []
     for point in picture.front:
         place, label = (point.x, up.place(point.y)), point.told()[1]
+        corner = axes.transData.transform(place) - 0.3 * canvas.pixels
+        if not label or any(box.contains(*corner) for box in boxes):
+            continue  # at once, since a front may have thousands
         text = axes.annotate(canvas.text(label), place, (-0.4, -0.4), ha="right", va="top",
                              textcoords="offset fontsize", fontsize=0.64 * canvas.em)
         box = text.get_window_extent().padded(0.2 * canvas.pixels)
-        if label and box.x0 > inside.x0 and box.y0 > inside.y0 and not box.count_overlaps(boxes):
+        if box.x0 < inside.x0 or box.y0 < inside.y0 or box.count_overlaps(boxes):
+            text.remove()
+        else:
             boxes.append(box)
             kept.append(place)
-        else:
-            text.remove()
     if kept:
         axes.plot(*zip(*kept), "o", color="black", fillstyle="none", markersize=0.45 * canvas.em,
                   gid="pareto_labelled")

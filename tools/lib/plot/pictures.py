@@ -76,14 +76,10 @@ class Picture(namedtuple("Picture", "name fixed title across legend lines labels
         return [point for line in self.lines for point in line.whole]
 
     @property
-    def is_front(self):
-        return self.lines[0].look == "dots"
-
-    @property
     def front(self):
         """The caches that may have a label, in the order in which they get one: first that which
         misses least, then sizes that are powers of two."""
-        front = self.lines[1].points if self.is_front else []
+        front = self.lines[1].points if self.lines[0].look == "dots" else []
         return sorted(front, key=lambda one: one != front[-1] and 1 + (one.x & (one.x - 1) != 0))
 
     def title_lines(self, columns):
@@ -101,7 +97,7 @@ class Picture(namedtuple("Picture", "name fixed title across legend lines labels
         if self.lines[0].look == "area":
             shades = GREYS if mono else STACK
             colours = [*shades[:len(self.lines) - 2], *shades[-2:]]
-        elif self.is_front:
+        elif self.front:
             colours = PALE, *[BLACK if mono else FRONT] * 2
         elif self.names and mono:
             colours = GREYS[1::2]

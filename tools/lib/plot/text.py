@@ -10,17 +10,17 @@ STROKES, MARKS = "*#$%@&=", "ABCDEFG"
 
 def looks_of(picture):
     """Each line with the letters for its strokes and its marks, which may be none."""
-    letters = zip("---", ".oo") if picture.is_front else zip(STROKES, MARKS)
+    letters = zip("---", ".oo") if picture.front else zip(STROKES, MARKS)
     for line, (stroke, mark) in zip(picture.lines, letters):
         yield line, stroke * line.style.is_joined, mark * bool(line.style.mark)
 
 
 def legend_of(picture, columns):
     """The lines of a legend: beside the picture one for each name; above it several in each."""
-    names = [f"{mark if picture.is_front else stroke * 3 + mark + stroke * 3} {line.name}"
+    names = [f"{mark if picture.front else stroke * 3 + mark + stroke * 3} {line.name}"
              for line, stroke, mark in looks_of(picture) if line.name]
     title = [picture.legend] * bool(picture.legend and names)
-    if columns >= NARROW and not picture.is_front:
+    if columns >= NARROW and not picture.front:
         return title + names
     broadest = max(map(len, names), default=0) + 2
     beside = max(1, (columns - 8) // broadest)
@@ -54,7 +54,7 @@ def draw(rows, picture, place):
 def page(picture, measure, title, columns, lines):
     """A picture in so many columns and lines: titles, what the axes are, and what is drawn."""
     legend = legend_of(picture, columns)
-    is_beside = columns >= NARROW and not picture.is_front
+    is_beside = columns >= NARROW and not picture.front
     head = [words.center(columns) for words in (
         *[title[:columns]] * bool(title), *picture.title_lines(columns))]
     head += [measure.up] + [" " * 4 + line for line in legend] * (not is_beside)
