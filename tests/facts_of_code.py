@@ -336,6 +336,8 @@ def last_level():
 
 
 fact("docs/cookbook.md", rf"A last level of {NUMBER} MiB behind two levels", last_level)
+fact("docs/cookbook.md", r"for a cache in which pages have (\d+) colours",
+     lambda: shown("docs/cookbook.md", r"mix\(address >> 12\) % (\d+) \* 64 "))
 fact("docs/cookbook.md", r"LRU caches of any number of sets, here (\d+)\.",
      lambda: shown("docs/cookbook.md", r"any-index examples/sort\.din --bsize 16 --sets (\d+) "))
 fact("docs/cookbook.md", r"For (\d+) sets, in a cache of (\d+):",

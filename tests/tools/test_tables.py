@@ -212,7 +212,6 @@ class Examples(unittest.TestCase):
                     for count, kind in re.findall(rf"([\d,]+) ({'|'.join(kinds)})\b", held)}
             self.assertEqual(collections.Counter(line.split()[0] for line in lines), told, name)
 
-
     def test_what_the_small_program_does(self):
         """As often as its page tells it fetches, reads and writes, by what Valgrind wrote."""
         text = " ".join((base.EXAMPLES / "formats/README.md").read_text().split())
