@@ -1,35 +1,33 @@
 //! A system of caches.
 pub mod arrival;
 mod below;
+mod first_level;
 pub mod plan;
 pub mod stats;
 mod system_cache;
 
-ghost use Rattle.std.specs.Prelude.{◌≡◌, ◌≤◌, ◌<◌, ◌+◌, ◌^◌, ℕ, List, length, ◌∷◌, [], IfOk};
-ghost use Rattle.std.specs.Prelude.{Option, ◌++◌, Some, None, true, MatchBool};
-ghost use Rattle.cache_core.specs.internal.system.SystemSteps.{AccessesFirst, AccessesFirstLevel};
-ghost use Rattle.cache_core.specs.internal.system.SystemSteps.{EmptiesCache, accesses_of};
-ghost use Rattle.cache_core.specs.internal.system.SystemSteps.{IsNewCache, nothing_down};
-ghost use Rattle.cache_core.specs.internal.system.SystemSteps.{first_name, first_hits_in_front};
-ghost use Rattle.cache_core.specs.internal.system.SystemSteps.{level_hits_in_front};
+ghost use Rattle.std.specs.Prelude.{◌≡◌, ◌≤◌, ◌<◌, ◌+◌, ℕ, List, length, ◌∷◌, [], IfOk, Option};
+ghost use Rattle.std.specs.Prelude.{◌++◌, false};
+ghost use Rattle.cache_core.specs.internal.system.SystemSteps.{EmptiesCache, IsNewCache};
+ghost use Rattle.cache_core.specs.internal.system.HeldFirst.{first_level_holds};
 ghost use Rattle.cache_core.specs.system.SystemSteps.{stats_held};
-ghost use Rattle.cache_core.specs.declared.system.arrival.Arrival.TheVariants.{Cache};
 ghost use Rattle.cache_core.specs.system.SystemStands.{PlannedCacheStandsFor};
-ghost use Rattle.cache_core.specs.system.Arrivals.{Saw, cache_arrivals, first_arrivals, flushes};
-ghost use Rattle.cache_core.specs.system.Plans.{PlannedCaches, IsPlan, IsPlannedCache};
-ghost use Rattle.cache_core.specs.system.Systems.{events_for};
-ghost use Rattle.cache_core.specs.declared.system.plan.CacheName.TheVariants.{L1I, L1D, L1U};
+ghost use Rattle.cache_core.specs.system.Arrivals.{Saw, flushes};
+ghost use Rattle.cache_core.specs.system.Plans.{PlannedCaches, IsPlan};
 ghost use Rattle.cache_core.specs.declared.system.plan.PlannedCache.{PlannedCache};
 ghost use Rattle.trace_core.specs.declared.events.Event.{Event};
 
 use crate::system::arrival::{Arrival, MAX_ARRIVALS, Nobody, Observer};
 use crate::system::below::{Memory, descend_all};
+use crate::system::first_level::{
+    access_first_level_in_front, first_name, hit_first_level, miss_first_level,
+};
 use crate::system::plan::{CacheName, Plan, PlannedCache};
 use crate::system::stats::{CacheStats, Stats};
 use crate::system::system_cache::SystemCache;
 use std::alloc::{AllocError, Global};
 use std::marker::Model;
-use trace_core::{Access, MAX_LINES, Ref};
+use trace_core::{MAX_LINES, Ref};
 
 /// The most steps of a system, flushes among them: two for each line of a trace. So no count
 /// overflows.
@@ -165,8 +163,33 @@ impl System {
             observer.new }
         ensures room { O.room observer.old ≤ O.room observer.new + MAX_ARRIVALS }
     {
+        match hit_first_level(&mut self.i, &mut self.d, &mut self.u, reference, observer) {
+            Some(down) => {
+                self.steps += 1;
+                descend_all(&mut self.second, &mut self.memory, down, observer);
+            }
+            None => self.step_missed(reference, observer),
+        }
+    }
+
+    /// Makes a step at whose first-level cache the reference misses, or that none takes.
+    #[inline(always)]
+    fn step_missed<O: Observer>(&mut self, reference: Ref, observer: &mut O)
+        requires steps { self.old.steps < MAX_STEPS }
+        requires room { MAX_ARRIVALS ≤ O.room observer.old }
+        requires missed { first_level_holds self.old.i self.old.d self.old.u reference ≡ false }
+        ensures stands { (plan : PlannedCaches) (seed : ℕ) (events : List Event) → IsPlan plan →
+            SystemStandsFor plan seed events self.old →
+            SystemStandsFor plan seed (events ++ event.Reference reference ∷ []) self.new }
+        ensures steps { self.new.steps ≡ self.old.steps + 1 }
+        ensures seen { (plan : PlannedCaches) (seed : ℕ) (events : List Event) → IsPlan plan →
+            SystemStandsFor plan seed events self.old →
+            Saw O.has_seen observer.old (arrivals_of plan seed events (event.Reference reference))
+            observer.new }
+        ensures room { O.room observer.old ≤ O.room observer.new + MAX_ARRIVALS }
+    {
         self.steps += 1;
-        let down = first_level(&mut self.i, &mut self.d, &mut self.u, reference, observer);
+        let down = miss_first_level(&mut self.i, &mut self.d, &mut self.u, reference, observer);
         match down {
             Some(down) => descend_all(&mut self.second, &mut self.memory, down, observer),
             None => {
@@ -226,119 +249,6 @@ impl System {
             memory_writes: self.memory.writes,
             bypassed: self.bypassed,
         }
-    }
-}
-
-/// Which first-level cache takes a reference, if it is there: the unified cache where a system has
-/// one; otherwise the instruction cache at a fetch, and the data cache at a read or a write.
-#[inline(always)]
-fn first_name(u: &Option<SystemCache>, reference: Ref) -> CacheName
-    ensures { result ≡ first_name u.now reference }
-{
-    if u.is_some() {
-        return CacheName::L1U;
-    }
-    if reference.access == Access::Fetch {
-        return CacheName::L1I;
-    }
-    CacheName::L1D
-}
-
-/// Makes a reference at a first-level cache, if it is there, and returns what it sends down.
-#[inline(always)]
-fn access_first<O: Observer>(
-    name: CacheName,
-    cache: &mut Option<SystemCache>,
-    reference: Ref,
-    observer: &mut O,
-) -> Option<[Option<Ref>; 2]>
-    requires counts { accesses_of cache.old < 2 ^ 62 }
-    requires room { 1 ≤ O.room observer.old }
-    ensures value { AccessesFirst cache.old reference result cache.new }
-    ensures seen { (seed : ℕ) (planned : Option PlannedCache) (events : List Event) →
-        IsPlannedCache planned → PlannedCacheStandsFor seed planned events cache.old →
-        Saw O.has_seen observer.old (cache_arrivals seed name planned events reference)
-        observer.new }
-    ensures room { O.room observer.old ≤ O.room observer.new + 1 }
-{
-    match cache {
-        Some(cache) => Some(cache.access(name, reference, observer).down),
-        None => None,
-    }
-}
-
-/// A reference at the first level. `None` if no cache takes it.
-#[inline(always)]
-fn first_level<O: Observer>(
-    i: &mut Option<SystemCache>,
-    d: &mut Option<SystemCache>,
-    u: &mut Option<SystemCache>,
-    reference: Ref,
-    observer: &mut O,
-) -> Option<[Option<Ref>; 2]>
-    requires counts { accesses_of i.old + accesses_of d.old + accesses_of u.old < 2 ^ 62 }
-    requires room { 1 ≤ O.room observer.old }
-    ensures value { AccessesFirstLevel i.old d.old u.old reference result i.new d.new u.new }
-    ensures seen { (plan : PlannedCaches) (seed : ℕ) (events : List Event) → IsPlan plan →
-        PlannedCacheStandsFor seed plan.i (events_for L1I events) i.old →
-        PlannedCacheStandsFor seed plan.d (events_for L1D events) d.old →
-        PlannedCacheStandsFor seed plan.u (events_for L1U events) u.old →
-        Saw O.has_seen observer.old (first_arrivals plan seed events reference) observer.new }
-    ensures room { O.room observer.old ≤ O.room observer.new + 1 }
-{
-    let name = first_name(u, reference);
-    match name {
-        CacheName::L1U => access_first(name, u, reference, observer),
-        CacheName::L1I => access_first(name, i, reference, observer),
-        _ => access_first(name, d, reference, observer),
-    }
-}
-
-/// Makes a reference at a first-level cache if it finds its block in the first slot of its set and
-/// sends nothing down. Otherwise it does nothing. Returns whether it made the reference.
-#[inline(always)]
-fn access_first_in_front(cache: &mut Option<SystemCache>, reference: Ref) -> bool
-    requires { accesses_of cache.old < 2 ^ 62 }
-    ensures value { MatchBool result
-        (AccessesFirst cache.old reference (Some nothing_down) cache.new)
-        (cache.new ≡ cache.old) }
-    ensures answers { result ≡ first_hits_in_front cache.old reference }
-    ensures seen { result ≡ true → (seed : ℕ) (name : CacheName) (planned : Option PlannedCache)
-        (events : List Event) → IsPlannedCache planned →
-        PlannedCacheStandsFor seed planned events cache.old →
-        cache_arrivals seed name planned events reference ≡ Cache name reference true None ∷ [] }
-{
-    match cache {
-        Some(cache) => cache.access_in_front(reference),
-        None => false,
-    }
-}
-
-/// `access_first_in_front` at the first-level cache that takes the reference.
-#[inline(always)]
-fn access_first_level_in_front(
-    i: &mut Option<SystemCache>,
-    d: &mut Option<SystemCache>,
-    u: &mut Option<SystemCache>,
-    reference: Ref,
-) -> bool
-    requires { accesses_of i.old + accesses_of d.old + accesses_of u.old < 2 ^ 62 }
-    ensures value { MatchBool result
-        (AccessesFirstLevel i.old d.old u.old reference (Some nothing_down) i.new d.new u.new)
-        ((i.new ≡ i.old) × (d.new ≡ d.old) × (u.new ≡ u.old)) }
-    ensures answers { result ≡ level_hits_in_front i.old d.old u.old reference }
-    ensures seen { result ≡ true → (plan : PlannedCaches) (seed : ℕ) (events : List Event) →
-        IsPlan plan → PlannedCacheStandsFor seed plan.i (events_for L1I events) i.old →
-        PlannedCacheStandsFor seed plan.d (events_for L1D events) d.old →
-        PlannedCacheStandsFor seed plan.u (events_for L1U events) u.old →
-        first_arrivals plan seed events reference
-        ≡ Cache (first_name u.old reference) reference true None ∷ [] }
-{
-    let name = first_name(u, reference);
-    match name {
-        CacheName::L1U => access_first_in_front(u, reference),
-        CacheName::L1I => access_first_in_front(i, reference),
-        _ => access_first_in_front(d, reference),
     }
 }
 

@@ -11,4 +11,5 @@ pub mod IndexedPopping
 pub mod IndexedVisit
 pub mod IndexedFront
 pub mod IndexedAccess
+pub mod IndexedHeld
 pub mod IndexedEmpty

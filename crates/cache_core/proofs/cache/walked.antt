@@ -1,2 +1,3 @@
 pub mod SearchLaw
 pub mod SlabFlush
+pub mod SlabHit

@@ -4,3 +4,4 @@ pub mod Lookups
 pub mod SlotOrder
 pub mod Indexed
 pub mod ChosenCaches
+pub mod Held

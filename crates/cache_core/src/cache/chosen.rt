@@ -1,10 +1,11 @@
 //! A cache under a named policy. By its number of ways its sets are walked over, or its blocks are
 //! found by an index.
-ghost use Rattle.std.specs.Prelude.{◌≡◌, ◌<◌, ◌*◌, ◌^◌, IfOk, IfSome};
+ghost use Rattle.std.specs.Prelude.{◌≡◌, ◌<◌, ◌*◌, ◌^◌, IfOk, IfSome, false};
 ghost use Rattle.cache_core.specs.Geometry.{IsGeometry};
 ghost use Rattle.cache_core.specs.cache.Order.{Accesses, FlushesCache, DirtiesByWrites};
 ghost use Rattle.cache_core.specs.cache.Slab.{contents_of, empty_sets};
 ghost use Rattle.cache_core.specs.internal.cache.Lookups.{LooksUp};
+ghost use Rattle.cache_core.specs.internal.cache.Held.{holds_block, AccessesHeld};
 ghost use Rattle.cache_core.specs.internal.cache.Slab.{AccessesInFront};
 
 use crate::cache::Cache;
@@ -78,9 +79,22 @@ impl<P: NamedPolicy> ChosenCache<P> {
         })
     }
 
-    /// Makes one access, and returns its outcome.
+    /// Makes an access if the cache holds its block, and returns its outcome. Otherwise it does
+    /// nothing.
     #[inline(always)]
-    pub(crate) fn access(&mut self, reference: Ref) -> Outcome
+    pub(crate) fn hit(&mut self, reference: Ref) -> Option<Outcome>
+        ensures { AccessesHeld P.policy P.words self.old reference result self.new }
+    {
+        match &mut self.kept {
+            Kept::Walked(cache) => cache.hit(reference),
+            Kept::Indexed(cache) => cache.hit(reference),
+        }
+    }
+
+    /// Makes an access whose block the cache does not hold, and returns its outcome.
+    #[inline(always)]
+    pub(crate) fn miss(&mut self, reference: Ref) -> Outcome
+        requires { holds_block self.old.design self.old.sets reference ≡ false }
         ensures step { Accesses (contents_of P.policy P.words self.old) reference result
             (contents_of P.policy P.words self.new) }
         ensures dirty { DirtiesByWrites self.old.sets reference result self.new.sets }
@@ -88,8 +102,8 @@ impl<P: NamedPolicy> ChosenCache<P> {
             (λ slot. slot.block * 2 ^ self.old.design.geometry.b < 2 ^ 64) }
     {
         match &mut self.kept {
-            Kept::Walked(cache) => cache.access(reference),
-            Kept::Indexed(cache) => cache.access(reference),
+            Kept::Walked(cache) => cache.miss(reference),
+            Kept::Indexed(cache) => cache.miss(reference),
         }
     }
 
@@ -149,7 +163,10 @@ impl<P: NamedPolicy> ChosenCache<P> {
 fn look_up_walked<P: Replacement>(cache: &mut Cache<P>, reference: Ref) -> Lookup
     ensures { LooksUp P.policy P.words cache.old reference result cache.new }
 {
-    lookup_of(&cache.access(reference))
+    if cache.hit(reference).is_some() {
+        return Lookup::Hit;
+    }
+    lookup_of(&cache.miss(reference))
 }
 
 /// The same of a cache with an index.
@@ -157,5 +174,8 @@ fn look_up_walked<P: Replacement>(cache: &mut Cache<P>, reference: Ref) -> Looku
 fn look_up_indexed<P: NamedPolicy>(cache: &mut IndexedCache<P>, reference: Ref) -> Lookup
     ensures { LooksUp P.policy P.words cache.old reference result cache.new }
 {
-    lookup_of(&cache.access(reference))
+    if cache.hit(reference).is_some() {
+        return Lookup::Hit;
+    }
+    lookup_of(&cache.miss(reference))
 }

@@ -4,14 +4,15 @@ mod emptying;
 mod one_set;
 mod slot_order;
 
-ghost use Rattle.std.specs.Prelude.{◌≡◌, ◌<◌, ◌*◌, ◌^◌, IfOk, IfSome};
+ghost use Rattle.std.specs.Prelude.{◌≡◌, ◌<◌, ◌*◌, ◌^◌, IfOk, IfSome, false};
 ghost use Rattle.cache_core.specs.Geometry.{IsGeometry};
 ghost use Rattle.cache_core.specs.cache.Order.{Accesses, FlushesCache, DirtiesByWrites};
 ghost use Rattle.cache_core.specs.cache.Slab.{contents_of, empty_sets};
+ghost use Rattle.cache_core.specs.internal.cache.Held.{holds_block, AccessesHeld};
 ghost use Rattle.cache_core.specs.internal.cache.Slab.{AccessesInFront};
 
 use crate::cache::indexed::emptying::empty_sets;
-use crate::cache::indexed::one_set::{visit, visit_front};
+use crate::cache::indexed::one_set::{hit, miss, visit_front};
 use crate::cache::indexed::slot_order::SlotOrder;
 use crate::design::{AllocMode, Design, WriteMode};
 use crate::geometry::Geometry;
@@ -92,16 +93,32 @@ impl<P: NamedPolicy> IndexedCache<P> {
         })
     }
 
-    /// Makes one access, and returns its outcome.
+    /// Makes an access if the cache holds its block, and returns its outcome. Otherwise it does
+    /// nothing.
     #[inline(always)]
-    pub(crate) fn access(&mut self, reference: Ref) -> Outcome
+    pub(crate) fn hit(&mut self, reference: Ref) -> Option<Outcome>
+        ensures { AccessesHeld P.policy P.words self.old reference result self.new }
+    {
+        hit(
+            self.design,
+            &self.index,
+            &mut self.dirty,
+            &mut self.order,
+            reference,
+        )
+    }
+
+    /// Makes an access whose block the cache does not hold, and returns its outcome.
+    #[inline(always)]
+    pub(crate) fn miss(&mut self, reference: Ref) -> Outcome
+        requires { holds_block self.old.design self.old.sets reference ≡ false }
         ensures step { Accesses (contents_of P.policy P.words self.old) reference result
             (contents_of P.policy P.words self.new) }
         ensures dirty { DirtiesByWrites self.old.sets reference result self.new.sets }
         ensures victim { IfSome result.evicted
             (λ slot. slot.block * 2 ^ self.old.design.geometry.b < 2 ^ 64) }
     {
-        visit(
+        miss(
             self.design,
             &mut self.policy,
             &mut self.index,

@@ -3,19 +3,21 @@ mod emptying;
 mod one_set;
 mod walk;
 
-ghost use Rattle.std.specs.Prelude.{◌≡◌, ◌≤◌, ◌<◌, ◌*◌, ◌^◌, ℕ, length, IfOk, IfSome, Option, None};
-ghost use Rattle.std.specs.Prelude.{replicate, is_some};
+ghost use Rattle.std.specs.Prelude.{◌≡◌, ◌≤◌, ◌<◌, ◌*◌, ◌^◌, ℕ, length, IfOk, IfSome, Option};
+ghost use Rattle.std.specs.Prelude.{Some, None, false, replicate, is_some};
 ghost use Rattle.cache_core.specs.declared.design.Repl.{Repl};
 ghost use Rattle.cache_core.specs.Geometry.{IsGeometry, block_of, set_of};
 ghost use Rattle.cache_core.specs.cache.Order.{position_of, Accesses, FlushesCache, slots_of};
 ghost use Rattle.cache_core.specs.cache.Order.{DirtiesByWrites};
+ghost use Rattle.cache_core.specs.cache.Outcomes.{outcome_of, on_hit};
+ghost use Rattle.cache_core.specs.internal.cache.Held.{holds_block};
 ghost use Rattle.cache_core.specs.internal.cache.Order.{hits_in_front, hit_in_front};
 ghost use Rattle.cache_core.specs.internal.cache.Slab.{IsCacheSlab, sets_of, slab_contents};
 ghost use Rattle.cache_core.specs.Touched.{Covers};
 
 use crate::cache::effects::{dirties_line, hit_outcome};
 use crate::cache::walked::emptying::empty_slab;
-use crate::cache::walked::one_set::{is_in_front, mark_front, visit};
+use crate::cache::walked::one_set::{hit, is_in_front, mark_front, miss};
 use crate::cache::walked::walk::find_block;
 use crate::design::{AllocMode, Design, WriteMode};
 use crate::geometry::Geometry;
@@ -58,6 +60,7 @@ impl<P> Model for Cache<P> {
 
 impl<P: Replacement> Cache<P> {
     ghost use Rattle.cache_core.specs.cache.Slab.{contents_of, empty_sets};
+    ghost use Rattle.cache_core.specs.internal.cache.Held.{AccessesHeld};
     ghost use Rattle.cache_core.specs.internal.cache.Slab.{AccessesInFront};
 
     /// An empty cache. It takes all its memory here, 16 bytes for each line and 4 and a quarter for
@@ -105,17 +108,50 @@ impl<P: Replacement> Cache<P> {
         ensures victim { IfSome result.evicted
             (λ slot. slot.block * 2 ^ self.old.design.geometry.b < 2 ^ 64) }
     {
+        match self.hit(reference) {
+            Some(outcome) => outcome,
+            None => self.miss(reference),
+        }
+    }
+
+    /// Makes an access if the cache holds its block, and returns its outcome. Otherwise it does
+    /// nothing.
+    #[inline(always)]
+    pub(crate) fn hit(&mut self, reference: Ref) -> Option<Outcome>
+        ensures { AccessesHeld P.policy P.words self.old reference result self.new }
+    {
         let block = self.design.geometry.block_of(reference.addr);
         let set = segment(self.design, &self.slots, &self.filled, reference);
-        let at = find_block(set, block);
-        visit_slab(
+        match find_block(set, block) {
+            Some(at) => Some(hit_slab(
+                self.design,
+                &mut self.policy,
+                &mut self.slots,
+                &self.filled,
+                reference,
+                at,
+            )),
+            None => None,
+        }
+    }
+
+    /// Makes an access whose block the cache does not hold, and returns its outcome.
+    #[inline(always)]
+    pub(crate) fn miss(&mut self, reference: Ref) -> Outcome
+        requires { holds_block self.old.design self.old.sets reference ≡ false }
+        ensures step { Accesses (contents_of P.policy P.words self.old) reference result
+            (contents_of P.policy P.words self.new) }
+        ensures dirty { DirtiesByWrites self.old.sets reference result self.new.sets }
+        ensures victim { IfSome result.evicted
+            (λ slot. slot.block * 2 ^ self.old.design.geometry.b < 2 ^ 64) }
+    {
+        miss_slab(
             self.design,
             &mut self.policy,
             &mut self.slots,
             &mut self.filled,
             &mut self.touched,
             reference,
-            at,
         )
     }
 
@@ -161,23 +197,52 @@ fn segment<'a>(design: Design, slots: &'a [Slot], filled: &[u32], reference: Ref
     &slots[start..start + held]
 }
 
-/// Makes one access in the slab of all sets. `at` is the index of its block in its set, if the set
-/// has it. A set that gets its first block is listed.
+/// One access in the slab of all sets to the slot of its set at an index, which holds its block.
 #[inline(always)]
-fn visit_slab<P: Replacement>(
+fn hit_slab<P: Replacement>(
+    design: Design,
+    policy: &mut P,
+    slots: &mut [Slot],
+    filled: &[u32],
+    reference: Ref,
+    at: usize,
+) -> Outcome
+    requires slab { IsCacheSlab design slots.old filled.now }
+    requires at { position_of (block_of design.geometry reference.addr)
+        (slots_of (sets_of design.geometry.e slots.old filled.now)
+        (set_of design.geometry reference.addr)) ≡ Some at }
+    ensures slab { IsCacheSlab design slots.new filled.now }
+    ensures access { Accesses
+        (slab_contents design (P.policy policy.old) (P.words policy.old) slots.old filled.now)
+        reference result
+        (slab_contents design (P.policy policy.new) (P.words policy.new) slots.new filled.now) }
+    ensures dirty { DirtiesByWrites
+        (sets_of design.geometry.e slots.old filled.now) reference result
+        (sets_of design.geometry.e slots.new filled.now) }
+    ensures outcome { result ≡ outcome_of (on_hit design.write reference) }
+{
+    let ways = design.geometry.e() as usize;
+    let number = design.geometry.set_of(reference.addr) as usize;
+    let start = number * ways;
+    let set = &mut slots[start..start + ways];
+    hit(design, policy, set, filled[number] as usize, reference, at)
+}
+
+/// One access in the slab of all sets whose block is in none of them. A set that gets its first
+/// block is listed.
+#[inline(always)]
+fn miss_slab<P: Replacement>(
     design: Design,
     policy: &mut P,
     slots: &mut [Slot],
     filled: &mut [u32],
     touched: &mut TouchedSets,
     reference: Ref,
-    at: Option<usize>,
 ) -> Outcome
     requires slab { IsCacheSlab design slots.old filled.old }
     requires touched { Covers touched.old filled.old }
-    requires at { at ≡ position_of (block_of design.geometry reference.addr)
-        (slots_of (sets_of design.geometry.e slots.old filled.old)
-        (set_of design.geometry reference.addr)) }
+    requires none { holds_block design (sets_of design.geometry.e slots.old filled.old) reference
+        ≡ false }
     ensures touched { Covers touched.new filled.new }
     ensures slab { IsCacheSlab design slots.new filled.new }
     ensures access { Accesses
@@ -194,7 +259,7 @@ fn visit_slab<P: Replacement>(
     let start = number * ways;
     let set = &mut slots[start..start + ways];
     let before = filled[number];
-    let (outcome, count) = visit(design, policy, set, before as usize, reference, at);
+    let (outcome, count) = miss(design, policy, set, before as usize, reference);
     filled[number] = count as u32;
     touched.add_grown(number, before, count as u32);
     outcome

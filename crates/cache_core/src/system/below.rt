@@ -88,6 +88,7 @@ fn arrive<O: Observer>(
 }
 
 /// Sends down the references that one access causes, one after another.
+#[inline(always)]
 pub(crate) fn descend_all<O: Observer>(
     second: &mut Option<SystemCache>,
     memory: &mut Memory,

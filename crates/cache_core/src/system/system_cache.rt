@@ -1,7 +1,9 @@
 //! A cache of a system, with what it counted.
-ghost use Rattle.std.specs.Prelude.{◌≡◌, ◌≤◌, ◌<◌, ◌+◌, ◌^◌, ◌∷◌, [], Some, IfOk, MatchBool};
+ghost use Rattle.std.specs.Prelude.{◌≡◌, ◌≤◌, ◌<◌, ◌+◌, ◌^◌, ◌∷◌, [], Some, IfOk, MatchOption};
+ghost use Rattle.std.specs.Prelude.{IfSome, is_some, false, MatchBool};
 ghost use Rattle.cache_core.specs.system.Arrivals.{Saw, arrival_at};
 ghost use Rattle.cache_core.specs.cache.Order.{dirty_slots};
+ghost use Rattle.cache_core.specs.internal.cache.Held.{holds_block};
 ghost use Rattle.cache_core.specs.internal.cache.Order.{hits_in_front, hit_in_front};
 ghost use Rattle.cache_core.specs.internal.system.Counted.{accesses, IsCounted};
 ghost use Rattle.cache_core.specs.replacement.Chosen.{policy_of, random_numbers_of};
@@ -67,6 +69,63 @@ impl SystemCache {
         }
     }
 
+    /// Makes one reference if the cache holds its block, counts it by its kind, and shows it to the
+    /// observer at the cache of this name. Otherwise it does nothing.
+    #[inline(always)]
+    pub(crate) fn hit<O: Observer>(
+        &mut self,
+        name: CacheName,
+        reference: Ref,
+        observer: &mut O,
+    ) -> Option<Outcome>
+        requires counts { accesses self.old.stats < 2 ^ 62 }
+        requires room { 1 ≤ O.room observer.old }
+        ensures value { MatchOption result
+            ((self.new ≡ self.old) × (observer.new ≡ observer.old))
+            (λ outcome. Enters self.old reference outcome self.new) }
+        ensures seen { IfSome result (λ outcome. Saw O.has_seen observer.old
+            (arrival_at name self.old.cache.design.geometry reference outcome.hit outcome.evicted
+            ∷ []) observer.new) }
+        ensures answers { is_some result
+            ≡ holds_block self.old.cache.design self.old.cache.sets reference }
+        ensures room { O.room observer.old ≤ O.room observer.new + 1 }
+    {
+        let geometry = self.cache.geometry();
+        match self.cache.hit(reference) {
+            Some(outcome) => {
+                self.stats.count_access(reference.access, &outcome);
+                observer.see(arrival_at(name, geometry, reference, &outcome));
+                Some(outcome)
+            }
+            None => None,
+        }
+    }
+
+    /// Makes one reference whose block the cache does not hold, counts it by its kind, and shows it
+    /// to the observer at the cache of this name.
+    #[inline(always)]
+    pub(crate) fn miss<O: Observer>(
+        &mut self,
+        name: CacheName,
+        reference: Ref,
+        observer: &mut O,
+    ) -> Outcome
+        requires counts { accesses self.old.stats < 2 ^ 62 }
+        requires room { 1 ≤ O.room observer.old }
+        requires none { holds_block self.old.cache.design self.old.cache.sets reference ≡ false }
+        ensures value { Enters self.old reference result self.new }
+        ensures seen { Saw O.has_seen observer.old
+            (arrival_at name self.old.cache.design.geometry reference result.hit result.evicted
+            ∷ []) observer.new }
+        ensures room { O.room observer.old ≤ O.room observer.new + 1 }
+    {
+        let geometry = self.cache.geometry();
+        let outcome = self.cache.miss(reference);
+        self.stats.count_access(reference.access, &outcome);
+        observer.see(arrival_at(name, geometry, reference, &outcome));
+        outcome
+    }
+
     /// Makes one reference, counts it by its kind, and shows it to the observer at the cache of
     /// this name.
     #[inline(always)]
@@ -84,11 +143,10 @@ impl SystemCache {
             ∷ []) observer.new }
         ensures room { O.room observer.old ≤ O.room observer.new + 1 }
     {
-        let geometry = self.cache.geometry();
-        let outcome = self.cache.access(reference);
-        self.stats.count_access(reference.access, &outcome);
-        observer.see(arrival_at(name, geometry, reference, &outcome));
-        outcome
+        match self.hit(name, reference, observer) {
+            Some(outcome) => outcome,
+            None => self.miss(name, reference, observer),
+        }
     }
 
     /// Empties the cache. Its dirty lines count as copybacks.

@@ -1,6 +1,6 @@
 //! One access to a cache whose blocks are found by an index.
 ghost use Rattle.std.specs.Prelude.{◌≡◌, ◌+◌, ◌<◌, ◌*◌, ◌^◌, ℕ, Some, None, IfSome, Option};
-ghost use Rattle.std.specs.Prelude.{MatchOption, is_some, length, true, slice_set};
+ghost use Rattle.std.specs.Prelude.{MatchOption, is_some, length, true, false, slice_set};
 ghost use Rattle.block_index.specs.SlotLists.{has_slot};
 ghost use Rattle.block_index.specs.BlockIndex.{HasBlock, NoSlotHas};
 ghost use Rattle.cache_core.specs.declared.design.Repl.{Repl};
@@ -8,6 +8,8 @@ ghost use Rattle.cache_core.specs.Geometry.{block_of, set_of, set_of_block};
 ghost use Rattle.cache_core.specs.cache.Order.{Accesses, TakesIn, random_numbers_after};
 ghost use Rattle.cache_core.specs.cache.Order.{DirtiesByWrites};
 ghost use Rattle.cache_core.specs.replacement.Rules.{rules};
+ghost use Rattle.cache_core.specs.cache.Outcomes.{outcome_of, on_hit};
+ghost use Rattle.cache_core.specs.internal.cache.Held.{holds_block};
 ghost use Rattle.cache_core.specs.internal.cache.Order.{hits_in_front, hit_in_front};
 ghost use Rattle.cache_core.specs.internal.cache.Indexed.{IsIndexed, indexed_contents, sets_at};
 ghost use Rattle.cache_core.specs.internal.cache.Indexed.{set_at, counts_of, with_mark};
@@ -25,9 +27,45 @@ use crate::touched::TouchedSets;
 use block_index::BlockIndex;
 use trace_core::Ref;
 
-/// Makes one access.
+/// Makes one access if a slot has its block, and returns its outcome. Otherwise it does nothing.
 #[inline(always)]
-pub(crate) fn visit<P: NamedPolicy>(
+pub(crate) fn hit(
+    design: Design,
+    index: &BlockIndex,
+    dirty: &mut [bool],
+    order: &mut SlotOrder,
+    reference: Ref,
+) -> Option<Outcome>
+    requires { IsIndexed design index.now dirty.old order.old }
+    ensures indexed { IsIndexed design index.now dirty.new order.new }
+    ensures counts { counts_of order.new.sets ≡ counts_of order.old.sets }
+    ensures name { order.new.policy ≡ order.old.policy }
+    ensures step { (numbers : ℕ → ℕ) → IfSome result (λ outcome. Accesses
+        (indexed_contents design (Some order.old.policy) numbers index.now dirty.old order.old)
+        reference outcome
+        (indexed_contents design (Some order.old.policy) numbers index.now dirty.new order.new)) }
+    ensures dirty { IfSome result (λ outcome.
+        DirtiesByWrites (sets_at index.now dirty.old order.old.sets) reference outcome
+        (sets_at index.now dirty.new order.new.sets)) }
+    ensures answers { is_some result
+        ≡ holds_block design (sets_at index.now dirty.old order.old.sets) reference }
+    ensures outcome { IfSome result (λ outcome.
+        outcome ≡ outcome_of (on_hit design.write reference)) }
+    ensures kept { result ≡ None → (dirty.new ≡ dirty.old) × (order.new ≡ order.old) }
+{
+    let block = design.geometry.block_of(reference.addr);
+    let set = design.geometry.set_of(reference.addr) as usize;
+    let Some(slot) = find_slot(design, index, dirty, order, set, block) else {
+        return None;
+    };
+    let mark = dirties_line(design.write, reference.access);
+    use_slot(dirty, order, set, slot, mark);
+    Some(hit_outcome(design.write, reference))
+}
+
+/// Makes one access whose block no slot has.
+#[inline(always)]
+pub(crate) fn miss<P: NamedPolicy>(
     design: Design,
     policy: &mut P,
     index: &mut BlockIndex,
@@ -39,6 +77,7 @@ pub(crate) fn visit<P: NamedPolicy>(
     requires indexed { IsIndexed design index.old dirty.old order.old }
     requires touched { Covers touched.old (counts_of order.old.sets) }
     requires policy { P.policy policy.old ≡ Some order.old.policy }
+    requires none { holds_block design (sets_at index.old dirty.old order.old.sets) reference ≡ false }
     ensures indexed { IsIndexed design index.new dirty.new order.new }
     ensures touched { Covers touched.new (counts_of order.new.sets) }
     ensures policy { P.policy policy.new ≡ Some order.new.policy }
@@ -51,16 +90,11 @@ pub(crate) fn visit<P: NamedPolicy>(
         (sets_at index.new dirty.new order.new.sets) }
     ensures victim { IfSome result.evicted (λ slot. slot.block * 2 ^ design.geometry.b < 2 ^ 64) }
 {
-    let block = design.geometry.block_of(reference.addr);
-    let set = design.geometry.set_of(reference.addr) as usize;
-    let mark = dirties_line(design.write, reference.access);
-    if let Some(slot) = find_slot(design, index, dirty, order, set, block) {
-        use_slot(dirty, order, set, slot, mark);
-        return hit_outcome(design.write, reference);
-    }
     if !allocates_line(design.allocate, reference.access) {
         return passing_outcome(reference);
     }
+    let block = design.geometry.block_of(reference.addr);
+    let mark = dirties_line(design.write, reference.access);
     let evicted = place(
         design,
         policy,

@@ -1,7 +1,8 @@
 //! One access, in the slots of its set.
 ghost use Rattle.std.specs.Prelude.{◌≡◌, ◌≤◌, ◌<◌, ◌*◌, ◌^◌, ℕ, length, take, Some, IfSome};
-ghost use Rattle.std.specs.Prelude.{IsTrue, ◌↔◌};
+ghost use Rattle.std.specs.Prelude.{None, IsTrue, ◌↔◌};
 ghost use Rattle.cache_core.specs.Geometry.{block_of};
+ghost use Rattle.cache_core.specs.cache.Outcomes.{outcome_of, on_hit};
 ghost use Rattle.cache_core.specs.cache.Order.{Touches, Visits, position_of, with_dirty_at};
 ghost use Rattle.cache_core.specs.internal.cache.Slab.{Addressable};
 
@@ -13,18 +14,43 @@ use crate::outcome::{Outcome, Slot};
 use crate::replacement::Replacement;
 use trace_core::Ref;
 
-/// Makes one access in the slots of its set. `at` is the index of its block there, if the set has
-/// it. Also returns how many slots are filled afterwards.
+/// Makes one access in the slots of its set to that at an index, which holds its block.
 #[inline(always)]
-pub(crate) fn visit<P: Replacement>(
+pub(crate) fn hit<P: Replacement>(
     design: Design,
     policy: &mut P,
     set: &mut [Slot],
     filled: usize,
     reference: Ref,
-    at: Option<usize>,
+    at: usize,
+) -> Outcome
+    requires at { position_of (block_of design.geometry reference.addr) (take filled set.old)
+        ≡ Some at }
+    requires filled { filled ≤ length set.old }
+    requires addresses { Addressable design.geometry.b (take filled set.old) }
+    ensures visit { Visits design (P.policy policy.old) (P.words policy.old) reference
+        (take filled set.old) result (take filled set.new) (P.words policy.new) }
+    ensures policy { P.policy policy.new ≡ P.policy policy.old }
+    ensures addresses { Addressable design.geometry.b (take filled set.new) }
+    ensures outcome { result ≡ outcome_of (on_hit design.write reference) }
+{
+    let dirty = dirties_line(design.write, reference.access);
+    use_slot(policy, &mut set[..filled], at, dirty);
+    hit_outcome(design.write, reference)
+}
+
+/// Makes one access in the slots of its set, none of which holds its block. Also returns how many
+/// slots are filled afterwards.
+#[inline(always)]
+pub(crate) fn miss<P: Replacement>(
+    design: Design,
+    policy: &mut P,
+    set: &mut [Slot],
+    filled: usize,
+    reference: Ref,
 ) -> (Outcome, usize)
-    requires at { at ≡ position_of (block_of design.geometry reference.addr) (take filled set.old) }
+    requires none { position_of (block_of design.geometry reference.addr) (take filled set.old)
+        ≡ None }
     requires filled { filled ≤ length set.old }
     requires ways { length set.old ≡ design.geometry.e }
     requires some { 1 ≤ design.geometry.e }
@@ -37,15 +63,11 @@ pub(crate) fn visit<P: Replacement>(
     ensures victim { IfSome result.0.evicted
         (λ slot. slot.block * 2 ^ design.geometry.b < 2 ^ 64) }
 {
-    let block = design.geometry.block_of(reference.addr);
-    let dirty = dirties_line(design.write, reference.access);
-    if let Some(at) = at {
-        use_slot(policy, &mut set[..filled], at, dirty);
-        return (hit_outcome(design.write, reference), filled);
-    }
     if !allocates_line(design.allocate, reference.access) {
         return (passing_outcome(reference), filled);
     }
+    let block = design.geometry.block_of(reference.addr);
+    let dirty = dirties_line(design.write, reference.access);
     let (_, evicted) = policy.place(set, filled, Slot { block, dirty });
     let outcome = placing_outcome(design, reference, block, evicted);
     (outcome, (filled + 1).min(set.len()))

@@ -1,13 +1,13 @@
--- A step keeps the bounds on the counts, and is one reference at the first level and what is sent
+-- A hit keeps the bounds on the counts, and is one reference at the first level and what is sent
 -- down from it. So it is seen.
-use Rattle.std.proofs.Common.{List, Some, None, arith, refl, sym, subst}
+use Rattle.std.proofs.Common.{List, Some, arith, refl, sym, subst}
 use Rattle.cache_core.specs.declared.system.arrival.Arrival.{Arrival}
 use Rattle.cache_core.specs.system.Arrivals.{Saw}
 use Rattle.cache_core.specs.system.Systems.{lower_events}
 use Rattle.cache_core.specs.system.SystemStands.{SystemStandsFor}
 use Rattle.cache_core.specs.internal.system.SystemSteps.{present_refs}
 use Rattle.cache_core.proofs.system.Counters.{first_level_grows, all_grow}
-use Rattle.cache_core.proofs.system.Observed.{saw_both, seen_below, seen_bypassed}
+use Rattle.cache_core.proofs.system.Observed.{saw_both, seen_below}
 use Rattle.cache_core.proofs.system.SystemLaw.{first_after, step_law}
 use Rattle.cache_core.proofs.system.System.step_seen.Goals as goal
 
@@ -20,12 +20,6 @@ returns-in-Some-clause-stands g c = λ plan seed events good stands.
     (subst (SystemStandsFor plan seed events) (sym c.self.view_is) stands)
     c.in-Some.ensures.value c.descend_all.ensures.value (omega arith) refl
 
-pub returns-in-None-clause-stands : goal.returns-in-None-clause-stands
-returns-in-None-clause-stands g c = λ plan seed events good stands.
-    step_law plan seed events _ c.args.reference _ None good
-    (subst (SystemStandsFor plan seed events) (sym c.self.view_is) stands)
-    c.in-None.ensures.value (refl, refl) (omega arith) refl
-
 pub returns-in-Some-clause-seen : goal.returns-in-Some-clause-seen
 returns-in-Some-clause-seen g c = λ plan seed events good stands.
     let s = subst (SystemStandsFor plan seed events) (sym c.self.view_is) stands in
@@ -33,19 +27,9 @@ returns-in-Some-clause-seen g c = λ plan seed events good stands.
     c.in-Some.ensures.value in
     let lower = c.descend_all.ensures.seen seed plan.second (lower_events plan seed events)
     good.second s.second in
-    saw_both g.O.Observer.has_seen (c.in-Some.ensures.seen plan seed events good s.i s.d s.u)
-    (subst (λ (xs : List Arrival). Saw g.O.Observer.has_seen c.first_level-down.new.observer xs
+    saw_both g.O.Observer.has_seen (c.in-Some.ensures.seen refl plan seed events good s.i s.d s.u)
+    (subst (λ (xs : List Arrival). Saw g.O.Observer.has_seen c.hit_first_level.new.observer xs
     c.descend_all.new.observer)
     (seen_below plan seed events c.args.reference (present_refs c.in-Some.down)
     after.all_sent after.untaken)
     lower)
-
-pub returns-in-None-clause-seen : goal.returns-in-None-clause-seen
-returns-in-None-clause-seen g c = λ plan seed events good stands.
-    let s = subst (SystemStandsFor plan seed events) (sym c.self.view_is) stands in
-    let after = first_after plan seed events _ c.args.reference None _ _ _ good s
-    c.in-None.ensures.value in
-    saw_both g.O.Observer.has_seen (c.in-None.ensures.seen plan seed events good s.i s.d s.u)
-    (subst (λ (xs : List Arrival). Saw g.O.Observer.has_seen c.first_level-down.new.observer xs
-    c.see.new.self)
-    (seen_bypassed plan seed events c.args.reference after.untaken) c.see.ensures.seen)
