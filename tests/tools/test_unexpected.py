@@ -118,7 +118,7 @@ class Unexpected(base.ToolTest):
 
 class Large(base.ToolTest):
     """Time is linear in the rows of a table and in the seeds of a case: four times as many take at
-    most eight times as long, where what is quadratic takes sixteen."""
+    most six times as long, where what is quadratic takes sixteen. The least of two runs counts."""
 
     measures = True
     COLUMNS = ("l1-usets,l1-ubsize,l1-uassoc,l1-urepl,seed,l1-u-references,l1-u-misses,"
@@ -135,9 +135,9 @@ class Large(base.ToolTest):
             self.write(f"t{number}.csv", write(number))
         for name, *words in runs:
             with self.subTest(name, words=words):
-                less, more = (self.seconds(name, f"t{number}.csv", *words)
+                less, more = (min(self.seconds(name, f"t{number}.csv", *words) for _ in range(2))
                               for number in (few, 4 * few))
-                self.assertLess(more, 8 * less)
+                self.assertLess(more, 6 * less)
 
     def test_seeds(self):
         def seeds(number):
