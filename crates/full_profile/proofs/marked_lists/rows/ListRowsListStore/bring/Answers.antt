@@ -12,7 +12,7 @@ use Rattle.full_profile.specs.internal.Rows.{AreRows}
 use Rattle.full_profile.proofs.marked_lists.Parts.{part_lent, part_long, part_back, part_kept}
 use Rattle.full_profile.proofs.marked_lists.ListsInRows.{HasList, known, within, depth_is}
 use Rattle.full_profile.proofs.marked_lists.ListsInRows.{blocks_end, cleans_end, blocks_are}
-use Rattle.full_profile.proofs.marked_lists.ListsInRows.{cleans_are, rows_sound, lists_put}
+use Rattle.full_profile.proofs.marked_lists.ListsInRows.{cleans_are, rows_sound, lists_put, first_taken}
 use Rattle.full_profile.proofs.marked_lists.rows.ListRowsListStore.bring.Goals as goal
 use Rattle.full_profile.proofs.marked_lists.rows.ListRowsListStore.bring.Goals.{After-bring_in_row}
 
@@ -41,8 +41,8 @@ module _ (c : After-bring_in_row) where
   abbrev start : ℕ
   start = c.args.set * c.self.inside.depth
 
-  has : HasList c.self.inside.depth c.args.set c.self.inside.blocks.items c.self.inside.cleans.items
-      c.self.inside.lens.items c.args.self.now
+  has : HasList c.self.inside.depth c.args.set c.self.inside.fronts.items
+      c.self.inside.blocks.items c.self.inside.cleans.items c.self.inside.lens.items c.args.self.now
   has = known c.self.invariant c.self.view_is c.requires.within
 
   abbrev lent : List ℕ
@@ -113,13 +113,14 @@ module _ (c : After-bring_in_row) where
   short : c.bring_in_row.new.len ≤ c.self.inside.depth
   short = omega (arith, c.bring_in_row.ensures.fits, lent_long)
 
-  blank : c.bring_in_row.new.len ≡ 0 → get_or c.bring_in_row.new.blocks 0 0 ≡ 0
-  blank none = absurd (omega (arith, none, c.bring_in_row.ensures.some))
+  first : c.args.block ≡ get_or (take c.bring_in_row.new.len c.bring_in_row.new.blocks) 0 0
+  first = first_taken (length lent) c.args.block _ (omega (arith, lent_long, has.sound.some))
+      ∙ ap (λ xs. get_or xs 0 0) (sym c.bring_in_row.ensures.blocks)
 
-  sound : AreRows c.self.inside.depth blocks' cleans'
-      (set c.self.inside.lens.items c.args.set c.bring_in_row.new.len)
+  sound : AreRows c.self.inside.depth (set c.self.inside.fronts.items c.args.set c.args.block)
+      blocks' cleans' (set c.self.inside.lens.items c.args.set c.bring_in_row.new.len)
   sound = rows_sound has c.bring_in_row.new.blocks blocks' c.bring_in_row.new.len blocks_put
-      new_long short blank cleans' (ap length cleans_put ∙ part_kept start c.self.inside.depth
+      new_long short c.args.block first cleans' (ap length cleans_put ∙ part_kept start c.self.inside.depth
       c.self.inside.cleans.items (cleans_end has) c.bring_in_row.new.cleans clean_new_long)
 
   abbrev m : Marked
@@ -174,5 +175,5 @@ pub returns-clause-moved : goal.returns-clause-moved
 returns-clause-moved c =
     let at = (goal.at.returns-clause-moved c).After-bring_in_row in
     lists_put (has at) c.bring_in_row.new.blocks (blocks' at) c.bring_in_row.new.len (blocks_put at)
-    (new_long at) (short at) (blank at) c.bring_in_row.new.cleans (cleans' at) _ _ (cleans_put at)
+    (new_long at) (short at) c.bring_in_row.new.cleans (cleans' at) _ _ (cleans_put at)
     (clean_new_long at) (list_is at) (clean_list_is at)
