@@ -109,7 +109,7 @@ module _ {d k : ℕ} {fronts blocks cleans lens : List ℕ} {m : Marked}
   front_within = omega (arith, within, h.sound.fronts_len)
 
   pub front_read : {x : ℕ} → x ≡ get_or fronts k x → x ≡ get_or (blocks_in m k) 0 0
-  front_read {x} read = get_or_read fronts k x front_within read 0 ∙ h.sound.fronts k
+  front_read {x} read = get_or_read fronts k x front_within read 0 ∙ h.sound.front k
       ∙ ap (λ l. get_or l 0 0) (sym blocks_are)
 
   pub clean_read : {x : ℕ} → 0 < length (blocks_in m k) → x ≡ get_or cleans (k * d) x →
@@ -254,9 +254,9 @@ module _ {d k : ℕ} {fronts blocks cleans lens : List ℕ} {m : Marked}
       cleans_len = same ∙ h.sound.cleans_len ∙ ap (λ n. n * d) (sym (length-set lens k len));
       short = all_set (λ _ n. n ≤ d) lens k len 0 (within h) short (λ j _. h.sound.short j);
       fronts_len = length-set fronts k front ∙ h.sound.fronts_len ∙ sym (length-set lens k len);
-      fronts = all_set (λ j x. x ≡ get_or (listed d blocks' (set lens k len) j) 0 0) fronts k front
+      front = all_set (λ j x. x ≡ get_or (listed d blocks' (set lens k len) j) 0 0) fronts k front
           0 (front_within h) (first ∙ front_here)
-          (λ j other. h.sound.fronts j ∙ front_there j other);
+          (λ j other. h.sound.front j ∙ front_there j other);
     }
 
     pub lists_put : (clean_row cleans' new clean_new : List ℕ) →
@@ -289,11 +289,11 @@ module _ {d k : ℕ} {fronts blocks cleans lens : List ℕ} {m : Marked}
     cleans_len = h.sound.cleans_len ∙ ap (λ n. n * d) (sym (length-set lens k 0));
     short = all_set (λ _ n. n ≤ d) lens k 0 0 (within h) (omega arith) (λ j _. h.sound.short j);
     fronts_len = length-set fronts k 0 ∙ h.sound.fronts_len ∙ sym (length-set lens k 0);
-    fronts = all_set (λ j x. x ≡ get_or (listed d blocks (set lens k 0) j) 0 0) fronts k 0 0
+    front = all_set (λ j x. x ≡ get_or (listed d blocks (set lens k 0) j) 0 0) fronts k 0 0
         (front_within h)
         (ap (λ n. get_or (take n (take d (drop (k * d) blocks))) 0 0)
         (sym (get_or-set_same lens k 0 0 (within h))))
-        (λ j other. h.sound.fronts j ∙ cut_there j other);
+        (λ j other. h.sound.front j ∙ cut_there j other);
   }
 
   pub list_emptied : record {

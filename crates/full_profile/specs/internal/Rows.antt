@@ -23,7 +23,7 @@ pub record AreRows (depth : ℕ) (fronts blocks cleans lens : List ℕ) : Type 0
   pub cleans_len : length cleans ≡ length lens * depth
   pub short : (set : ℕ) → slice_index lens set ≤ depth
   pub fronts_len : length fronts ≡ length lens
-  pub fronts : (set : ℕ) →
+  pub front : (set : ℕ) →
       slice_index fronts set ≡ slice_index (listed depth blocks lens set) 0
 
 -- How far a list is shifted to put a block in front, with a clean depth: up to the block, or to the
