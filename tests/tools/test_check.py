@@ -6,6 +6,8 @@ import sys
 
 from base import PROGRAM, TOP, ToolTest, script
 
+# what is asked of each tool
+OF_EACH = "failures_packages.Tools named_options check.Check.test_each_test_is_there"
 # what is tried of a change of a file, beside the ledger
 TRIED = {
     "crates/cache_core/src/cache.rt": "in crates/cache_core, rt check --jobs 1|tests/spec-names|"
@@ -16,20 +18,23 @@ TRIED = {
     "crates/cache_core/proofs/Lists.antt": "in crates/cache_core, rt check --jobs 1|"
                                            "tests/spec-names",
     "crates/cache_core/CALLING.md": "test-tools --plain links documents.Callers",
-    "tools/best": "test-tools --plain best style",
-    "tools/by-line": "test-tools --plain by_line by_line_hand by_line_names style",
+    "crates/cache_core/proofs/WindowRows.antt": "in crates/cache_core, rt check --jobs 1|"
+                                                "tests/spec-names|test-tools --plain worked_rows",
+    "tools/best": f"test-tools --plain best {OF_EACH} style",
+    "tools/by-line": f"test-tools --plain by_line by_line_hand by_line_names {OF_EACH} style",
     "tools/lib/by_line/elf.py": "test-tools --plain by_line by_line_hand by_line_names style",
     "tools/lib/to-din.c": "test-tools --plain to_din style",
     "tools/lib/paging.py": "test-tools --plain din_table sweep_parallel style",
     "tools/lib/tool.py": "test-tools --plain tool unexpected outputs waiting style",
-    "tools/lab/replay": "test-tools --plain replay style",
+    "tools/lab/replay": f"test-tools --plain replay {OF_EACH} style",
     "package/install.py": "test-tools --plain make completion package.Version style",
     "docs/cookbook.md": "test-tools --plain links facts named_options style "
                         "documents.Documents.test_docs_cookbook",
     "docs/manual.md": "tests/run docs/manual.md|test-tools --plain from_dinero tables man links "
                       "facts named_options style documents.Documents.test_docs_manual",
     "tests/cases/din.cases": "tests/run|test-tools --plain wrong_models",
-    "tests/tools/test_best.py": "test-tools --plain --list|test-tools --plain best style",
+    "tests/tools/test_best.py": "test-tools --plain --list|test-tools --plain worked_rows best "
+                                "style",
     "tests/mutants/options.edits": "test-tools --plain mutants",
     "Makefile": "test-tools --plain gate make scripts",
     "absent.c": "",
@@ -56,8 +61,8 @@ class Check(ToolTest):
             self.assertEqual(self.listed(file), tried, file)
         # each thing once
         both = self.listed("tools/best", "tests/tools/test_best.py", "docs/definitions.md")
-        self.assertEqual(both, "test-tools --plain --list|test-tools --plain best style "
-                         "documents.Definitions links facts named_options "
+        self.assertEqual(both, f"test-tools --plain --list|test-tools --plain best {OF_EACH} style "
+                         "worked_rows documents.Definitions links facts "
                          "documents.Documents.test_docs_definitions")
         self.assertEqual(self.listed("tests/edits.py", "docs/proofs.md").count("mutants"), 1)
 
@@ -73,7 +78,7 @@ class Check(ToolTest):
         code = [path for path in (TOP / "tools").rglob("*.py") if path.name != "__init__.py"]
         for path in (*check.tools().values(), *code):
             file = str(path.relative_to(TOP))
-            self.assertNotEqual(check.tests_of_tool(file), [], file)
+            self.assertNotEqual(check.tests_of_tool(file), [], f"{file} has no tests")
 
     def copy(self, failing="nothing", status=0):
         """A copy in which all that is called is a stand-in, and git tells two files."""
@@ -85,8 +90,10 @@ class Check(ToolTest):
             self.write(f"tests/{name}", STAND_IN.format(failing))
         self.write("tests/cases/new one.cases", "")
         self.write("crates/low/src/lib.rt", "")
-        told = r"printf ' M crates/low/src/lib.rt\0?? tests/cases/new one.cases\0'"
-        self.executable("bin/git", "[ $1 = status ] || exit 1", told)
+        # a new file is told only where git is asked for all, and each name as it is only by -z
+        told = r"printf ' M crates/low/src/lib.rt\0'"
+        new = r"[[ $* != *' --untracked-files=all'* ]] || printf '?? tests/cases/new one.cases\0'"
+        self.executable("bin/git", "[[ $1 = status && $* = *' -z'* ]] || exit 1", told, new)
         self.executable("bin/rt", 'echo "tried rt $* in $PWD"', f"exit {status}")
         return self.run_command(sys.executable, self.folder / "tests/check", env={
             "PATH": f"{self.folder}/bin:{PROGRAM.parent}", "RT": str(self.folder / "bin/rt")})

@@ -207,6 +207,11 @@ class Sentences(base.ToolTest):
         "a flush always takes effect": (
             (["sweep", *ONE, "--kind", "i"], b"2 0\n4 0\n2 0\n", 0, "16,1,1,16,0,2,0\n"),
             (["sweep", *ONE, "--kind", "d"], b"0 0\n4 0\n0 0\n", 0, "16,1,1,16,0,2,0\n")),
+        "only the rows after this triple, which need not be a row; no header": (
+            ("sweep --bsize 16 --sets 1-2 --assoc 1 --size 16-32 --after 16,1,7".split(), b"", 0,
+             "16,2,1,32,0,0,0\n$"),),
+        "a flush of every cache; it counts as no eviction": (
+            (["sweep", *ONE], b"0 0\n4 0\n0 0\n", 0, "16,1,1,16,0,2,0\n"),),
         "at most one of `k K m M g G`, for 2^10, 2^20 or 2^30:": (
             ("sweep --bsize 1m --sets 1k --assoc 1 --size 1g".split(), b"", 0,
              f"{2**20},{2**10},1,{2**30},0,0,0\n"),),
@@ -292,6 +297,13 @@ class Thresholds(unittest.TestCase):
         ):
             size = constant(crate, source, name)
             self.assertLessEqual({(command, what, size + side) for side in sides}, places, name)
+
+    def test_each_policy(self):
+        """Each letter of a policy that random arguments have stands at them, in din and log."""
+        letters = [it for word, it in base.script("fuzz").LETTERS_OF if word == "repl"]
+        wanted = {(command, "policy", it) for command in ("din", "log") for it in letters}
+        found = {it for it in importlib.import_module("thresholds").KINDS if it[1] == "policy"}
+        self.assertEqual((found, len(letters)), (wanted, 3))
 
 
 class Others(base.ToolTest):

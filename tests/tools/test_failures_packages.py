@@ -35,8 +35,10 @@ class Tools(ToolTest):
         """Here, and by signals, except for one that only has a cluster do something."""
         ended = {**test_ended.RUNS, **test_ended.OF_PACKAGES, "cluster/submit": []}
         there = {os.path.relpath(path, TOOLS) for path in tools() if path.startswith(f"{TOOLS}/")}
-        for runs in ({**test_failures.RUNS, **RUNS}, ended):
-            self.assertEqual({tool.split()[0] for tool in runs}, there)
+        for runs, places in (({**test_failures.RUNS, **RUNS}, "test_failures(_packages).py"),
+                             (ended, "test_ended.py")):
+            told = f"each tool has a run in RUNS of {places}"
+            self.assertEqual({tool.split()[0] for tool in runs}, there, told)
 
 
 class OfPackages(test_failures.FailureTest):

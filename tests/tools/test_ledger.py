@@ -257,6 +257,11 @@ class Sums(ToolTest):
         for names in ("one",), ("one", "at most 2", "three"), ("one", "at most 3"), ("one",) * 2:
             self.assertEqual(self.ended(*names)[0], 1)
         self.assertEqual(self.ended(), (1, "FAILED: nothing was tested\n0 passed, 1 failed\n"))
+        # of several cases of a name one has another name, which others have too
+        for names, status in ((["one", "one", "two"], 1), (["one", "one", "two"], 0),
+                              (["one", "two", "two"], 1)):
+            self.assertEqual(self.ended(*names)[0], status)
+            shutil.copy(self.folder / "out/limits", self.folder / "names")
         # of a run of some cases, or one that has failed, nothing is compared or left
         shutil.rmtree(self.folder / "out")
         self.assertEqual(self.ended("one", script=None)[0], 0)
@@ -309,6 +314,12 @@ class Sums(ToolTest):
             self.assertEqual((self.folder / "tests" / name).read_text().splitlines()[:2], kept)
         self.assertEqual(self.run_command(*run).returncode, 0)
         self.assertEqual(self.run_command(*run, "one").returncode, 0)
+        # what another script left, perhaps of a change that is no more, waits until it is asked for
+        self.write("out/sums/limits", "tests/limits: 8 cases\ntests/limits: eight\n")
+        for name, count in (("tests/run", 9), ("tests/limits", 8)):
+            self.good(self.run_command(*ledger, name))
+            sums = (self.folder / "tests/sums").read_text()
+            self.assertIn(f"tests/limits: {count} cases\n", sums)
         # another case of the same file in its place
         self.write("tests/cases/one.cases", "== two\n$ cachesim --help\n>~ sweep\n")
         self.assertEqual(self.run_command(*run).returncode, 1)

@@ -5,10 +5,15 @@ import re
 import unittest
 
 import base
+import documents
 from test_documents import DOCUMENTS
 
 LINK = re.compile(r"\[[^]]+\]\((?!\w+:)([^)#\s]*)(?:#([^)\s]*))?\)")
 HEADING = re.compile(r"^#+ (.*)$", re.M)
+# names of the code, and the crate that they are said to be of
+OF_CRATE = re.compile(r"((?:`[^`]+`(?:,| and| or)?\s+)+)(?:\(|of (?:the )?)`(\w+)`")
+# a target of make, in a command
+TARGET = re.compile(r"(?:^|[;|&]|\$) *(?:\w+=\S+ )*make ([a-z][\w-]*)", re.M)
 # a file or a folder of the repository; NAME and what is built stand for any
 PATH = re.compile(r"`((?:crates|docs|examples|package|tests|tools)/[\w./*-]+)")
 ANY = re.compile(r"NAME|/out\b|\.\.")
@@ -94,6 +99,22 @@ class Links(unittest.TestCase):
         wrong = [f"{path}: {name}" for path, text in texts.items() for name in broken(text, path)]
         self.assertEqual(wrong, [])
 
+    def targets(self, text):
+        """The targets of make that a document's commands name, also those that are not run."""
+        code = [*CODE.findall(FENCED.sub("", text)), *(
+            line for block in documents.blocks_of(text) for line in block.lines)]
+        return [target for line in code for target in TARGET.findall(line)]
+
+    def test_targets(self):
+        """Each is one of the Makefile."""
+        known = {*re.findall(r"^([a-z][\w-]*):", (base.TOP / "Makefile").read_text(), re.M)}
+        told = {page: self.targets((base.TOP / page).read_text()) for page in DOCUMENTS}
+        self.assertGreater(sum(map(len, told.values())), 20)
+        self.assertEqual([f"{page}: make {target}" for page, targets in told.items()
+                          for target in targets if target not in known], [])
+        text = "To make it, `make all` or\n`make -C a`:\n\n    $ make one\n    make two # make x\n"
+        self.assertEqual(self.targets(text), ["all", "one", "two"])
+
     def test_what_is_broken(self):
         path = base.TOP / "docs/manual.md"
         text = "# A Title, and more\n[a](#a-title-and-more) [b](#b) [c](nowhere.md) "
@@ -106,7 +127,8 @@ class Links(unittest.TestCase):
 
 class PagesOnTheCode(unittest.TestCase):
     """What pages on the code name is there: a function, a type, a constant, a word of a tool. One
-    that is named with its type, as `Profile::feed`, is in a source that has this type."""
+    that is named with its type, as `Profile::feed`, is in a source that has this type, and one with
+    a crate behind it in this crate."""
 
     PAGES = "docs/architecture.md", "docs/proofs.md", "docs/DECISIONS.md"
     CODE = "crates/*/src/**/*.rt", "crates/*/specs/**/*.antt", "crates/*/proofs/**/*.antt"
@@ -130,6 +152,11 @@ class PagesOnTheCode(unittest.TestCase):
                 if of_owner and not any(name in words for words in of_owner) and (
                         owner not in self.OTHERS):
                     yield f"{owner}::{name}"
+        for spans, crate in OF_CRATE.findall(text):
+            places = (f"crates/{crate}/{top}/**/*.*" for top in ("src", "specs", "proofs"))
+            if words := set().union(*self.words(places)):
+                names = {name for span in CODE.findall(spans) for name in NAME.findall(span)}
+                yield from (f"{name} of {crate}" for name in sorted(names - words))
 
     def test_names(self):
         code = [*self.words(self.CODE)]
@@ -137,8 +164,10 @@ class PagesOnTheCode(unittest.TestCase):
         wrong = [f"{page}: {name}" for page in self.PAGES
                  for name in self.unknown((base.TOP / page).read_text(), code, known)]
         self.assertEqual(wrong, [])
-        text = "`Profile::feed_batch`, `Profile::feed_bunch`, `MAX_LINE`, `Profile::read_number`"
+        text = "`Profile::feed_batch`, `Profile::feed_bunch`, `MAX_LINE`, `Profile::read_number`, "
+        text += "`Lines::next` (`trace_core`), `MAX_WAYS` and\n`Lines` of `trace_core`"
         wrong = ["feed_bunch", "Profile::feed_bunch", "Profile::read_number"]
+        wrong.append("MAX_WAYS of trace_core")
         self.assertEqual([*self.unknown(text, code, known)], wrong)
 
 

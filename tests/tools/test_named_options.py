@@ -152,6 +152,31 @@ class NamedOptions(base.ToolTest):
                     count += 1
         self.assertGreater(count, 4)
 
+    def test_each_option_is_told(self):
+        """Each that the code of a tool or a script takes is in its help."""
+        taken = r'add_argument\(\s*"(-[\w-]+)"(?:, "(-[\w-]+)")?'
+        paths = {name: base.TOP / "tests" / name for name in self.helps}
+        paths = {name: path for name, path in paths.items() if name and path.is_file()}
+        paths |= {name: base.TOOLS / path for name, path in shared.tools().items()}
+        told = {f"{name}: {option}": self.has(name, option) for name, path in paths.items()
+                for pair in re.findall(taken, path.read_text()) for option in filter(None, pair)}
+        self.assertGreater(len(told), 60)
+        self.assertEqual([option for option, is_told in told.items() if not is_told], [])
+
+    def unmade(self, text):
+        """The columns that commands of a page compare, which neither the page has elsewhere, in a
+        header or where it makes one, nor the help of a tool that reads tables."""
+        known = f"{text}\n{self.helps['best']}\n{self.helps['plot']}"
+        for column in sorted({*re.findall(r"--measure[ =]([a-z][\w-]*)", text)}):
+            if not re.search(rf"(?<!--measure[ =])(?<![\w-]){column}(?![\w-])", known):
+                yield column
+
+    def test_columns_that_are_compared(self):
+        for page in DOCUMENTS:
+            self.assertEqual([*self.unmade((base.TOP / page).read_text())], [], page)
+        text = "`--measure of-kind`, `best --measure=of-kinds`\n\n    a,b,of-kind,other-of-kinds\n"
+        self.assertEqual([*self.unmade(text)], ["of-kinds"])
+
     def test_other_programs(self):
         """The columns of lscpu that the cookbook names, and the packages that pages install."""
         text = (base.TOP / "docs/cookbook.md").read_text()

@@ -59,6 +59,8 @@ class Version(ToolTest):
         self.assertEqual(re.findall(r"(?m)^cachesim [\d.]+$", helped), [f"cachesim {version}"])
         cited = (TOP / "CITATION.cff").read_text()
         self.assertIn(f"\nversion: {version}\ndate-released: {day}\n", cited)
+        told = re.findall(r"\bVersion ([\d.]+\d)", (TOP / "README.md").read_text())
+        self.assertEqual(told, [version])
 
     def test_the_top_entry_counts(self):
         older = "## 1.0.0 (2026-11-23)\n"

@@ -20,6 +20,7 @@ FAIL = {
     "other-status": FAULT + "! cachesim: --size: bad value\n? 1\n",
     "fault-not-mentioned": FAULT + "? 2\n", "whole-beside-a-line": EMPTY + ">~ ,0,0,0\n" + HEADER,
     "no-command": "> x\n", "no-such-mark": EMPTY + "% x\n",
+    "beginning-of-nothing": EMPTY + ">^ \n", "line-of-nothing": EMPTY + ">~\n",
     "text-for-a-folder": EMPTY + HEADER + ROW + "@ folder/\n< x\n",
 }
 

@@ -43,6 +43,13 @@ class Scripts(base.ToolTest):
         told = "FAILED half: defined in low.One and low.Other\n1 passed, 1 failed\n"
         self.assertEqual((ran.stdout.decode(), ran.returncode), (told, 1))
 
+    def test_what_is_tried_of_tests(self):
+        """Of a tool's own tests try-tests leaves none out."""
+        check, others = base.script("check"), base.script("try-tests").OTHERS
+        own = {file for name in check.tools() for file in check.tests_of(name)}
+        self.assertGreater(len(own), 20)
+        self.assertEqual(own & {*others}, set())
+
     def test_from_which_growth_a_test_passes(self):
         """By refusals-library: it is refused until then, and never again."""
         least = base.script("refusals-library").least

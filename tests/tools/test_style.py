@@ -67,9 +67,10 @@ class Tools(base.ToolTest):
         text = (base.TOOLS / "README.md").read_text()
         for tool in map(pathlib.Path, tools()):
             with self.subTest(tool.name):
-                self.assertIn(f"\n`{tool.name}", (tool.parent / "README.md").read_text())
+                own, folder = (tool.parent / "README.md").read_text(), tool.parent.name
+                self.assertTrue(f"\n`{tool.name}" in own, f"{folder}/README.md has no row of it")
                 if tool.parent not in (base.TOOLS, base.PACKAGING):
-                    self.assertIn(f"\n`{tool.parent.name}/` | ", text)
+                    self.assertTrue(f"\n`{folder}/` | " in text, f"no row of {folder}/")
 
 
 class Scripts(base.ToolTest):

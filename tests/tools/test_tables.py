@@ -161,8 +161,10 @@ class Speed(base.ToolTest):
         """Of the same spaces, once they are measured; the last ratio is to the sweeps above."""
         heading = "With `--full`"
         self.assertEqual(f"\n{heading} |" in self.TEXT, bool(full_spaces()))
-        if not full_spaces():
-            return
+        if full_spaces():
+            self.judge_full_tables(heading)
+
+    def judge_full_tables(self, heading):
         rows, above = table(self.TEXT, heading), table(self.TEXT, "Space")
         self.assertEqual([row[0] for row in rows], [row[0] for row in above])
         titles = head(self.TEXT, heading)

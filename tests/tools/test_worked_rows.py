@@ -13,6 +13,7 @@ ALWAYS = re.compile(r"\bassert!\(rt;\s*(true\b|[^;\"]*?(?:\|\|\s*true\b|\btrue\s
 # a condition that more values meet than one
 LOOSE = re.compile(r"\bassert!\(rt;\s*([^;\"]*?(?:[<>]=|!=|\|\|)[^;\"]*?)\)?[,;]")
 OPENS, CLOSES = "([{", ")]}"
+TESTS = re.compile(r"^#\[test\]\n(?:#.*\n)*fn (\w+)\(.*?\{$(.*?)^\}$", re.M | re.S)
 
 
 def side(text, opens, closes, ends):
@@ -48,12 +49,26 @@ def loose(text):
 
 
 def in_tests(text):
-    """The lines of a module of tests that compare a thing with itself, or ask for a constant."""
+    """The lines of a module of tests that compare a thing with itself, ask for a constant, or end a
+    test before its last line."""
     for call in ast.walk(ast.parse(text)):
         if isinstance(call, ast.Call) and ast.unparse(call.func).startswith("self.assert"):
             first, *others = map(ast.dump, call.args)
             if first in others[:1] or isinstance(call.args[0], ast.Constant) and not others:
                 yield ast.unparse(call)
+        if isinstance(call, ast.FunctionDef) and re.match(r"test_.*\(self\)", unparsed(call)):
+            yield from (f"{call.name}: return" for it in ast.walk(call)
+                        if isinstance(it, ast.Return) and not it.value)
+
+
+def unparsed(function):
+    return f"{function.name}({ast.unparse(function.args)})"
+
+
+def unasserted(text):
+    """The tests of a source that assert nothing."""
+    return [name for name, code in TESTS.findall(text)
+            if not re.search(r"\bassert!|\bexpect", code)]
 
 
 class WorkedRows(unittest.TestCase):
@@ -70,6 +85,7 @@ class WorkedRows(unittest.TestCase):
         for path in files:
             self.assertEqual(in_code(path.read_text()), [], path)
             self.assertEqual(loose(path.read_text()), [], path)
+            self.assertEqual(unasserted(path.read_text()), [], path)
 
     def test_of_tools(self):
         files = list((base.TOP / "tests/tools").glob("*.py"))
@@ -79,11 +95,17 @@ class WorkedRows(unittest.TestCase):
         wrong = ["self.assertEqual(a.b(2), a.b(2))", "self.assertTrue(True)", "self.assertIn(a, a)"]
         right = "self.assertEqual(a.b(2), a.b(3))\nself.assertTrue(a)\nassertEqual(a, a)\n"
         self.assertEqual([*in_tests(right + "\n".join(wrong))], wrong)
+        early = "def {}(self):\n    if a:\n        return{}\n    self.assertTrue(a)\n"
+        texts = early.format("test_a", ""), early.format("judge", ""), early.format("test_b", " 2")
+        self.assertEqual([*in_tests("".join(texts))], ["test_a: return"])
 
     def test_what_is_found(self):
         rows = ("good : (f 7 ≡ Some 7) × (f 8 ≡ None)\ngood = (refl, refl)\n"
                 "bad : (f 7 ≡ Some 7)\n    × (f 8 ≡ f  8)\nbad = (refl, refl)\n")
         self.assertEqual(in_rows(rows), ["bad"])
+        tests = "#[test]\nfn good(rt: Host) -> Fail {\n    assert!(rt; a == b);\n    Ok(())\n}\n\n"
+        tests += tests.replace("good", "bad").replace("assert!(rt; ", "let _ = (")
+        self.assertEqual(unasserted(tests), ["bad"])
         for code, *found in (
             ('assert!(rt; found == wanted, "row {i}"); let is_so = a.counts(2) == b.counts(2);',),
             ("assert!(rt; cache.counts(2) == cache.counts(2));", "cache.counts(2)"),
