@@ -245,7 +245,8 @@ module _ {d k : ℕ} {fronts blocks cleans lens : List ℕ} {m : Marked}
         (part_other k j d blocks row (omega (arith, blocks_end h)) long other)))
 
     pub rows_sound : (front : ℕ) → front ≡ get_or (take len row) 0 0 → (cleans' : List ℕ) →
-        length cleans' ≡ length cleans → AreRows d (set fronts k front) blocks' cleans' (set lens k len)
+        length cleans' ≡ length cleans →
+        AreRows d (set fronts k front) blocks' cleans' (set lens k len)
     rows_sound front first cleans' same = record {
       some = h.sound.some;
       small = subst (λ (n : ℕ). n * d ≤ 2 ^ 22) (sym (length-set lens k len)) h.sound.small;

@@ -77,7 +77,8 @@ pub(crate) fn miss<P: NamedPolicy>(
     requires indexed { IsIndexed design index.old dirty.old order.old }
     requires touched { Covers touched.old (counts_of order.old.sets) }
     requires policy { P.policy policy.old ≡ Some order.old.policy }
-    requires none { holds_block design (sets_at index.old dirty.old order.old.sets) reference ≡ false }
+    requires none { holds_block design (sets_at index.old dirty.old order.old.sets) reference
+        ≡ false }
     ensures indexed { IsIndexed design index.new dirty.new order.new }
     ensures touched { Covers touched.new (counts_of order.new.sets) }
     ensures policy { P.policy policy.new ≡ Some order.new.policy }

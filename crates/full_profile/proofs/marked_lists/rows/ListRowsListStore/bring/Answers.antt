@@ -120,8 +120,9 @@ module _ (c : After-bring_in_row) where
   sound : AreRows c.self.inside.depth (set c.self.inside.fronts.items c.args.set c.args.block)
       blocks' cleans' (set c.self.inside.lens.items c.args.set c.bring_in_row.new.len)
   sound = rows_sound has c.bring_in_row.new.blocks blocks' c.bring_in_row.new.len blocks_put
-      new_long short c.args.block first cleans' (ap length cleans_put ∙ part_kept start c.self.inside.depth
-      c.self.inside.cleans.items (cleans_end has) c.bring_in_row.new.cleans clean_new_long)
+      new_long short c.args.block first cleans' (ap length cleans_put
+      ∙ part_kept start c.self.inside.depth c.self.inside.cleans.items (cleans_end has)
+      c.bring_in_row.new.cleans clean_new_long)
 
   abbrev m : Marked
   m = c.args.self.now
