@@ -65,17 +65,17 @@ module _ (c : After-bring_in_row) where
   clean_lent_long = ap length clean_lent_is ∙
       part_long start c.self.inside.depth c.self.inside.cleans.items (cleans_end has)
 
-  held_is : c.index_mut.result.now ≡ get_or c.self.inside.lens.items c.args.set 0
-  held_is = get_or_read c.self.inside.lens.items c.args.set c.index_mut.result.now (within has)
-      c.index_mut.ensures.value 0
+  held_is : c.index_mut-2.result.now ≡ get_or c.self.inside.lens.items c.args.set 0
+  held_is = get_or_read c.self.inside.lens.items c.args.set c.index_mut-2.result.now (within has)
+      c.index_mut-2.ensures.value 0
 
-  blocks_read : take c.index_mut.result.now lent ≡ blocks_in c.args.self.now c.args.set
-  blocks_read = ap (take c.index_mut.result.now) lent_is
+  blocks_read : take c.index_mut-2.result.now lent ≡ blocks_in c.args.self.now c.args.set
+  blocks_read = ap (take c.index_mut-2.result.now) lent_is
       ∙ ap (λ n. take n (take c.self.inside.depth (drop start c.self.inside.blocks.items))) held_is
       ∙ sym (blocks_are has)
 
-  cleans_read : take c.index_mut.result.now clean_lent ≡ cleans_in c.args.self.now c.args.set
-  cleans_read = ap (take c.index_mut.result.now) clean_lent_is
+  cleans_read : take c.index_mut-2.result.now clean_lent ≡ cleans_in c.args.self.now c.args.set
+  cleans_read = ap (take c.index_mut-2.result.now) clean_lent_is
       ∙ ap (λ n. take n (take c.self.inside.depth (drop start c.self.inside.cleans.items))) held_is
       ∙ sym (cleans_are has)
 
@@ -130,17 +130,17 @@ module _ (c : After-bring_in_row) where
   list_is : take c.bring_in_row.new.len c.bring_in_row.new.blocks
       ≡ take m.depth (move_to_front c.args.block (blocks_in m c.args.set))
   list_is = c.bring_in_row.ensures.blocks
-      ∙ ap (λ d. take d (move_to_front c.args.block (take c.index_mut.result.now lent))) depth_read
+      ∙ ap (λ d. take d (move_to_front c.args.block (take c.index_mut-2.result.now lent))) depth_read
       ∙ ap (λ xs. take m.depth (move_to_front c.args.block xs)) blocks_read
 
   clean_list_is : take c.bring_in_row.new.len c.bring_in_row.new.cleans
       ≡ cleans_after m.depth c.args.access c.args.block (blocks_in m c.args.set)
       (cleans_in m c.args.set)
   clean_list_is = c.bring_in_row.ensures.cleans
-      ∙ ap (λ d. cleans_after d c.args.access c.args.block (take c.index_mut.result.now lent)
-      (take c.index_mut.result.now clean_lent)) depth_read
+      ∙ ap (λ d. cleans_after d c.args.access c.args.block (take c.index_mut-2.result.now lent)
+      (take c.index_mut-2.result.now clean_lent)) depth_read
       ∙ ap (λ xs. cleans_after m.depth c.args.access c.args.block xs
-      (take c.index_mut.result.now clean_lent)) blocks_read
+      (take c.index_mut-2.result.now clean_lent)) blocks_read
       ∙ ap (λ ms. cleans_after m.depth c.args.access c.args.block (blocks_in m c.args.set) ms)
       cleans_read
 
@@ -151,8 +151,8 @@ bring_in_row-requires-clause-fits c =
     let start = c.args.set * d in
     omega (
       arith,
-      get_or_read c.self.inside.lens.items c.args.set c.index_mut.result.now (within h)
-          c.index_mut.ensures.value 0,
+      get_or_read c.self.inside.lens.items c.args.set c.index_mut-2.result.now (within h)
+          c.index_mut-2.ensures.value 0,
       h.sound.short c.args.set,
       ap length (part_lent start d c.deref_mut.ensures.value),
       part_long start d c.self.inside.blocks.items (blocks_end h),
@@ -165,10 +165,10 @@ pub returns-clause-found : goal.returns-clause-found
 returns-clause-found c =
     let at = (goal.at.returns-clause-found c).After-bring_in_row in
     c.bring_in_row.ensures.found
-    ∙ ap (λ d. marked_touch_of d c.args.block (take c.index_mut.result.now (lent at))
-    (take c.index_mut.result.now (clean_lent at))) (depth_read at)
+    ∙ ap (λ d. marked_touch_of d c.args.block (take c.index_mut-2.result.now (lent at))
+    (take c.index_mut-2.result.now (clean_lent at))) (depth_read at)
     ∙ ap (λ xs. marked_touch_of c.args.self.now.depth c.args.block xs
-    (take c.index_mut.result.now (clean_lent at))) (blocks_read at)
+    (take c.index_mut-2.result.now (clean_lent at))) (blocks_read at)
     ∙ ap (λ ms. marked_touch_of c.args.self.now.depth c.args.block
     (blocks_in c.args.self.now c.args.set) ms) (cleans_read at)
 
