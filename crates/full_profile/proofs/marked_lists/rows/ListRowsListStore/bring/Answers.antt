@@ -130,7 +130,8 @@ module _ (c : After-bring_in_row) where
   list_is : take c.bring_in_row.new.len c.bring_in_row.new.blocks
       ≡ take m.depth (move_to_front c.args.block (blocks_in m c.args.set))
   list_is = c.bring_in_row.ensures.blocks
-      ∙ ap (λ d. take d (move_to_front c.args.block (take c.index_mut-2.result.now lent))) depth_read
+      ∙ ap (λ d. take d (move_to_front c.args.block (take c.index_mut-2.result.now lent)))
+      depth_read
       ∙ ap (λ xs. take m.depth (move_to_front c.args.block xs)) blocks_read
 
   clean_list_is : take c.bring_in_row.new.len c.bring_in_row.new.cleans
