@@ -34,8 +34,8 @@ HARMLESS = (
 )
 SHORT = 64 << 10  # bytes of a trace: cases on longer ones are run once
 NOT_WRITTEN = "memory of malloc is read where nothing was written, or past its end"
-DIFFERS = ("its numbers differ from run to run: it draws some by rand() after srand(), or reads "
-           "memory before it writes there")
+DIFFERS = ("its numbers differ from run to run: it draws some by rand() after srand(), takes the "
+           "time of a clock, or reads memory before it writes there")
 LAB_LINE = re.compile(rb"(I +| [LSM] )[0-9a-fA-F]+,[0-9]+\n?")
 
 
