@@ -57,7 +57,7 @@ STORES_NEXT      mixed  2,1,3   line 8 with -v
 DECIMAL_ADDRESS  order  2,4,3   line 1 with -v
 FIRST_LETTER     order  2,4,3   with -v it writes no line for an access
 ENDS_AT_FETCH    mixed  2,4,3   line 3 with -v
-OWN_ORDER        order  2,4,3   it prints no line 'hits:H misses:M evictions:E', with these words and
+OWN_ORDER        order  2,4,3   it prints no line 'hits:H misses:M evictions:E', with these words
 FIFO             mixed  2,4,3   a hit does not count as a use of its block (FIFO)
 MRU              mixed  2,4,3   the block used last is evicted (MRU)
 LFU              order  2,4,3   the block used least often is evicted (LFU)
