@@ -57,7 +57,7 @@ STORES_NEXT      mixed  2,1,3   line 8 with -v
 DECIMAL_ADDRESS  order  2,4,3   line 1 with -v
 FIRST_LETTER     order  2,4,3   with -v it writes no line for an access
 ENDS_AT_FETCH    mixed  2,4,3   line 3 with -v
-OWN_ORDER        order  2,4,3   no summary; the last line is 'misses:19 hits:7 evictions:15'
+OWN_ORDER        order  2,4,3   it prints no line 'hits:H misses:M evictions:E', with these words
 FIFO             mixed  2,4,3   a hit does not count as a use of its block (FIFO)
 MRU              mixed  2,4,3   the block used last is evicted (MRU)
 LFU              order  2,4,3   the block used least often is evicted (LFU)
@@ -194,7 +194,7 @@ class Students(StudentTest):
         said = self.grade("--all", program, "order.trace")
         wrong = [line for line in said.splitlines() if line.startswith("wrong: ")]
         self.assertEqual(wrong, ["wrong: -t order.trace -b 6 -E 3 -s 3"])
-        self.assertIn("\nwhy: the options are taken in one order only; getopt takes", said)
+        self.assertIn("\nwhy: the options are taken in one order only, and not in any", said)
         for ways in (9, 65):
             self.assertIn(f"\nright: -s 1 -E {ways} -b 3 -t order.trace\n", said)
         said = self.grade("--geometry=3,3,6", program, "order.trace")

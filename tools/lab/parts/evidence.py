@@ -17,6 +17,9 @@ OUTCOMES = {"": ("hit", "miss", "eviction"), " that hits": ("hit",),
             " that misses": ("miss", "eviction"), " that evicts": ("eviction",),
             " that fills a free line": ("miss",)}
 COUNTS = "hit", "miss", "eviction"
+# kinds of accesses; those of two letters are for where none of the first fits
+KINDS = ((*zip("LSM", "LSM"), ("access", [*"LSM", "its store"])),
+         (("L or S", "LS"), ("L or M", "LM"), ("S or M", "SM")))
 SIZES = {"lines per set": lambda s, lines, b: lines, "sets": lambda s, lines, b: 1 << s,
          "lines": lambda s, lines, b: lines << s}
 # of these: programs that evict the wrong block are wrong with fewer
@@ -33,6 +36,7 @@ MESSAGES = {
 }
 NAMES = "hits", "misses", "evictions"
 LEAST = ("-s", 0), ("-E", 1), ("-b", 0)
+LEAST_WRONG = 4  # cases, where what they have in common tells something
 NOTHING = ("all counts are 0: no line of a trace is taken for an access, or what counts them is "
            "not what is printed")
 
@@ -137,16 +141,16 @@ def pairs(runs):
     return list(dict.fromkeys(told(runs, pair) for pair in fitting))
 
 
-def reason(runs, crashed):
+def reason(runs, crashed, failed):
     """Why a program is wrong, as a text: mistakes that give exactly its numbers, or else where its
     mistake must be; nothing where it can't be said. Runs are cases with what was wanted and what
-    was got; the other cases crashed."""
+    was got; the others crashed, or failed in another way."""
     if runs and not any(any(got) for _, _, got in runs):
         return NOTHING
     seen = looked_at(runs)
     is_right = all(run.is_right for run in seen)
     found = [] if is_right else single(seen)
-    where = "" if found else place(runs, seen, crashed)
+    where = "" if found else place(runs, seen, crashed, failed)
     if where:
         return where
     if not found and not is_right and len(seen) >= ENOUGH:
@@ -172,7 +176,7 @@ def of_results(kept):
     return f".csim_results has {order} in this order, and not {', '.join(NAMES)}"
 
 
-def place(runs, seen, crashed):
+def place(runs, seen, crashed, failed):
     """Where a mistake must be that is not known."""
     fine = [case for case, wanted, got in runs if wanted == got]
     wrong = [case for case, wanted, got in runs if wanted != got]
@@ -181,8 +185,11 @@ def place(runs, seen, crashed):
         text = said_by_glibc([fault for _, fault in crashed])
         if text or wrong:
             return text or wrong_if_large(fine, wrong + crashing, "crashes or is wrong")
-        return too_large(fine, crashing) or too_small(fine, crashing)
-    large = wrong_if_large(fine, wrong, "is wrong") if len(seen) >= ENOUGH else ""
+        return too_large(fine, crashing) or too_small("crashes", fine, crashing)
+    small = wrong_if_small(fine, wrong + failed)
+    if small:
+        return small
+    large = wrong_if_large(fine, wrong + failed, "is wrong") if len(seen) >= ENOUGH else ""
     if large:
         return large
     if is_of_victims(runs):
@@ -234,12 +241,23 @@ def too_short(what, sizes):
     return f"it {what} only where there are {more} or more: an array may be too short" * bool(more)
 
 
-def too_small(fine, crashed):
-    """The options of which all cases that crash have the least value, and others have not."""
-    common = [f"{option} {value}" for at, (option, value) in enumerate(LEAST)
-              if {int(case.cache.split(",")[at]) for case in crashed} == {value}
-              and any(int(case.cache.split(",")[at]) > value for case in fine)]
-    return f"it crashes only with {' and '.join(common)}" if common else ""
+def least_of(cases):
+    """The options of which all cases have the least value."""
+    return [at for at, (_, value) in enumerate(LEAST)
+            if {int(case.cache.split(",")[at]) for case in cases} == {value}]
+
+
+def too_small(what, fine, bad):
+    """The options of which all bad cases have the least value, and others have not."""
+    common = [" ".join(map(str, LEAST[at])) for at in least_of(bad)
+              if any(at not in least_of([case]) for case in fine)]
+    return f"it {what} only with {' and '.join(common)}" if common else ""
+
+
+def wrong_if_small(fine, bad):
+    """The same of cases that are wrong, where most cases with these values are."""
+    alike = [case for case in fine if set(least_of(bad)) <= set(least_of([case]))]
+    return too_small("is wrong", fine, bad) if len(bad) >= max(LEAST_WRONG, len(alike) + 1) else ""
 
 
 def is_of_victims(runs):
@@ -296,18 +314,27 @@ def tallied(run):
     return found, (made.hits, made.misses, made.evictions)
 
 
+def groups_of(kinds):
+    """Groups of accesses: what they are called, and their kinds and outcomes."""
+    return [(f"{name}{when}", list(itertools.product(letters, outcomes)))
+            for name, letters in kinds for when, outcomes in OUTCOMES.items()]
+
+
+def fitting_of(groups, more, tallies):
+    """The groups of accesses that explain by how many a count is wrong, and their share in it."""
+    return [(name, times) for name, keys in groups for times in (-1, 1, 2)
+            if more == [times * sum(found[key] for key in keys) for found, _ in tallies]]
+
+
 def miscounted(runs):
     """Which accesses count as too many or too few hits, misses or evictions, in words."""
     tallies, said = [tallied(run) for run in runs], []
-    groups = [(f"{name}{when}", list(itertools.product(kinds, outcomes)))
-              for name, kinds in (*zip("LSM", "LSM"), ("access", [*"LSM", "its store"]))
-              for when, outcomes in OUTCOMES.items()]
+    one, two = map(groups_of, KINDS)
     for at, count in enumerate(COUNTS):
         more = [run.got[at] - wanted[at] for run, (_, wanted) in zip(runs, tallies)]
         if not any(more):
             continue
-        fitting = [(name, times) for name, keys in groups for times in (-1, 1, 2)
-                   if more == [times * sum(found[key] for key in keys) for found, _ in tallies]]
+        fitting = fitting_of(one, more, tallies) or fitting_of(two, more, tallies)
         if len(fitting) != 1:
             return ""
         [(name, times)] = fitting

@@ -27,12 +27,15 @@ LOST = (
 UNJUDGED = ("not judged",)  # the way of a case in which a program had no room for what it wrote
 # runs in which a mistake would do no harm
 HARMLESS = (
-    (student.UNFILLED, "memory of malloc is taken for zeros; calloc clears it"),
     (student.APART, "memory of malloc is used past its end: the size may be that of a pointer, or "
-                    "that of too few lines or sets"),
+                    "that of too few lines or sets, or the last index is one too high"),
+    (student.ZEROED, "memory of malloc is taken for zeros; calloc clears it"),
+    (student.UNFILLED, "memory is used after it was freed"),
 )
-DIFFERS = ("its numbers differ from run to run: it draws some by rand() after srand(), or reads "
-           "memory before it writes there")
+SHORT = 64 << 10  # bytes of a trace: cases on longer ones are run once
+NOT_WRITTEN = "memory of malloc is read where nothing was written, or past its end"
+DIFFERS = ("its numbers differ from run to run: it draws some by rand() after srand(), takes the "
+           "time of a clock, or reads memory before it writes there")
 LAB_LINE = re.compile(rb"(I +| [LSM] )[0-9a-fA-F]+,[0-9]+\n?")
 
 
@@ -94,12 +97,12 @@ def judged(ran, wanted):
     return Judgement(said, got, points, ran.is_killed and got != wanted, way, kept)
 
 
-def first_wrong_line(cachesim, student, case, ended_well):
+def first_wrong_line(cachesim, student, case, changed, ended_well):
     """Where the output with -v is wrong first, in words. Where the program fails, its lines come
     one by one, so that none is lost. Nothing where there is no room for what it writes."""
-    ran = student.run(case, "-v", by_line=not ended_well)
+    ran = student.run(case, "-v", by_line=not ended_well, changed=changed)
     if ended_well and ran.fault:
-        ran = student.run(case, "-v", by_line=True)
+        ran = student.run(case, "-v", by_line=True, changed=changed)
     if ran.no_room:
         return []
     with open(ran.output, "rb") as file:
@@ -166,6 +169,7 @@ class Grading:
         self.slow, self.has_results, self.has_lost = set(), False, False
         self.others = []  # cases that are not right, with what was wanted and their judgements
         self.runs = []  # cases with the numbers that were wanted and got
+        self.changed = {}  # what was changed in the runs of cases that were right without it
 
     @property
     def wrong(self):
@@ -181,6 +185,12 @@ class Grading:
             return Judgement(["not run: a run on this trace took too long"], way="not run")
         ran = self.student.run(case)
         found = judged(ran, wanted)
+        if not found.said and os.path.getsize(case.trace) <= SHORT:
+            # memory that is filled hides what reads past its end
+            ran = self.student.run(case, changed=student.UNFILLED)
+            found = judged(ran, wanted)
+            if found.said:
+                self.changed[case] = student.UNFILLED
         if found.way == UNJUDGED:
             return found
         self.has_results |= ran.results is not None
@@ -190,7 +200,8 @@ class Grading:
             self.runs.append((case, wanted, found.got))
         is_sought = self.asked.verbose_lines == "yes" and self.student.slow_runs < 2
         if found.said and is_sought and (self.asked.all or not self.has_seen(found)):
-            found.said.extend(first_wrong_line(self.cachesim, self.student, case, not ran.fault))
+            found.said.extend(first_wrong_line(self.cachesim, self.student, case,
+                                               self.changed.get(case, []), not ran.fault))
         if ran.is_slow:
             self.slow.add(case.trace)
         return found
@@ -226,8 +237,19 @@ class Grading:
 
     def differs(self, case, found):
         """Whether another run has other numbers."""
-        again = judged(self.student.run(case), found.got) if found.got else found
+        changed = self.changed.get(case, [])
+        again = judged(self.student.run(case, changed=changed), found.got) if found.got else found
         return None not in (again.got, found.got) and again.got != found.got
+
+    def of_memory(self, case, wanted):
+        """What a program that is wrong in a case does with memory, if it is right with other."""
+        changed = self.changed.get(case, [])
+        if changed and not self.is_right(case, wanted):
+            return DIFFERS
+        for other, text in HARMLESS[:1 if changed else None]:
+            if self.is_right(case, wanted, changed=[*changed, *other]):
+                return text
+        return NOT_WRITTEN if changed else ""
 
     def why(self):
         """The mistake in words, where another run or all results tell it."""
@@ -235,17 +257,34 @@ class Grading:
         if self.student.slow_runs == 0:
             if any(self.differs(case, found) for case, _, found in (self.wrong[-1], self.wrong[0])):
                 return DIFFERS
-            for changed, text in HARMLESS:
-                if self.is_right(first, wanted, changed=changed):
-                    return text
+            told = self.of_memory(first, wanted)
+            if told:
+                return told
             turned = [run for run in self.wrong if run[0].is_turned][:1]
             if any(self.is_right(run[0]._replace(is_turned=False), run[1]) for run in turned):
-                return "the options are taken in one order only; getopt takes them in any"
+                return ("the options are taken in one order only, and not in any: by their places, "
+                        "or one sets another too (break is missing)")
         crashed = [(case, judgement.said[0]) for case, _, judgement in self.wrong
                    if "signal" in judgement.way[0]]
         kept = [(wanted, judgement.got, judgement.kept) for _, wanted, judgement in self.wrong]
-        told = "" if crashed else evidence.of_results(kept)
-        return told or evidence.reason(self.runs, crashed)
+        told = self.of_ends() or ("" if crashed else evidence.of_results(kept))
+        # what fails after a slow run may not have been run
+        failed = [] if self.student.slow_runs else [
+            case for case, _, judgement in self.wrong
+            if not judgement.got and "signal" not in judgement.way[0]]
+        return told or evidence.reason(self.runs, crashed, failed)
+
+    def of_ends(self):
+        """What is told by how all runs end, whatever they count."""
+        faults = [judgement.way[0] for _, _, judgement in self.wrong]
+        if not self.runs and not any(faults):
+            return "it prints no line 'hits:H misses:M evictions:E', with these words and blanks"
+        are_right = all(judgement.got == judgement.kept == wanted
+                        for _, wanted, judgement in self.wrong)
+        # one above 128 is taken for that of a signal
+        if are_right and any(fault.startswith("ended with status") for fault in faults):
+            return "all numbers are right, but the program ends with another status than 0"
+        return ""
 
     def tell_by_trace(self, cases):
         """How many cases are right on each of several traces, of those that are judged."""

@@ -21,6 +21,11 @@ def twice(kind):
     return lambda all: [one for one in all for _ in range(1 + (one.kind == kind))]
 
 
+def as_hexadecimal(number):
+    """The value of the digits of a number where they are read by base 16."""
+    return int(str(number), 16)
+
+
 def digit(number, at=0):
     return int(str(number)[at])
 
@@ -39,6 +44,7 @@ def in_base(base, checked):
                         if set(one.digits[:checked]) <= digits]
 
 
+DIGITS = "0123456789"
 # the single accesses of a line
 KINDS = {"L": "L", "S": "S", "M": "LS"}
 MOST_BYTES = 4096  # of an access; a trace may have others
@@ -81,6 +87,11 @@ def spread(places, order):
             return [(one, place) for one in kinds for place in at]
         return [*((one, address) for one in kinds), *((kinds[0], place) for place in at[1:])]
     return touched
+
+
+def from_store(kind, address, size, b):
+    """A load as such, and all others as stores."""
+    return [(one if kind == "L" else "S", address) for one in KINDS[kind]]
 
 
 def crossing_counts(kind, address, size, b):
@@ -127,8 +138,9 @@ NUMBERED = {
                      lambda run, lines: run.cache[1] > lines),
     "apart": Numbered("the array has {} lines for a set, and more run into the next set",
                       range(2, 65), ROOM, lambda run, lines: run.cache[1] > lines),
-    "held": Numbered("a line of the trace is read into {} bytes, and long addresses are cut",
-                     range(8, 20), (12, 16), lambda run, room: run.longest > room - 4),
+    "digits": Numbered("only the first {} digits of an address are read (an array for the line "
+                       "that has 4 bytes more does that)", range(4, 16), (8, 12),
+                       lambda run, digits: run.longest > digits),
     "kept": Numbered("a line of the trace is read into {} bytes, and longer ones are lost",
                      range(8, 25), (16, 20), lambda run, room: run.longest > room - 8),
     "split": Numbered("a line of the trace is read into {} bytes, and the rest of a longer one is "
@@ -159,7 +171,7 @@ MISTAKES = {
     "the block used least often is evicted, of several the one used longest ago (LFU)": {
         "evicts": "rarest, oldest"},
     "a full set always evicts the block in its first line": {"evicts": "first"},
-    "a new block counts as the oldest of its set": {"is_old": True},
+    "a new block counts as the oldest of its set": {"is_old": ("fills", "evicts")},
     "a store that hits does not count as a use of its block": {"no_use": "S"},
     "a load that hits does not count as a use of its block": {"no_use": "L"},
     "a store that misses brings no block in": {"passes": True},
@@ -189,6 +201,8 @@ MISTAKES = {
     "the last line of the trace counts twice (while !feof)": {"taken": lambda all: all + all[-1:]},
     "the last line of the trace is lost": {"taken": lambda all: all[:-1]},
     "the first line of the trace is lost": {"taken": lambda all: all[1:]},
+    "lines whose address begins with a letter are lost": {
+        "taken": lambda all: [one for one in all if one.digits[0] in DIGITS]},
     "the trace is read to line 65,536": {"taken": lambda all: all[:1 << 16]},
     "all blocks share one set": {"set_of": lambda address, s, b: 0},
     "the set is that of the address, with its offset": {
@@ -239,10 +253,12 @@ RARE = {
     "the oldest block but one is evicted": {"evicts": "second"},
     "a block that hits changes places with the one used last": {"hit": "swap"},
     "a hit makes its block younger by one only": {"hit": "later", "has_own_clock": True},
-    "ages are signed and have only 8 bits": {
-        "evicts": "age", "has_own_clock": True, "age_of": lambda age, ways: short(age, 8, True)},
-    "ages have only 8 bits": {
-        "evicts": "age", "has_own_clock": True, "age_of": lambda age, ways: short(age, 8)},
+    **{f"ages {are} only 8 bits{when}": {
+        "evicts": "age", "has_own_clock": True,
+        "age_of": lambda age, ways, is_signed=is_signed, less=less: short(
+            age - less, 8, is_signed)}
+       for are, is_signed in (("have", False), ("are signed and have", True))
+       for when, less in (("", 0), (", and grow once a block is chosen", 1))},
     **{f"{BITS} {when}; that of a new block is clear (NRU)": {
         "evicts": "clear", "clears": clears, "fresh": False}
        for clears, when in (("", LATE), ("others", OTHERS), ("all", ALL))},
@@ -251,7 +267,17 @@ RARE = {
         "ticks": ticks, "has_own_clock": owner == "its set", "evicts": evicts}
        for owner in ("its set", "LRU") for ticks, when in (("before", ""), ("after", THEN))
        for evicts, equal in (("used", ""), ("used, last", LAST))},
+    "a block that replaces another counts as the oldest of its set (its time is not set)": {
+        "is_old": ("evicts",)},
+    "a block in a line that was free counts as the oldest of its set (its time is not set)": {
+        "is_old": ("fills",)},
+    "a store or an M that hits does not count as a use of its block": {
+        "no_use": "S", "spread": from_store},
     "an eviction counts, but the old block stays, and the new one is not kept": {"stays": True},
+    "a full set keeps its blocks, and nothing is evicted": {
+        "stays": True, "report": lambda h, m, e: (h, m, 0)},
+    "a miss that fills a free line goes on as if there was none (it counts as an eviction too)": {
+        "early": lambda cache, place: True, "goes_on_full": True},
     "a miss counts as an eviction unless it is the first in its set (or it fills all free lines)": {
         "early": lambda cache, place: place > 0},
     "all accesses after the first hit count as hits (a flag is not reset)": {"sticks": True},
@@ -264,6 +290,12 @@ RARE = {
         "set_of": lambda address, s, b: address >> b & (2 ^ s) - 1},
     "the mask of the set is 2 * s - 1 and not 2 to the power of s, less 1": {
         "set_of": lambda address, s, b: address >> b & 2 * s - 1},
+    "the mask of the set has a bit too few": {
+        "set_of": lambda address, s, b: address >> b & (1 << s >> 1) - (s > 0)},
+    **{f"the tag{what} computed in a double (by pow), which keeps 53 bits": {
+        "tag_of": lambda address, s, b: int(float(address) / 2 ** (s + b)), **others}
+       for what, others in ((" is", {}), (" and the set are", {
+           "set_of": lambda address, s, b: int(float(address) / 2 ** b) & (1 << s) - 1}))},
     "the set is shifted by s bits and not by b": {
         "set_of": lambda address, s, b: address >> s & (1 << s) - 1},
     "a set has a line too many": {"cache_of": lambda s, lines, b: (s, lines + 1, b)},
@@ -271,6 +303,10 @@ RARE = {
         "cache_of": lambda s, lines, b: (s, digit(lines), b)},
     "of the numbers behind options only the first digits are taken": {
         "cache_of": lambda s, lines, b: (digit(s), digit(lines), digit(b))},
+    "the number behind -E is read as a hexadecimal one": {
+        "cache_of": lambda s, lines, b: (s, as_hexadecimal(lines), b)},
+    "the numbers behind options are read as hexadecimal ones": {
+        "cache_of": lambda *numbers: tuple(map(as_hexadecimal, numbers))},
     "of the number behind -s only the first digit is taken": {
         "cache_of": lambda s, lines, b: (digit(s), lines, b)},
     "of the number behind -E only the last digit is taken": {
@@ -286,6 +322,17 @@ RARE = {
                            ("once", ", for M as one access"))
        if (places, order) != (ends, "once")},  # which is known
     "an access that crosses into another block counts as a miss more": {"spread": crossing_counts},
+    **{f"each line that is compared and has another block counts as a miss{said}": {
+        "compared": compared}
+       for said, compared in (
+           ("", lambda before, ways, is_hit: before if is_hit else ways),
+           (", and an access that misses as one more",
+            lambda before, ways, is_hit: before if is_hit else ways + 1),
+           (", empty ones do not", lambda before, ways, is_hit: before),
+           (", empty ones do not, and an access that misses as one more",
+            lambda before, ways, is_hit: before + (not is_hit)),
+           (", those behind the one that hits too",
+            lambda before, ways, is_hit: ways - is_hit))},
     "each line with I counts as a hit": fetch_as("hit"),
     "each line with I counts as a miss": fetch_as("miss"),
     "a line with I counts as two accesses, as M": fetch_as("L", "S"),
@@ -305,9 +352,15 @@ RARE = {
        for those, checked in (("", 0), (", and lines whose first digit is another are lost", 1),
                               (", and lines with other digits are lost", 16))},
     "only the first eviction from each set counts": {
-        "counted": lambda cache, index: index not in cache.evicting},
+        "counted": lambda cache, index, line: index not in cache.evicting},
+    "the first eviction from each set does not count": {
+        "counted": lambda cache, index, line: index in cache.evicting},
+    "only the eviction of a block that was stored to counts": {
+        "counted": lambda cache, index, line: line.is_dirty},
+    "only the eviction of a block that was not stored to counts": {
+        "counted": lambda cache, index, line: not line.is_dirty},
     "an eviction counts only once all sets are full": {
-        "counted": lambda cache, index: cache.filled >= cache.ways << cache.set_bits},
+        "counted": lambda cache, index, line: cache.filled >= cache.ways << cache.set_bits},
     "after the first eviction each miss counts as one (a flag is not reset)": {
         "early": lambda cache, place: bool(cache.evicting)},
     "evictions are the misses less the lines of one set": {"by_size": lambda s, lines: lines},
@@ -341,6 +394,8 @@ RARE = {
     "blocks have b bytes, not 2 to the power of b": {
         "set_of": lambda address, s, b: address // max(1, b) & (1 << s) - 1,
         "tag_of": lambda address, s, b: address // max(1, b) >> s},
+    "for the set, but not for the tag, blocks have b bytes, not 2 to the power of b": {
+        "set_of": lambda address, s, b: address // max(1, b) & (1 << s) - 1},
     "the set is in the lowest bits of the tag": {
         "set_of": lambda address, s, b: address >> s + b & (1 << s) - 1},
     **{f"the set is in the highest of {bits} bits": {
@@ -351,6 +406,10 @@ RARE = {
         "tag_of": lambda address, s, b: address >> s},
     "the mask of the set is 1 << s, without less 1": {
         "set_of": lambda address, s, b: address >> b & 1 << s},
+    **{f"{name} have only {bits} bits": {
+        "report": lambda *counts, at=at, bits=bits: tuple(
+            short(count, bits) if place == at else count for place, count in enumerate(counts))}
+       for at, name in enumerate(("hits", "misses", "evictions")) for bits in (8, 16)},
     "counts are signed and have only 8 bits": {"report": counts_of(8, True)},
     "counts are signed and have only 16 bits": {"report": counts_of(16, True)},
     "hits, misses and evictions are told in the order misses, evictions, hits": {
@@ -382,9 +441,12 @@ RARE = {
        for what, evicts, is_own in (("accesses", "accesses", False), ("misses", "misses", False),
                                     ("accesses to its set", "accesses", True),
                                     ("evictions", "evictions", False))},
-    "the clock of LRU advances at hits only": {"ticks": "hits"},
+    **{f"the clock of {owner} advances at hits only{equal}": {
+        "ticks": "hits", "has_own_clock": owner == "its set", "evicts": evicts}
+       for owner in ("LRU", "its set") for evicts, equal in (("used", ""), ("used, last", LAST))},
     "the clock of LRU advances at evictions only": {"ticks": "evictions"},
-    f"the clock of LRU advances at hits only{LAST}": {"ticks": "hits", "evicts": "used, last"},
+    "the clock of LRU advances at evictions only, before the new block is in": {
+        "ticks": "evicting"},
     "a block that hits changes places with the one used next after it": {"hit": "climbs"},
     "a block that hits moves by one line to the front, and the last line is evicted": {
         "hit": "place", "evicts": "last"},

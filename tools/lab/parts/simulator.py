@@ -33,12 +33,12 @@ RIGHT = dict(
     has_signed_clock=False,
     has_own_clock=False,  # each set
     ticks="",  # the clock stands at a hit, and at a miss goes on "before" or "after" its use; or
-    # it goes on at "hits", or at "evictions"
+    # it goes on at "hits", at "evictions", or before each of these at "evicting"
     is_signed=False,
     kinds="LSM",
     stores=lambda went: 1,  # how often the store of an M counts after what its load did
     no_use="",  # the kinds of a hit that is no use of its block
-    is_old=False,  # a new block is older than all others
+    is_old=(),  # a new block is older than all others where it "fills" a free line or "evicts"
     passes=False,  # a store that misses brings no block in
     crosses=False,  # an access touches the block of its last byte too
     spread=None,  # what an access touches, as kinds and addresses; "hit" and "miss" only count
@@ -48,15 +48,19 @@ RIGHT = dict(
     apart=MANY,  # the array has so many lines for a set; more run into the next
     # whether a set's free line counts as an eviction when it is filled
     early=lambda cache, place: False,
-    counted=lambda cache, index: True,  # whether an eviction from a set counts
+    goes_on_full=False,  # the block that fills the last free line takes a second one
+    counted=lambda cache, index, line: True,  # whether an eviction of a line from a set counts
+    # how many misses an access counts as, by the lines with other blocks that were looked at before
+    # the one that hits, or in all, the lines of a set, and whether it hits
+    compared=None,
     flushes="",  # a full "set", or all sets of the "cache", are emptied; each block is an eviction
     each=False,  # .. that counts, or all are one
     goes_on=False,  # how often a line was used is kept when its block changes
     stays=False,  # an eviction counts, but the old block stays, and the new one does not
     sticks=False,  # after the first hit all accesses hit
     by_size=None,  # evictions are the misses less this, by set bits and lines
-    held=MANY,  # a line is read into so many bytes, the last of them 0; the rest is ignored
-    kept=MANY,  # the same, where lines that do not fit are not taken
+    digits=MANY,  # only so many of an address are read
+    kept=MANY,  # a line is read into so many bytes, the last of them 0, and must fit
     split=MANY,  # the same, where the rest is taken for a line, unless it is not whole
     stale=MANY,  # the same, and what it lacks stays as it was
     taken=lambda accesses: accesses,
@@ -68,8 +72,8 @@ RIGHT = dict(
 
 
 # the habits that change which accesses count, or what is told of the counts
-OF_ACCESSES = ("kinds", "stores", "crosses", "spread", "kept", "split", "stale", "taken",
-               "report")
+OF_ACCESSES = ("kinds", "stores", "crosses", "spread", "compared", "kept", "split", "stale",
+               "taken", "report")
 
 
 class Habits(collections.namedtuple("Habits", RIGHT, defaults=RIGHT.values())):
@@ -85,11 +89,11 @@ def short(number, bits, is_signed=False):
 class Line:
     """A block in a line of a set."""
 
-    __slots__ = ("used", "came", "uses", "place", "bit", "tag")
+    __slots__ = ("used", "came", "uses", "place", "bit", "tag", "is_dirty")
 
     def __init__(self, used, came, place, bit, tag):
         self.used, self.came, self.uses, self.place, self.bit = used, came, 1, place, bit
-        self.tag = tag
+        self.tag, self.is_dirty = tag, False
 
 
 class Cache:
@@ -118,15 +122,19 @@ class Cache:
                   or not habits.is_valid and tag == 0 and len(lines) < self.ways)
         if habits.ticks in ("", "hits" if is_hit else "before"):
             self.tick(index)
+        misses = 0 if is_hit else 1
+        if habits.compared:
+            before = line.place if line else len(lines)
+            misses = habits.compared(before, self.ways, bool(is_hit))
+        self.misses += misses
         if is_hit:
             self.hits += 1
             if line:
                 self.use(kind, index, lines, line)
             return "hit"
-        self.misses += 1
         before = self.evictions
         if not (habits.passes and kind == "S"):
-            self.bring(index, lines, tag)
+            self.bring(kind, index, lines, tag)
         if habits.ticks == "after" or habits.ticks == "evictions" and self.evictions > before:
             self.tick(index)
         return "miss" if self.evictions == before else "eviction"
@@ -150,6 +158,7 @@ class Cache:
     def use(self, kind, index, lines, line):
         """Notes that a block was hit."""
         line.uses += 1
+        line.is_dirty |= kind == "S"
         self.mark(lines, line)
         if kind in self.habits.no_use:
             return
@@ -171,31 +180,39 @@ class Cache:
             setattr(line, name, getattr(other, name))
             setattr(other, name, mine)
 
-    def bring(self, index, lines, tag):
+    def bring(self, kind, index, lines, tag):
         """Brings a block in, and evicts one where the set is full."""
         place, habits, uses = len(lines), self.habits, 1
         if not self.ways:
             return
-        if place >= self.ways:
-            self.evictions += habits.counted(self, index)
+        is_full = place >= self.ways
+        if is_full:
+            gone = None
+            if not (habits.stays or habits.flushes):
+                gone = lines.pop(self.victim(index, lines))
+            self.evictions += habits.counted(self, index, gone)
             self.evicting.add(index)
+            if habits.ticks == "evicting":
+                self.tick(index)
             if habits.stays:
                 return
-            if habits.flushes:
-                place = self.flush(lines)
-            else:
-                gone = lines.pop(self.victim(index, lines))
+            if gone:
                 place, uses = gone.place, gone.uses + 1 if habits.goes_on else 1
+            else:
+                place = self.flush(lines)
         else:
             self.filled += 1
             self.evictions += habits.early(self, place)
-        used = 0 if habits.is_old else self.now(index)
+        used = 0 if ("evicts" if is_full else "fills") in habits.is_old else self.now(index)
         kept = habits.kept_tag(tag) if habits.kept_tag else tag
         made = Line(used, self.misses, place, habits.fresh, kept)
-        made.uses = uses
+        made.uses, made.is_dirty = uses, kind == "S"
         is_hidden = habits.unseen(self, place) or habits.kept_tag
         lines[("hidden", self.misses) if is_hidden else tag] = made
         self.mark(lines, made, habits.fresh)
+        if habits.goes_on_full and not is_full and 0 < place == self.ways - 1:
+            gone = lines.pop(self.victim(index, lines))
+            lines["hidden"] = Line(used, self.misses, gone.place, habits.fresh, kept)
 
     def flush(self, lines):
         """Empties a set, or all. Returns the place of the next block there."""
@@ -282,8 +299,8 @@ class Overlapping(Cache):
 
 def taken(accesses, habits):
     """The accesses of a trace as they are read."""
-    if habits.held < MANY:
-        accesses = [one._replace(address=int(one.digits[:habits.held - 4], 16))
+    if habits.digits < MANY:
+        accesses = [one._replace(address=int(one.digits[:habits.digits], 16))
                     for one in accesses]
     if habits.kept < MANY:
         accesses = [one for one in accesses

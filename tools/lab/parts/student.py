@@ -21,9 +21,10 @@ SYSTEM = "/usr /bin /sbin /lib /lib32 /lib64 /libx32 /etc/alternatives /etc/ld.s
 PATH = "/usr/local/bin:/usr/bin:/bin"
 # has glibc fill memory of malloc, so that who takes it for zeros is found
 FILLED = {"MALLOC_PERTURB_": "165"}
-# what is changed in a run: memory of malloc comes as it is, or each piece of it has pages of its
-# own, so that a write past the end of one harms no other
+# what is changed in a run: memory of malloc comes as it is; or as zeros, and only what is freed is
+# filled; or each piece of it has pages of its own, so that a write past its end harms no other
 UNFILLED = ["env", "MALLOC_PERTURB_=0"]
+ZEROED = ["env", "MALLOC_PERTURB_=255"]
 APART = ["env", "GLIBC_TUNABLES=glibc.malloc.mmap_threshold=1"]
 
 
@@ -60,7 +61,7 @@ class Student:
         that hangs costs its time once; one that hangs only with flags keeps its time for runs
         without them."""
         seconds = self.few_seconds if flags and self.slow_runs else self.seconds
-        before = ["stdbuf", "-oL"] if by_line else changed
+        before = [*changed, *["stdbuf", "-oL"] * by_line]
         try:
             with private.temporary(self.folder) as room:
                 ran = self.run_in(room, case, [*before, self.program, *flags], seconds)

@@ -44,6 +44,6 @@ COUNTED = {
     "turn": lambda cache, index: cache.turn(),
     "accesses": lambda cache, index: cache.now(index),
     "misses": lambda cache, index: cache.misses,
-    "evictions": lambda cache, index: cache.evictions,
+    "evictions": lambda cache, index: cache.evictions + 1,
     "rand": lambda cache, index: rand.number(cache.turn()),
 }
