@@ -11,6 +11,7 @@ use Rattle.std.proofs.Common.{set}
 use Rattle.full_profile.specs.internal.Rows.{AreRows}
 use Rattle.full_profile.proofs.marked_lists.Parts.{part_lent, part_long, part_back, part_kept}
 use Rattle.full_profile.proofs.marked_lists.ListsInRows.{HasList, known, within, depth_is}
+use Rattle.full_profile.proofs.marked_lists.ListsInRows.{front_within}
 use Rattle.full_profile.proofs.marked_lists.ListsInRows.{blocks_end, cleans_end, blocks_are}
 use Rattle.full_profile.proofs.marked_lists.ListsInRows.{cleans_are, rows_sound, lists_put, first_taken}
 use Rattle.full_profile.proofs.marked_lists.rows.ListRowsListStore.bring.Goals as goal
@@ -30,6 +31,13 @@ pub offset_bounds-deref_mut-start : goal.offset_bounds-deref_mut-start
 offset_bounds-deref_mut-start c =
     let h = known c.self.invariant c.self.view_is c.requires.within in
     omega (arith, blocks_end h, h.sound.small, h.sound.blocks_len)
+
+pub index_mut-requires : goal.index_mut-requires
+index_mut-requires c = omega (
+  arith,
+  front_within (known c.self.invariant c.self.view_is c.requires.within),
+  c.self.inside.fronts.ok.0,
+)
 
 pub slice_bounds-bring_in_row-end : goal.slice_bounds-bring_in_row-end
 slice_bounds-bring_in_row-end c =
