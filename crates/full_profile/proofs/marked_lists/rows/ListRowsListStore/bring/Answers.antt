@@ -11,9 +11,9 @@ use Rattle.std.proofs.Common.{set}
 use Rattle.full_profile.specs.internal.Rows.{AreRows}
 use Rattle.full_profile.proofs.marked_lists.Parts.{part_lent, part_long, part_back, part_kept}
 use Rattle.full_profile.proofs.marked_lists.ListsInRows.{HasList, known, within, depth_is}
-use Rattle.full_profile.proofs.marked_lists.ListsInRows.{front_within}
+use Rattle.full_profile.proofs.marked_lists.ListsInRows.{front_within, first_taken}
 use Rattle.full_profile.proofs.marked_lists.ListsInRows.{blocks_end, cleans_end, blocks_are}
-use Rattle.full_profile.proofs.marked_lists.ListsInRows.{cleans_are, rows_sound, lists_put, first_taken}
+use Rattle.full_profile.proofs.marked_lists.ListsInRows.{cleans_are, rows_sound, lists_put}
 use Rattle.full_profile.proofs.marked_lists.rows.ListRowsListStore.bring.Goals as goal
 use Rattle.full_profile.proofs.marked_lists.rows.ListRowsListStore.bring.Goals.{After-bring_in_row}
 
