@@ -167,6 +167,15 @@ class Students(StudentTest):
             said = self.grade("--verbose-lines=no", self.student(mistake))
             self.assertIn(f"\nwhy: {words.format(**before)}", said)
 
+    def test_too_slow_for_one_trace(self):
+        """Where it ends it is right: no reason is looked for, since no case is wrong."""
+        right = self.student()
+        program = self.executable("slow", 'case "$*" in *long*) sleep 60;; esac',
+                                  f'exec "{right}" "$@"')
+        said = self.grade("--seconds", "1", program)
+        self.assertNotIn("why: ", said)
+        self.assertEqual(said.splitlines()[-1], "75 of 90 right")
+
     def test_two_mistakes(self):
         """The number of bits is as open as with one."""
         said = self.grade(self.student("FIFO", "MASK_OF_31"), "order.trace", "wide.trace")

@@ -230,10 +230,10 @@ def size_of(case, name):
 def more_of(fine, bad):
     """The sizes that bad cases have, and only fine ones have less of, with the least."""
     for name in SIZES:
-        sizes = [{size_of(case, name) for case in cases} for cases in (bad, fine)]
-        others = sizes[1] - sizes[0]
-        if others and min(sizes[0]) > max(others):
-            yield name, min(sizes[0])
+        sizes, all_fine = ({size_of(case, name) for case in cases} for cases in (bad, fine))
+        others = all_fine - sizes
+        if sizes and others and min(sizes) > max(others):
+            yield name, min(sizes)
 
 
 def too_short(what, sizes):
