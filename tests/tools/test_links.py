@@ -164,7 +164,7 @@ class PagesOnTheCode(unittest.TestCase):
         wrong = [f"{page}: {name}" for page in self.PAGES
                  for name in self.unknown((base.TOP / page).read_text(), code, known)]
         self.assertEqual(wrong, [])
-        text = "`Profile::feed_batch`, `Profile::feed_bunch`, `MAX_LINE`, `Profile::read_number`, "
+        text = "`Profile::feed_batch`, `Profile::feed_bunch`, `MAX_LINE`, `Profile::read_number`. "
         text += "`Lines::next` (`trace_core`), `MAX_WAYS` and\n`Lines` of `trace_core`"
         wrong = ["feed_bunch", "Profile::feed_bunch", "Profile::read_number"]
         wrong.append("MAX_WAYS of trace_core")
