@@ -19,8 +19,8 @@ use Rattle.full_profile.proofs.marked_lists.Parts.{part_here, part_other, part_k
 use Rattle.full_profile.proofs.marked_lists.Parts.{rows_at, rows_put, rows_same}
 
 -- what is known where the list of set k is asked for
-pub record HasList (d k : ℕ) (fronts blocks cleans lens : List ℕ) (m : Marked) : Type 0 where
-  pub sound : AreRows d fronts blocks cleans lens
+pub record HasList (d k : ℕ) (blocks cleans lens : List ℕ) (m : Marked) : Type 0 where
+  pub sound : AreRows d blocks cleans lens
   pub seen : record {
     depth = d;
     blocks = all_listed d blocks lens;
@@ -28,12 +28,12 @@ pub record HasList (d k : ℕ) (fronts blocks cleans lens : List ℕ) (m : Marke
   } ≡ m
   pub is_set : k < length m.blocks
 
-pub known : {d k : ℕ} {fronts blocks cleans lens : List ℕ} {m : Marked} →
-    AreRows d fronts blocks cleans lens → record {
+pub known : {d k : ℕ} {blocks cleans lens : List ℕ} {m : Marked} → AreRows d blocks cleans lens →
+    record {
       depth = d;
       blocks = all_listed d blocks lens;
       cleans = all_listed d cleans lens;
-    } ≡ m → k < length m.blocks → HasList d k fronts blocks cleans lens m
+    } ≡ m → k < length m.blocks → HasList d k blocks cleans lens m
 known sound seen is_set = record { sound = sound; seen = seen; is_set = is_set }
 
 -- the sets are as many as the lengths
@@ -45,24 +45,20 @@ pub set_count : (d : ℕ) (blocks cleans lens : List ℕ) {m : Marked} → recor
 set_count d blocks cleans lens seen =
     sym (length-rows (length lens) (listed d blocks lens)) ∙ ap (λ v. length v.blocks) seen
 
--- the first number of a list that a row begins with, if the list has some
-front_of : (len : ℕ) (row : List ℕ) → 0 < len → get_or row 0 0 ≡ get_or (take len row) 0 0
-front_of zero row some = absurd (omega arith)
-front_of (suc len) [] some = refl
-front_of (suc len) (x ∷ row) some = refl
-
--- a list of up to n blocks into whose front one comes
-pub first_taken : (n x : ℕ) (xs : List ℕ) → 1 ≤ n → x ≡ get_or (take n (x ∷ xs)) 0 0
-first_taken zero x xs some = absurd (omega arith)
-first_taken (suc n) x xs some = refl
+-- the front of a list, or 0
+front_of : (len d : ℕ) (row : List ℕ) → 1 ≤ d → (len ≡ 0 → get_or row 0 0 ≡ 0) →
+    get_or row 0 0 ≡ get_or (take len row) 0 0
+front_of zero d row some blank = blank refl
+front_of (suc len) d [] some blank = refl
+front_of (suc len) d (x ∷ row) some blank = refl
 
 first_set : (n : ℕ) (row : List ℕ) (x : ℕ) → 0 < n → take n (set row 0 x) ≡ set (take n row) 0 x
 first_set zero row x some = absurd (omega arith)
 first_set (suc n) [] x some = refl
 first_set (suc n) (y ∷ row) x some = refl
 
-module _ {d k : ℕ} {fronts blocks cleans lens : List ℕ} {m : Marked}
-    (h : HasList d k fronts blocks cleans lens m) where
+module _ {d k : ℕ} {blocks cleans lens : List ℕ} {m : Marked}
+    (h : HasList d k blocks cleans lens m) where
   pub within : k < length lens
   within = omega (arith, h.is_set, set_count d blocks cleans lens h.seen)
 
@@ -105,11 +101,14 @@ module _ {d k : ℕ} {fronts blocks cleans lens : List ℕ} {m : Marked}
   len_read {len} read = get_or_read lens k len within read 0 ∙ sym blocks_size
 
   -- what is read of it
-  pub front_within : k < length fronts
-  front_within = omega (arith, within, h.sound.fronts_len)
-
-  pub front_read : {x : ℕ} → x ≡ get_or fronts k x → x ≡ get_or (blocks_in m k) 0 0
-  front_read {x} read = get_or_read fronts k x front_within read 0 ∙ h.sound.front k
+  pub front_read : {x : ℕ} → x ≡ get_or blocks (k * d) x → x ≡ get_or (blocks_in m k) 0 0
+  front_read {x} read =
+      let row = take d (drop (k * d) blocks) in
+      let at : x ≡ get_or row 0 0 =
+      part_read (k * d) d blocks blocks_end h.sound.some (omega arith) read in
+      let first : get_or row 0 0 ≡ get_or blocks (k * d) 0 = sym at ∙
+      get_or_read blocks (k * d) x (omega (arith, blocks_end, h.sound.some)) read 0 in
+      at ∙ front_of (get_or lens k 0) d row h.sound.some (λ none. first ∙ h.sound.blank k none)
       ∙ ap (λ l. get_or l 0 0) (sym blocks_are)
 
   pub clean_read : {x : ℕ} → 0 < length (blocks_in m k) → x ≡ get_or cleans (k * d) x →
@@ -117,7 +116,8 @@ module _ {d k : ℕ} {fronts blocks cleans lens : List ℕ} {m : Marked}
   clean_read {x} some read =
       let row = take d (drop (k * d) cleans) in
       part_read (k * d) d cleans cleans_end h.sound.some (omega arith) read
-      ∙ front_of (get_or lens k 0) row (omega (arith, some, blocks_size))
+      ∙ front_of (get_or lens k 0) d row h.sound.some
+      (λ none. absurd (omega (arith, none, some, blocks_size)))
       ∙ ap (λ l. get_or l 0 0) (sym cleans_are)
 
   -- the last block of a full list
@@ -171,8 +171,8 @@ none_listed d m numbers {lens} none =
     ∙ ap (λ n. take n (take d (drop (k * d) numbers))) (all_same m k 0)
     ∙ sym (get_or-replicate m k [] [] (omega (arith, lt, count))))
 
-module _ {d k : ℕ} {fronts blocks cleans lens : List ℕ} {m : Marked}
-    (h : HasList d k fronts blocks cleans lens m) where
+module _ {d k : ℕ} {blocks cleans lens : List ℕ} {m : Marked}
+    (h : HasList d k blocks cleans lens m) where
   -- the lists as new arrays have them
   lists_written : (blocks' cleans' lens' new clean_new : List ℕ) →
       all_listed d blocks' lens' ≡ set (all_listed d blocks lens) k new →
@@ -226,38 +226,42 @@ module _ {d k : ℕ} {fronts blocks cleans lens : List ℕ} {m : Marked}
         cleans = set v.cleans k (set (cleans_in m k) 0 x);
       }) h.seen
 
-  -- a row written anew, the length of its list, and its front
+  -- a row written anew, and the length of its list
   module _ (row blocks' : List ℕ) (len : ℕ) (put : blocks' ≡ put_mid (k * d) d blocks row)
-      (long : length row ≡ d) (short : len ≤ d) where
-    front_here : get_or (take len row) 0 0 ≡ get_or (listed d blocks' (set lens k len) k) 0 0
-    front_here = ap (λ xs. get_or xs 0 0) (sym (ap (λ n. take n (take d (drop (k * d) blocks')))
-        (get_or-set_same lens k len 0 (within h))
-        ∙ ap (λ xs. take len (take d (drop (k * d) xs))) put
-        ∙ ap (take len) (part_here (k * d) d blocks (blocks_end h) row long)))
+      (long : length row ≡ d) (short : len ≤ d) (blank : len ≡ 0 → get_or row 0 0 ≡ 0) where
+    first_is : (j : ℕ) → (j ≡ k → ⊥) → get_or blocks' (j * d) 0 ≡ get_or blocks (j * d) 0
+    first_is j other =
+        let some : 0 < d = omega (arith, h.sound.some) in
+        let at : (xs : List ℕ) → get_or (take d (drop (j * d) xs)) 0 0 ≡ get_or xs (j * d) 0 =
+        λ xs. get_or-take d (drop (j * d) xs) 0 0 some ∙ get_or-drop (j * d) xs 0 0
+        ∙ ap (λ i. get_or xs i 0) (omega arith) in
+        sym (at blocks')
+        ∙ ap (λ xs. get_or (take d (drop (j * d) xs)) 0 0) put
+        ∙ ap (λ xs. get_or xs 0 0)
+        (part_other k j d blocks row (omega (arith, blocks_end h)) long other)
+        ∙ at blocks
 
-    front_there : (j : ℕ) → (j ≡ k → ⊥) → get_or (listed d blocks lens j) 0 0
-        ≡ get_or (listed d blocks' (set lens k len) j) 0 0
-    front_there j other = ap (λ xs. get_or xs 0 0) (sym (
-        ap (λ n. take n (take d (drop (j * d) blocks')))
-        (get_or-set_other lens k j len 0 other)
-        ∙ ap (λ xs. take (get_or lens j 0) (take d (drop (j * d) xs))) put
-        ∙ ap (take (get_or lens j 0))
-        (part_other k j d blocks row (omega (arith, blocks_end h)) long other)))
+    first_here : get_or blocks' (k * d) 0 ≡ get_or row 0 0
+    first_here =
+        let some : 0 < d = omega (arith, h.sound.some) in
+        ap (λ i. get_or blocks' i 0) (omega arith)
+        ∙ sym (get_or-drop (k * d) blocks' 0 0)
+        ∙ sym (get_or-take d (drop (k * d) blocks') 0 0 some)
+        ∙ ap (λ xs. get_or (take d (drop (k * d) xs)) 0 0) put
+        ∙ ap (λ xs. get_or xs 0 0) (part_here (k * d) d blocks (blocks_end h) row long)
 
-    pub rows_sound : (front : ℕ) → front ≡ get_or (take len row) 0 0 → (cleans' : List ℕ) →
-        length cleans' ≡ length cleans →
-        AreRows d (set fronts k front) blocks' cleans' (set lens k len)
-    rows_sound front first cleans' same = record {
+    pub rows_sound : (cleans' : List ℕ) → length cleans' ≡ length cleans →
+        AreRows d blocks' cleans' (set lens k len)
+    rows_sound cleans' same = record {
       some = h.sound.some;
       small = subst (λ (n : ℕ). n * d ≤ 2 ^ 22) (sym (length-set lens k len)) h.sound.small;
       blocks_len = ap length put ∙ part_kept (k * d) d blocks (blocks_end h) row long ∙
           h.sound.blocks_len ∙ ap (λ n. n * d) (sym (length-set lens k len));
       cleans_len = same ∙ h.sound.cleans_len ∙ ap (λ n. n * d) (sym (length-set lens k len));
       short = all_set (λ _ n. n ≤ d) lens k len 0 (within h) short (λ j _. h.sound.short j);
-      fronts_len = length-set fronts k front ∙ h.sound.fronts_len ∙ sym (length-set lens k len);
-      front = all_set (λ j x. x ≡ get_or (listed d blocks' (set lens k len) j) 0 0) fronts k front
-          0 (front_within h) (first ∙ front_here)
-          (λ j other. h.sound.front j ∙ front_there j other);
+      blank = all_set (λ j n. n ≡ 0 → get_or blocks' (j * d) 0 ≡ 0) lens k len 0 (within h)
+          (λ none. first_here ∙ blank none)
+          (λ j other none. first_is j other ∙ h.sound.blank j none);
     }
 
     pub lists_put : (clean_row cleans' new clean_new : List ℕ) →
@@ -277,30 +281,28 @@ module _ {d k : ℕ} {fronts blocks cleans lens : List ℕ} {m : Marked}
         clean_is)
 
   -- a list that is emptied
-  cut_there : (j : ℕ) → (j ≡ k → ⊥) →
-      get_or (listed d blocks lens j) 0 0 ≡ get_or (listed d blocks (set lens k 0) j) 0 0
-  cut_there j other = ap (λ n. get_or (take n (take d (drop (j * d) blocks))) 0 0)
-      (sym (get_or-set_other lens k j 0 0 other))
+  abbrev blank_row : List ℕ
+  blank_row = set (take d (drop (k * d) blocks)) 0 0
 
-  pub emptied_sound : AreRows d (set fronts k 0) blocks cleans (set lens k 0)
-  emptied_sound = record {
-    some = h.sound.some;
-    small = subst (λ (n : ℕ). n * d ≤ 2 ^ 22) (sym (length-set lens k 0)) h.sound.small;
-    blocks_len = h.sound.blocks_len ∙ ap (λ n. n * d) (sym (length-set lens k 0));
-    cleans_len = h.sound.cleans_len ∙ ap (λ n. n * d) (sym (length-set lens k 0));
-    short = all_set (λ _ n. n ≤ d) lens k 0 0 (within h) (omega arith) (λ j _. h.sound.short j);
-    fronts_len = length-set fronts k 0 ∙ h.sound.fronts_len ∙ sym (length-set lens k 0);
-    front = all_set (λ j x. x ≡ get_or (listed d blocks (set lens k 0) j) 0 0) fronts k 0 0
-        (front_within h)
-        (ap (λ n. get_or (take n (take d (drop (k * d) blocks))) 0 0)
-        (sym (get_or-set_same lens k 0 0 (within h))))
-        (λ j other. h.sound.front j ∙ cut_there j other);
-  }
+  blank_put : set blocks (k * d) 0 ≡ put_mid (k * d) d blocks blank_row
+  blank_put = part_first (k * d) d blocks (blocks_end h) 0 h.sound.some
+
+  blank_long : length blank_row ≡ d
+  blank_long = length-set (take d (drop (k * d) blocks)) 0 0 ∙
+      part_long (k * d) d blocks (blocks_end h)
+
+  pub emptied_sound : AreRows d (set blocks (k * d) 0) cleans (set lens k 0)
+  emptied_sound = rows_sound blank_row (set blocks (k * d) 0) 0 blank_put blank_long (omega arith)
+      (λ _. get_or-set_same (take d (drop (k * d) blocks)) 0 0 0
+      (omega (arith, part_long (k * d) d blocks (blocks_end h), h.sound.some)))
+      cleans refl
 
   pub list_emptied : record {
     depth = d;
-    blocks = all_listed d blocks (set lens k 0);
+    blocks = all_listed d (set blocks (k * d) 0) (set lens k 0);
     cleans = all_listed d cleans (set lens k 0);
   } ≡ record m { blocks = set m.blocks k []; cleans = set m.cleans k [] }
-  list_emptied = lists_written blocks cleans (set lens k 0) [] []
-      (listed_cut d k blocks lens (within h)) (listed_cut d k cleans lens (within h))
+  list_emptied = lists_written (set blocks (k * d) 0) cleans (set lens k 0) [] []
+      (ap (λ ns. all_listed d ns (set lens k 0)) blank_put
+      ∙ listed_put d k blocks lens blank_row [] 0 (within h) (blocks_end h) blank_long refl)
+      (listed_cut d k cleans lens (within h))

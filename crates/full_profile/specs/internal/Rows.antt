@@ -15,16 +15,14 @@ listed depth numbers lens set = take (slice_index lens set) (plain_row depth num
 abbrev pub all_listed : ℕ → List ℕ → List ℕ → List (List ℕ)
 all_listed depth numbers lens = rows_by_set (length lens) (listed depth numbers lens)
 
--- the invariant of lists in rows: the front of a list that is empty is 0
-pub record AreRows (depth : ℕ) (fronts blocks cleans lens : List ℕ) : Type 0 where
+-- the invariant of lists in rows: the first block of a row whose list is empty is 0
+pub record AreRows (depth : ℕ) (blocks cleans lens : List ℕ) : Type 0 where
   pub some : 1 ≤ depth
   pub small : length lens * depth ≤ 2 ^ 22
   pub blocks_len : length blocks ≡ length lens * depth
   pub cleans_len : length cleans ≡ length lens * depth
   pub short : (set : ℕ) → slice_index lens set ≤ depth
-  pub fronts_len : length fronts ≡ length lens
-  pub front : (set : ℕ) →
-      slice_index fronts set ≡ slice_index (listed depth blocks lens set) 0
+  pub blank : (set : ℕ) → slice_index lens set ≡ 0 → slice_index blocks (set * depth) ≡ 0
 
 -- How far a list is shifted to put a block in front, with a clean depth: up to the block, or to the
 -- end, where the last block falls out. In an empty list that is the block itself.

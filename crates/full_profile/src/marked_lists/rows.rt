@@ -1,5 +1,5 @@
 //! Recency lists in rows, the plainest way: blocks in one array, their clean depths in another, and
-//! a length for each list. The fronts stand in a small array too, since most looks are at a front.
+//! a length for each list.
 ghost use Rattle.std.specs.Prelude.{◌≡◌, ◌+◌, ◌-◌, ◌*◌, ◌^◌, ◌<◌, ◌≤◌, IfOk, length, slice_index};
 ghost use Rattle.std.specs.Prelude.{sum};
 ghost use Rattle.full_profile.specs.internal.Copies.{with_copies_of, up_to_of};
@@ -15,11 +15,10 @@ use std::marker::Model;
 use trace_core::Access;
 
 /// A row for each set, in the order of the sets. The list of a set is what its row begins with. The
-/// front of a list that is empty is 0.
+/// first block of a row whose list is empty is 0.
 #[derive(Drop)]
 pub struct ListRows {
     depth: usize,
-    fronts: Vec<u64>,
     blocks: Vec<u64>,
     cleans: Vec<u32>,
     lens: Vec<u32>,
@@ -37,8 +36,7 @@ impl Model for ListRows {
       cleans = all_listed r.depth r.cleans.items r.lens.items;
     } };
 
-    ghost invariant = { λ r. AreRows r.depth r.fronts.items r.blocks.items r.cleans.items
-        r.lens.items };
+    ghost invariant = { λ r. AreRows r.depth r.blocks.items r.cleans.items r.lens.items };
 }
 
 impl ListRows {
@@ -50,7 +48,6 @@ impl ListRows {
     {
         Ok(ListRows {
             depth,
-            fronts: vec![in alloc; 0; sets]?,
             blocks: vec![in alloc; 0; sets * depth]?,
             cleans: vec![in alloc; 0; sets * depth]?,
             lens: vec![in alloc; 0; sets]?,
@@ -101,14 +98,14 @@ impl ListRows {
         let start = set * self.depth;
         let end = start + self.lens[set] as usize;
         copies.add_list(&self.cleans[start..end], emptying, depth);
-        self.fronts[set] = 0;
+        self.blocks[start] = 0;
         self.lens[set] = 0;
     }
 }
 
 impl TouchedLists<ListRows> {
     /// Empty lists in rows for a number of sets. It takes 12 bytes for each of `sets * depth`
-    /// blocks, and 12 and a quarter for each set.
+    /// blocks, and 4 and a quarter for each set.
     pub fn in_rows(
         alloc: Global,
         sets: usize,
@@ -133,7 +130,7 @@ impl ListStore for ListRows {
 
     #[inline(always)]
     fn front(&self, set: usize) -> u64 {
-        self.fronts[set]
+        self.blocks[set * self.depth]
     }
 
     #[inline(always)]
@@ -155,7 +152,6 @@ impl ListStore for ListRows {
     fn bring(&mut self, set: usize, block: u64, access: Access) -> MarkedTouch {
         let start = set * self.depth;
         let end = start + self.depth;
-        self.fronts[set] = block;
         bring_in_row(
             &mut self.blocks[start..end],
             &mut self.cleans[start..end],

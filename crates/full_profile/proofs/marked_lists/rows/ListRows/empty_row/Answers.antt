@@ -5,7 +5,7 @@ use Rattle.std.proofs.lemmas.List.{get_or_read, take-take}
 use Rattle.full_profile.specs.internal.Marked.{cleans_in}
 use Rattle.full_profile.specs.internal.Copies.{with_copies_of, up_to_of}
 use Rattle.full_profile.proofs.marked_lists.Parts.{part_lent}
-use Rattle.full_profile.proofs.marked_lists.ListsInRows.{known, within, front_within}
+use Rattle.full_profile.proofs.marked_lists.ListsInRows.{known, within, blocks_end}
 use Rattle.full_profile.proofs.marked_lists.ListsInRows.{cleans_end, cleans_are, emptied_sound}
 use Rattle.full_profile.proofs.marked_lists.ListsInRows.{list_emptied}
 use Rattle.full_profile.proofs.marked_lists.rows.ListRows.empty_row.Goals as goal
@@ -84,7 +84,7 @@ add_list-requires-clause-few c =
 pub index_mut-requires : goal.index_mut-requires
 index_mut-requires c =
     let h = known c.self.invariant c.self.view_is c.requires.set in
-    omega (arith, front_within h, c.self.inside.fronts.ok.0)
+    omega (arith, blocks_end h, h.sound.some, c.self.inside.blocks.ok.0)
 
 pub index_mut-requires-2 : goal.index_mut-requires-2
 index_mut-requires-2 c = omega (

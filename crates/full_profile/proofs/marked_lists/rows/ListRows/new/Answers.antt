@@ -7,14 +7,14 @@ use Rattle.full_profile.proofs.marked_lists.rows.ListRows.new.Goals as goal
 
 pub returns : goal.returns
 returns c =
-    let none = c.in_ok-vec-4.ensures.items_if_clones_equal (λ y e. e) in
+    let none = c.in_ok-vec-3.ensures.items_if_clones_equal (λ y e. e) in
     ap (λ ls. record {
       depth = c.args.depth;
       blocks = ls;
-      cleans = all_listed c.args.depth c.in_ok-vec-3.field-0.items c.in_ok-vec-4.field-0.items;
-    }) (none_listed c.args.depth c.args.sets c.in_ok-vec-2.field-0.items none)
+      cleans = all_listed c.args.depth c.in_ok-vec-2.field-0.items c.in_ok-vec-3.field-0.items;
+    }) (none_listed c.args.depth c.args.sets c.in_ok-vec.field-0.items none)
     ∙ ap (λ ls. record {
       depth = c.args.depth;
       blocks = replicate {A = List ℕ} c.args.sets [];
       cleans = ls;
-    }) (none_listed c.args.depth c.args.sets c.in_ok-vec-3.field-0.items none)
+    }) (none_listed c.args.depth c.args.sets c.in_ok-vec-2.field-0.items none)

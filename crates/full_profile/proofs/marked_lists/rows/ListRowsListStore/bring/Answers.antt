@@ -11,7 +11,6 @@ use Rattle.std.proofs.Common.{set}
 use Rattle.full_profile.specs.internal.Rows.{AreRows}
 use Rattle.full_profile.proofs.marked_lists.Parts.{part_lent, part_long, part_back, part_kept}
 use Rattle.full_profile.proofs.marked_lists.ListsInRows.{HasList, known, within, depth_is}
-use Rattle.full_profile.proofs.marked_lists.ListsInRows.{front_within, first_taken}
 use Rattle.full_profile.proofs.marked_lists.ListsInRows.{blocks_end, cleans_end, blocks_are}
 use Rattle.full_profile.proofs.marked_lists.ListsInRows.{cleans_are, rows_sound, lists_put}
 use Rattle.full_profile.proofs.marked_lists.rows.ListRowsListStore.bring.Goals as goal
@@ -32,13 +31,6 @@ offset_bounds-deref_mut-start c =
     let h = known c.self.invariant c.self.view_is c.requires.within in
     omega (arith, blocks_end h, h.sound.small, h.sound.blocks_len)
 
-pub index_mut-requires : goal.index_mut-requires
-index_mut-requires c = omega (
-  arith,
-  front_within (known c.self.invariant c.self.view_is c.requires.within),
-  c.self.inside.fronts.ok.0,
-)
-
 pub slice_bounds-bring_in_row-end : goal.slice_bounds-bring_in_row-end
 slice_bounds-bring_in_row-end c =
     let h = known c.self.invariant c.self.view_is c.requires.within in
@@ -49,8 +41,8 @@ module _ (c : After-bring_in_row) where
   abbrev start : ℕ
   start = c.args.set * c.self.inside.depth
 
-  has : HasList c.self.inside.depth c.args.set c.self.inside.fronts.items
-      c.self.inside.blocks.items c.self.inside.cleans.items c.self.inside.lens.items c.args.self.now
+  has : HasList c.self.inside.depth c.args.set c.self.inside.blocks.items c.self.inside.cleans.items
+      c.self.inside.lens.items c.args.self.now
   has = known c.self.invariant c.self.view_is c.requires.within
 
   abbrev lent : List ℕ
@@ -73,17 +65,17 @@ module _ (c : After-bring_in_row) where
   clean_lent_long = ap length clean_lent_is ∙
       part_long start c.self.inside.depth c.self.inside.cleans.items (cleans_end has)
 
-  held_is : c.index_mut-2.result.now ≡ get_or c.self.inside.lens.items c.args.set 0
-  held_is = get_or_read c.self.inside.lens.items c.args.set c.index_mut-2.result.now (within has)
-      c.index_mut-2.ensures.value 0
+  held_is : c.index_mut.result.now ≡ get_or c.self.inside.lens.items c.args.set 0
+  held_is = get_or_read c.self.inside.lens.items c.args.set c.index_mut.result.now (within has)
+      c.index_mut.ensures.value 0
 
-  blocks_read : take c.index_mut-2.result.now lent ≡ blocks_in c.args.self.now c.args.set
-  blocks_read = ap (take c.index_mut-2.result.now) lent_is
+  blocks_read : take c.index_mut.result.now lent ≡ blocks_in c.args.self.now c.args.set
+  blocks_read = ap (take c.index_mut.result.now) lent_is
       ∙ ap (λ n. take n (take c.self.inside.depth (drop start c.self.inside.blocks.items))) held_is
       ∙ sym (blocks_are has)
 
-  cleans_read : take c.index_mut-2.result.now clean_lent ≡ cleans_in c.args.self.now c.args.set
-  cleans_read = ap (take c.index_mut-2.result.now) clean_lent_is
+  cleans_read : take c.index_mut.result.now clean_lent ≡ cleans_in c.args.self.now c.args.set
+  cleans_read = ap (take c.index_mut.result.now) clean_lent_is
       ∙ ap (λ n. take n (take c.self.inside.depth (drop start c.self.inside.cleans.items))) held_is
       ∙ sym (cleans_are has)
 
@@ -121,16 +113,14 @@ module _ (c : After-bring_in_row) where
   short : c.bring_in_row.new.len ≤ c.self.inside.depth
   short = omega (arith, c.bring_in_row.ensures.fits, lent_long)
 
-  first : c.args.block ≡ get_or (take c.bring_in_row.new.len c.bring_in_row.new.blocks) 0 0
-  first = first_taken (length lent) c.args.block _ (omega (arith, lent_long, has.sound.some))
-      ∙ ap (λ xs. get_or xs 0 0) (sym c.bring_in_row.ensures.blocks)
+  blank : c.bring_in_row.new.len ≡ 0 → get_or c.bring_in_row.new.blocks 0 0 ≡ 0
+  blank none = absurd (omega (arith, none, c.bring_in_row.ensures.some))
 
-  sound : AreRows c.self.inside.depth (set c.self.inside.fronts.items c.args.set c.args.block)
-      blocks' cleans' (set c.self.inside.lens.items c.args.set c.bring_in_row.new.len)
+  sound : AreRows c.self.inside.depth blocks' cleans'
+      (set c.self.inside.lens.items c.args.set c.bring_in_row.new.len)
   sound = rows_sound has c.bring_in_row.new.blocks blocks' c.bring_in_row.new.len blocks_put
-      new_long short c.args.block first cleans' (ap length cleans_put
-      ∙ part_kept start c.self.inside.depth c.self.inside.cleans.items (cleans_end has)
-      c.bring_in_row.new.cleans clean_new_long)
+      new_long short blank cleans' (ap length cleans_put ∙ part_kept start c.self.inside.depth
+      c.self.inside.cleans.items (cleans_end has) c.bring_in_row.new.cleans clean_new_long)
 
   abbrev m : Marked
   m = c.args.self.now
@@ -138,18 +128,17 @@ module _ (c : After-bring_in_row) where
   list_is : take c.bring_in_row.new.len c.bring_in_row.new.blocks
       ≡ take m.depth (move_to_front c.args.block (blocks_in m c.args.set))
   list_is = c.bring_in_row.ensures.blocks
-      ∙ ap (λ d. take d (move_to_front c.args.block (take c.index_mut-2.result.now lent)))
-      depth_read
+      ∙ ap (λ d. take d (move_to_front c.args.block (take c.index_mut.result.now lent))) depth_read
       ∙ ap (λ xs. take m.depth (move_to_front c.args.block xs)) blocks_read
 
   clean_list_is : take c.bring_in_row.new.len c.bring_in_row.new.cleans
       ≡ cleans_after m.depth c.args.access c.args.block (blocks_in m c.args.set)
       (cleans_in m c.args.set)
   clean_list_is = c.bring_in_row.ensures.cleans
-      ∙ ap (λ d. cleans_after d c.args.access c.args.block (take c.index_mut-2.result.now lent)
-      (take c.index_mut-2.result.now clean_lent)) depth_read
+      ∙ ap (λ d. cleans_after d c.args.access c.args.block (take c.index_mut.result.now lent)
+      (take c.index_mut.result.now clean_lent)) depth_read
       ∙ ap (λ xs. cleans_after m.depth c.args.access c.args.block xs
-      (take c.index_mut-2.result.now clean_lent)) blocks_read
+      (take c.index_mut.result.now clean_lent)) blocks_read
       ∙ ap (λ ms. cleans_after m.depth c.args.access c.args.block (blocks_in m c.args.set) ms)
       cleans_read
 
@@ -160,8 +149,8 @@ bring_in_row-requires-clause-fits c =
     let start = c.args.set * d in
     omega (
       arith,
-      get_or_read c.self.inside.lens.items c.args.set c.index_mut-2.result.now (within h)
-          c.index_mut-2.ensures.value 0,
+      get_or_read c.self.inside.lens.items c.args.set c.index_mut.result.now (within h)
+          c.index_mut.ensures.value 0,
       h.sound.short c.args.set,
       ap length (part_lent start d c.deref_mut.ensures.value),
       part_long start d c.self.inside.blocks.items (blocks_end h),
@@ -174,10 +163,10 @@ pub returns-clause-found : goal.returns-clause-found
 returns-clause-found c =
     let at = (goal.at.returns-clause-found c).After-bring_in_row in
     c.bring_in_row.ensures.found
-    ∙ ap (λ d. marked_touch_of d c.args.block (take c.index_mut-2.result.now (lent at))
-    (take c.index_mut-2.result.now (clean_lent at))) (depth_read at)
+    ∙ ap (λ d. marked_touch_of d c.args.block (take c.index_mut.result.now (lent at))
+    (take c.index_mut.result.now (clean_lent at))) (depth_read at)
     ∙ ap (λ xs. marked_touch_of c.args.self.now.depth c.args.block xs
-    (take c.index_mut-2.result.now (clean_lent at))) (blocks_read at)
+    (take c.index_mut.result.now (clean_lent at))) (blocks_read at)
     ∙ ap (λ ms. marked_touch_of c.args.self.now.depth c.args.block
     (blocks_in c.args.self.now c.args.set) ms) (cleans_read at)
 
@@ -185,5 +174,5 @@ pub returns-clause-moved : goal.returns-clause-moved
 returns-clause-moved c =
     let at = (goal.at.returns-clause-moved c).After-bring_in_row in
     lists_put (has at) c.bring_in_row.new.blocks (blocks' at) c.bring_in_row.new.len (blocks_put at)
-    (new_long at) (short at) c.bring_in_row.new.cleans (cleans' at) _ _ (cleans_put at)
+    (new_long at) (short at) (blank at) c.bring_in_row.new.cleans (cleans' at) _ _ (cleans_put at)
     (clean_new_long at) (list_is at) (clean_list_is at)
