@@ -29,7 +29,8 @@ LONG_LISTS = (
 )
 FULL = (
     f"With `--full` a pair takes {FORMULA} bytes instead, with slots {FORMULA}, with A of {NUMBER} "
-    f"or more at most {FORMULA}, and all pairs together {NUMBER} KiB"
+    f"or more at most {FORMULA}, and all pairs together {NUMBER} KiB, whatever S and A are. If S "
+    f"is more than {NUMBER} and A is {NUMBER} to {NUMBER}, a pair takes {FORMULA} bytes more"
 )
 BATCH = f"All pairs together take {NUMBER} KiB more"
 # of docs/speed.md
@@ -74,11 +75,13 @@ def told_of_pair(sets, ways):
 def told_of_full_pair(sets, ways):
     """The same with --full."""
     few, slots_from, slots_to, *_ = told_by_the_manual(SLOTS)
-    formula, slots, deep, most, _ = told_by_the_manual(FULL)
+    formula, slots, deep, most, _, many, sparse_from, sparse_to, more = told_by_the_manual(FULL)
     if ways >= deep:
         formula = most
     elif sets <= few and slots_from <= ways <= slots_to:
         formula = slots
+    elif sets > many and sparse_from <= ways <= sparse_to:
+        formula = f"{formula} + {more}"
     return value(formula, sets, ways)
 
 
@@ -152,7 +155,7 @@ def bytes_of_full_pairs(limits, told):
     """The same of the full table."""
     for sets, ways in (
         (1, 1), (2**20, 1), (1024, 2), (4096, 11), (16, 12), (4096, 12), (4096, 16), (4096, 17),
-        (8192, 12), (8192, 16), (8192, 32), (4096, 255),
+        (8192, 12), (8192, 16), (4096, 32), (8192, 31), (8192, 32), (8192, 255), (4096, 255),
     ):
         name = f"a full sweep with S = {sets} and A = {ways}"
         limits.takes(name, full_pair(sets, ways), full_pair(16, 1), told)
@@ -198,7 +201,7 @@ def bytes_of_caches(limits, told):
 def bytes_of_buffers(limits, large):
     [batch] = told_by_the_manual(BATCH)
     [buffer, same] = told_by_the_manual(BUFFERS, "docs/speed.md")
-    *_, of_full = told_by_the_manual(FULL)
+    of_full = told_by_the_manual(FULL)[4]
     runs = pair(1, 1)[0], full_pair(1, 1)[0], cache("din", 1, 1)[0], ["--help"]
     sweep, full, din, none = (limits.asked(arguments, large)[0] / 1024 for arguments in runs)
     limits.equal("KiB of two buffers", din - none, 2 * buffer)

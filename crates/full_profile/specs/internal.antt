@@ -5,4 +5,5 @@ pub mod Marked
 pub mod Profile
 pub mod Rows
 pub mod Slotted
+pub mod SparseRows
 pub mod Sound

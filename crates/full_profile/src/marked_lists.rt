@@ -3,6 +3,7 @@ pub(crate) mod long_lists;
 pub(crate) mod row;
 pub(crate) mod rows;
 pub(crate) mod slotted;
+pub(crate) mod sparse;
 pub(crate) mod touched;
 
 ghost use Rattle.std.specs.Prelude.{◌≡◌, ◌+◌, ◌^◌, ◌<◌, ◌≤◌, IsTrue, false, ◌↔◌, length};

@@ -53,6 +53,7 @@ macro_rules! in_any_way {
         match $kept {
             KeptFull::Rows($profile) => $result,
             KeptFull::Slots($profile) => $result,
+            KeptFull::Sparse($profile) => $result,
             KeptFull::Long($profile) => $result,
         }
     };
@@ -62,8 +63,9 @@ impl FullProfile {
     /// A profile of caches of `2^s` sets of 1 to `depth` lines of `2^b` bytes. It takes all its
     /// memory here: 12 bytes for each of `depth * 2^s` blocks, 4 and a quarter for each set, and 56
     /// for each associativity and 24 more. With a depth of 12 to 16 and up to 4,096 sets it is 193
-    /// and a quarter for each set instead of the first two, and with a depth of 256 or more at most
-    /// 27.6 bytes for each block. Where memory is refused, nothing is kept.
+    /// and a quarter for each set instead of the first two, with a depth of 32 to 255 and more sets
+    /// it is `12 * depth` and 4 for each set more, and with a depth of 256 or more at most 27.6
+    /// bytes for each block. Where memory is refused, nothing is kept.
     pub fn new(alloc: Global, b: u64, s: u64, depth: u64) -> Result<FullProfile, AllocError>
         requires { IsGeometry (geometry_value s depth b) }
         ensures { IfOk result (λ profile. profile ≡ empty_full (geometry_value s depth b)) }

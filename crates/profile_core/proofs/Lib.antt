@@ -3,3 +3,5 @@ pub mod HitSums
 pub mod ListParts
 pub mod LongListLemmas
 pub mod LongListBringing
+pub mod Places
+pub mod SparseRestLemmas

@@ -1,5 +1,3 @@
 pub mod RestExchange
-pub mod Places
-pub mod SparseRestLemmas
 pub mod SlottedRestLemmas
 pub mod SlottedBehind

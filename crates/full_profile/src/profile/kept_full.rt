@@ -6,6 +6,7 @@ ghost use Rattle.full_profile.specs.internal.KeptFull.{full_kept};
 use crate::marked_lists::long_lists::{DEEP, LongLists};
 use crate::marked_lists::rows::ListRows;
 use crate::marked_lists::slotted::{MOST, SlottedLists};
+use crate::marked_lists::sparse::SparseRows;
 use crate::marked_lists::touched::TouchedLists;
 use crate::profile::stack_profile::FullStackProfile;
 use cache_core::Geometry;
@@ -15,8 +16,13 @@ use std::alloc::{AllocError, Global};
 /// the blocks.
 const SLOTTED_FROM: usize = 12;
 
-/// With more sets than this, a plain profile keeps no list in slots, either.
+/// With more sets than this, a plain profile keeps no list in slots, either, and clearing all rows
+/// at the start would clear more memory than most traces use.
 const MANY_SETS: usize = 4096;
+
+/// With fewer ways than this, looking up where a set's row is costs more than is saved by not
+/// clearing all rows at the start.
+const MANY_WAYS: usize = 32;
 
 /// A full profile, with its lists kept in one of these ways.
 #[derive(Drop)]
@@ -25,6 +31,8 @@ pub enum KeptFull {
     Rows(FullStackProfile<TouchedLists<ListRows>>),
     /// The fronts in one array, and the other blocks of a set in its slots.
     Slots(FullStackProfile<TouchedLists<SlottedLists>>),
+    /// A row for each set that has had a block.
+    Sparse(FullStackProfile<TouchedLists<SparseRows>>),
     /// For long lists: the first blocks of each in a row, and the others in a deep list.
     Long(FullStackProfile<TouchedLists<LongLists>>),
 }
@@ -42,6 +50,10 @@ impl KeptFull {
         if depth >= DEEP {
             let lists = TouchedLists::in_parts(alloc, sets, depth)?;
             return Ok(KeptFull::Long(FullStackProfile::new(alloc, geometry, lists)?));
+        }
+        if sets > MANY_SETS && depth >= MANY_WAYS {
+            let lists = TouchedLists::in_sparse_rows(alloc, sets, depth)?;
+            return Ok(KeptFull::Sparse(FullStackProfile::new(alloc, geometry, lists)?));
         }
         let lists = TouchedLists::in_rows(alloc, sets, depth)?;
         Ok(KeptFull::Rows(FullStackProfile::new(alloc, geometry, lists)?))

@@ -1,6 +1,6 @@
 -- A set takes a rest of its own, if it has none yet.
 use Rattle.std.proofs.Common.{◌/◌, ◌∙◌, ap, arith, refl}
-use Rattle.profile_core.proofs.rests.SparseRestLemmas.{ready_taken, room_left}
+use Rattle.profile_core.proofs.SparseRestLemmas.{ready_taken, room_left}
 use Rattle.profile_core.proofs.rests.sparse.own_rest.Goals as goal
 use Rattle.profile_core.proofs.rests.sparse.own_rest.Goals.{then-places-set-eq0}
 use Rattle.profile_core.proofs.rests.sparse.own_rest.Goals.{else-places-set-eq0}

@@ -2,7 +2,7 @@
 use Rattle.std.proofs.Common.{◌≡◌, ◌-◌, ◌∙◌, ◌++◌, ℕ, take, ap, arith, vec_len}
 use Rattle.std.proofs.Math.Seq.{take-nil}
 use Rattle.std.specs.Prelude.{replicate}
-use Rattle.profile_core.proofs.rests.SparseRestLemmas.{new_rests}
+use Rattle.profile_core.proofs.SparseRestLemmas.{new_rests}
 use Rattle.profile_core.proofs.rests.sparse.SparseRests.new.Goals as goal
 use Rattle.profile_core.proofs.rests.sparse.SparseRests.new.Goals.{In_ok-vec}
 

@@ -13,8 +13,8 @@ use Rattle.profile_core.specs.internal.rows.Rows.{RowsValue, rows_by_set, row_fo
 use Rattle.profile_core.specs.internal.rests.Places.{taken_count}
 use Rattle.profile_core.specs.internal.rests.SparseRests.{sparse_rest, IsSparse}
 use Rattle.profile_core.proofs.Elements.{all_same}
-use Rattle.profile_core.proofs.rests.Places.{places_then, one_more, place_left, place_here}
-use Rattle.profile_core.proofs.rests.Places.{place_other, places_taken}
+use Rattle.profile_core.proofs.Places.{places_then, one_more, place_left, place_here}
+use Rattle.profile_core.proofs.Places.{place_other, places_taken}
 use Rattle.profile_core.proofs.rows.RowParts.{in_front, part_long, part_here, part_other, part_same}
 use Rattle.profile_core.proofs.rows.RowParts.{part_lent, part_back}
 use Rattle.profile_core.proofs.rows.RowsBySet.{HasRow, rows_kept, row_is, rows_blank, row_put}
