@@ -1,6 +1,5 @@
 -- All lists are empty, since all lengths are 0, and no set has a row of its own.
-use Rattle.std.proofs.Common.{◌≡◌, ◌-◌, ◌∙◌, ◌++◌, ℕ, List, [], take, ap, arith, vec_len}
-use Rattle.std.proofs.Math.Seq.{take-nil}
+use Rattle.std.proofs.Common.{◌∙◌, ℕ, List, [], ap}
 use Rattle.std.specs.Prelude.{replicate}
 use Rattle.full_profile.specs.internal.SparseRows.{all_sparse}
 use Rattle.full_profile.proofs.marked_lists.ListsInSparseRows.{none_listed}

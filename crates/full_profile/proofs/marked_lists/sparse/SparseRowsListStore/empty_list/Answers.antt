@@ -1,15 +1,14 @@
 -- A set's list, as its row begins with it, is emptied, unless it is empty already.
 use Rattle.std.proofs.Common.{◌≡◌, ◌+◌, ◌-◌, ◌*◌, ◌<◌, ◌≤◌, ◌∙◌, ℕ, length, take, drop, get_or, set, ap}
-use Rattle.std.proofs.Common.{arith, sym, subst, vec_capacity, List, []}
+use Rattle.std.proofs.Common.{arith, sym, subst, vec_capacity, []}
 use Rattle.std.proofs.lemmas.List.{take-take, nil_from_length}
-use Rattle.profile_core.specs.internal.rests.SparseRests.{sparse_rest}
 use Rattle.full_profile.specs.internal.Marked.{cleans_in}
 use Rattle.full_profile.specs.internal.Copies.{with_copies_of, up_to_of}
 use Rattle.full_profile.specs.internal.SparseRows.{AreSparse, all_sparse}
 use Rattle.full_profile.proofs.marked_lists.Parts.{part_lent}
 use Rattle.full_profile.proofs.marked_lists.ListsInSparseRows.{HasSparse, known, within}
 use Rattle.full_profile.proofs.marked_lists.ListsInSparseRows.{place_within, place_read, len_read}
-use Rattle.full_profile.proofs.marked_lists.ListsInSparseRows.{cleans_end, numbers_few, depth_is}
+use Rattle.full_profile.proofs.marked_lists.ListsInSparseRows.{cleans_end, depth_is}
 use Rattle.full_profile.proofs.marked_lists.ListsInSparseRows.{cleans_are, cleans_size}
 use Rattle.full_profile.proofs.marked_lists.ListsInSparseRows.{emptied_sound, list_emptied}
 use Rattle.full_profile.proofs.marked_lists.ListsInSparseRows.{list_spared}
