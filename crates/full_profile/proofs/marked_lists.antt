@@ -2,7 +2,7 @@ pub mod Shifting
 pub mod RowBringing
 pub mod Parts
 pub mod ListsInRows
-pub mod ListsInSparseRows
+pub mod SparseRowLemmas
 pub mod Emptying
 pub mod Touching
 pub mod SlotMoves

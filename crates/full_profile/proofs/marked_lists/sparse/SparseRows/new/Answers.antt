@@ -2,7 +2,7 @@
 use Rattle.std.proofs.Common.{◌∙◌, ℕ, List, [], ap}
 use Rattle.std.specs.Prelude.{replicate}
 use Rattle.full_profile.specs.internal.SparseRows.{all_sparse}
-use Rattle.full_profile.proofs.marked_lists.ListsInSparseRows.{none_listed}
+use Rattle.full_profile.proofs.marked_lists.SparseRowLemmas.{none_listed}
 use Rattle.full_profile.proofs.marked_lists.sparse.SparseRows.new.Goals as goal
 
 pub returns : goal.returns

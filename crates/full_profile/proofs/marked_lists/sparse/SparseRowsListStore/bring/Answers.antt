@@ -11,11 +11,11 @@ use Rattle.full_profile.specs.internal.Marked.{Marked, blocks_in, cleans_in, mar
 use Rattle.full_profile.specs.internal.Marked.{cleans_after}
 use Rattle.full_profile.specs.internal.SparseRows.{AreSparse, all_sparse}
 use Rattle.full_profile.proofs.marked_lists.Parts.{part_lent, part_back}
-use Rattle.full_profile.proofs.marked_lists.ListsInSparseRows.{HasSparse, known, place_within}
-use Rattle.full_profile.proofs.marked_lists.ListsInSparseRows.{ready, within, len_read, depth_is}
-use Rattle.full_profile.proofs.marked_lists.ListsInSparseRows.{blocks_end, cleans_end, blocks_are}
-use Rattle.full_profile.proofs.marked_lists.ListsInSparseRows.{cleans_are, rows_sound, lists_put}
-use Rattle.full_profile.proofs.marked_lists.ListsInSparseRows.{numbers_few}
+use Rattle.full_profile.proofs.marked_lists.SparseRowLemmas.{HasSparse, known, place_within}
+use Rattle.full_profile.proofs.marked_lists.SparseRowLemmas.{ready, within, len_read, depth_is}
+use Rattle.full_profile.proofs.marked_lists.SparseRowLemmas.{blocks_end, cleans_end, blocks_are}
+use Rattle.full_profile.proofs.marked_lists.SparseRowLemmas.{cleans_are, rows_sound, lists_put}
+use Rattle.full_profile.proofs.marked_lists.SparseRowLemmas.{numbers_few}
 use Rattle.full_profile.proofs.marked_lists.sparse.SparseRowsListStore.bring.Goals as goal
 use Rattle.full_profile.proofs.marked_lists.sparse.SparseRowsListStore.bring.Goals.{After-own_row}
 use

@@ -6,12 +6,12 @@ use Rattle.full_profile.specs.internal.Marked.{cleans_in}
 use Rattle.full_profile.specs.internal.Copies.{with_copies_of, up_to_of}
 use Rattle.full_profile.specs.internal.SparseRows.{AreSparse, all_sparse}
 use Rattle.full_profile.proofs.marked_lists.Parts.{part_lent}
-use Rattle.full_profile.proofs.marked_lists.ListsInSparseRows.{HasSparse, known, within}
-use Rattle.full_profile.proofs.marked_lists.ListsInSparseRows.{place_within, place_read, len_read}
-use Rattle.full_profile.proofs.marked_lists.ListsInSparseRows.{cleans_end, depth_is}
-use Rattle.full_profile.proofs.marked_lists.ListsInSparseRows.{cleans_are, cleans_size}
-use Rattle.full_profile.proofs.marked_lists.ListsInSparseRows.{emptied_sound, list_emptied}
-use Rattle.full_profile.proofs.marked_lists.ListsInSparseRows.{list_spared}
+use Rattle.full_profile.proofs.marked_lists.SparseRowLemmas.{HasSparse, known, within}
+use Rattle.full_profile.proofs.marked_lists.SparseRowLemmas.{place_within, place_read, len_read}
+use Rattle.full_profile.proofs.marked_lists.SparseRowLemmas.{cleans_end, depth_is}
+use Rattle.full_profile.proofs.marked_lists.SparseRowLemmas.{cleans_are, cleans_size}
+use Rattle.full_profile.proofs.marked_lists.SparseRowLemmas.{emptied_sound, list_emptied}
+use Rattle.full_profile.proofs.marked_lists.SparseRowLemmas.{list_spared}
 use Rattle.full_profile.proofs.marked_lists.sparse.SparseRowsListStore.empty_list.Goals as goal
 use Rattle.full_profile.proofs.marked_lists.sparse.SparseRowsListStore.empty_list.Goals.{After-deref}
 

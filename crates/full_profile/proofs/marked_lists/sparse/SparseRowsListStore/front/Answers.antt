@@ -1,8 +1,8 @@
 -- The front of a set's list is the first number of its row.
 use Rattle.std.proofs.Common.{◌*◌, ap, arith}
-use Rattle.full_profile.proofs.marked_lists.ListsInSparseRows.{known, place_within, blocks_end}
-use Rattle.full_profile.proofs.marked_lists.ListsInSparseRows.{place_read, numbers_few, some}
-use Rattle.full_profile.proofs.marked_lists.ListsInSparseRows.{front_read}
+use Rattle.full_profile.proofs.marked_lists.SparseRowLemmas.{known, place_within, blocks_end}
+use Rattle.full_profile.proofs.marked_lists.SparseRowLemmas.{place_read, numbers_few, some}
+use Rattle.full_profile.proofs.marked_lists.SparseRowLemmas.{front_read}
 use Rattle.full_profile.proofs.marked_lists.sparse.SparseRowsListStore.front.Goals as goal
 
 pub index-requires : goal.index-requires

@@ -1,8 +1,8 @@
 -- The clean depth of the front is the first of its row.
 use Rattle.std.proofs.Common.{◌*◌, ap, arith}
-use Rattle.full_profile.proofs.marked_lists.ListsInSparseRows.{known, place_within, cleans_end}
-use Rattle.full_profile.proofs.marked_lists.ListsInSparseRows.{place_read, numbers_few, some}
-use Rattle.full_profile.proofs.marked_lists.ListsInSparseRows.{clean_read}
+use Rattle.full_profile.proofs.marked_lists.SparseRowLemmas.{known, place_within, cleans_end}
+use Rattle.full_profile.proofs.marked_lists.SparseRowLemmas.{place_read, numbers_few, some}
+use Rattle.full_profile.proofs.marked_lists.SparseRowLemmas.{clean_read}
 use Rattle.full_profile.proofs.marked_lists.sparse.SparseRowsListStore.front_clean.Goals as goal
 
 pub index-requires : goal.index-requires

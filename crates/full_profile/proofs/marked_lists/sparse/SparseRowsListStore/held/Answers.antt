@@ -1,6 +1,6 @@
 -- A list has as many blocks as its length says.
 use Rattle.std.proofs.Common.{◌∙◌, arith, sym}
-use Rattle.full_profile.proofs.marked_lists.ListsInSparseRows.{known, within, len_read, blocks_size}
+use Rattle.full_profile.proofs.marked_lists.SparseRowLemmas.{known, within, len_read, blocks_size}
 use Rattle.full_profile.proofs.marked_lists.sparse.SparseRowsListStore.held.Goals as goal
 
 pub index-requires : goal.index-requires

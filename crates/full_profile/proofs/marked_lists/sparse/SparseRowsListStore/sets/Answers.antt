@@ -1,6 +1,6 @@
 -- There are as many sets as lengths.
 use Rattle.std.proofs.Common.{arith}
-use Rattle.full_profile.proofs.marked_lists.ListsInSparseRows.{set_count}
+use Rattle.full_profile.proofs.marked_lists.SparseRowLemmas.{set_count}
 use Rattle.full_profile.proofs.marked_lists.sparse.SparseRowsListStore.sets.Goals as goal
 
 pub returns : goal.returns

@@ -1,9 +1,9 @@
 -- The clean depth of the front is the first of its row, which is the set's own.
 use Rattle.std.proofs.Common.{◌*◌, ◌∙◌, ap, arith, set, subst, sym, vec_capacity}
 use Rattle.full_profile.specs.internal.SparseRows.{AreSparse, all_sparse}
-use Rattle.full_profile.proofs.marked_lists.ListsInSparseRows.{known, place_within, cleans_end}
-use Rattle.full_profile.proofs.marked_lists.ListsInSparseRows.{place_read, numbers_few, some}
-use Rattle.full_profile.proofs.marked_lists.ListsInSparseRows.{has_own, front_sound, front_written}
+use Rattle.full_profile.proofs.marked_lists.SparseRowLemmas.{known, place_within, cleans_end}
+use Rattle.full_profile.proofs.marked_lists.SparseRowLemmas.{place_read, numbers_few, some}
+use Rattle.full_profile.proofs.marked_lists.SparseRowLemmas.{has_own, front_sound, front_written}
 use Rattle.full_profile.proofs.marked_lists.sparse.SparseRowsListStore.write_front.Goals as goal
 
 pub index-requires : goal.index-requires
