@@ -32,6 +32,13 @@ def full_deep(name):
     return constant("full_profile", "marked_lists/long_lists.rt", name)
 
 
+def sparse_from():
+    """From how many sets and ways on full rows are sparse, and the most ways."""
+    sets, ways = (constant("full_profile", "profile/kept_full.rt", name)
+                  for name in ("MANY_SETS", "MANY_WAYS"))
+    return f"{sets:,}", f"{ways}", f"{full_deep('DEEP') - 1}"
+
+
 def lines():
     return constant("trace_core", "limits.rt", "MAX_LINES")
 
@@ -90,6 +97,12 @@ fact("docs/DECISIONS.md", r"An index begins at (\d+) ways\*\*", lambda: [f"{inde
 fact("docs/DECISIONS.md", r"Profiles of (\d+) ways or more have deep lists",
      lambda: [f"{deep()}"])
 fact("docs/manual.md", r"with A of (\d+) or more at most", lambda: [f"{full_deep('DEEP')}"])
+fact("docs/manual.md",
+     r"whatever S and A are\. If S is more than ([\d,]+) and A is (\d+) to (\d+), a",
+     lambda: [*sparse_from()])
+fact("crates/full_profile/CALLING.md",
+     r"With a depth of (\d+) to (\d+) and more than ([\d,]+) sets it takes",
+     lambda: [*sparse_from()[1:], sparse_from()[0]])
 fact("crates/full_profile/CALLING.md", r"with a depth of (\d+) or more at most",
      lambda: [f"{full_deep('DEEP')}"])
 fact("crates/full_profile/CALLING.md", r"only the first (\d+) blocks are walked over",

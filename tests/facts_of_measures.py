@@ -47,13 +47,13 @@ def full_spaces():
 
 
 def full_space(name):
-    ours, same, plain, to_same, to_plain, longer = full_spaces()[name]
-    return [ours, same, *parts_of(to_same), plain, *parts_of(to_plain), longer]
+    ours, same, plain, *_, longer = full_spaces()[name]
+    return [ours, same, plain, longer]
 
 
 for name in full_spaces():
-    fact("docs/speed.md", rf"^{name} \| {NUMBER} s \| {NUMBER} s \| {NUMBER} \({NUMBER}\) \| "
-         rf"{NUMBER} s \| {NUMBER} \({NUMBER}\) \| {NUMBER}$",
+    fact("docs/speed.md",
+         rf"^{name} \| {NUMBER} s \| {NUMBER} s \| {NUMBER} s \| {NUMBER}$",
          lambda name=name: full_space(name))
 
 

@@ -153,7 +153,7 @@ class Manual(base.ToolTest):
         told, said = (re.findall(limits.FORMULA, it) for it in (plain, cost))
         self.assertEqual(len(told), 5)
         self.assertEqual(sorted(said), sorted(told))
-        of_full = re.findall(limits.FORMULA, full)[:3]
+        of_full = re.findall(limits.FORMULA, full)[:4]
         cost = section((base.TOP / "crates/full_profile" / page).read_text(), "Cost")
         self.assertEqual(re.findall(limits.FORMULA, cost), of_full)
         caches = limits.told_by_the_manual(limits.CACHES)
