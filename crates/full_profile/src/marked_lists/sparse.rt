@@ -69,7 +69,7 @@ impl SparseRows {
 impl TouchedLists<SparseRows> {
     /// Empty lists in sparse rows for a number of sets. It takes 12 bytes for each of
     /// `(sets + 1) * depth` blocks, and 8 and a quarter for each set.
-    pub fn in_sparse_rows(
+    pub fn in_sparse(
         alloc: Global,
         sets: usize,
         depth: usize,

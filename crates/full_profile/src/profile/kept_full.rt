@@ -52,7 +52,7 @@ impl KeptFull {
             return Ok(KeptFull::Long(FullStackProfile::new(alloc, geometry, lists)?));
         }
         if sets > MANY_SETS && depth >= MANY_WAYS {
-            let lists = TouchedLists::in_sparse_rows(alloc, sets, depth)?;
+            let lists = TouchedLists::in_sparse(alloc, sets, depth)?;
             return Ok(KeptFull::Sparse(FullStackProfile::new(alloc, geometry, lists)?));
         }
         let lists = TouchedLists::in_rows(alloc, sets, depth)?;

@@ -1,5 +1,6 @@
 -- A set's list, as its row begins with it, is emptied, unless it is empty already.
-use Rattle.std.proofs.Common.{◌≡◌, ◌+◌, ◌-◌, ◌*◌, ◌<◌, ◌≤◌, ◌∙◌, ℕ, length, take, drop, get_or, set, ap}
+use Rattle.std.proofs.Common.{◌≡◌, ◌+◌, ◌-◌, ◌*◌, ◌<◌, ◌≤◌, ◌∙◌, ℕ, length, take, drop, get_or}
+use Rattle.std.proofs.Common.{set, ap}
 use Rattle.std.proofs.Common.{arith, sym, subst, vec_capacity, []}
 use Rattle.std.proofs.lemmas.List.{take-take, nil_from_length}
 use Rattle.full_profile.specs.internal.Marked.{cleans_in}

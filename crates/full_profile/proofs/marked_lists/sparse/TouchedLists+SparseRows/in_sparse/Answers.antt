@@ -1,7 +1,7 @@
 -- Lists that are empty have few sets and blocks.
 use Rattle.std.proofs.Common.{ap, arith}
 use Rattle.full_profile.proofs.marked_lists.Touching.{depth_small, sets_small}
-use Rattle.full_profile.proofs.marked_lists.sparse.TouchedLists+SparseRows.in_sparse_rows.Goals as goal
+use Rattle.full_profile.proofs.marked_lists.sparse.TouchedLists+SparseRows.in_sparse.Goals as goal
 
 pub new-requires-2-clause-few : goal.new-requires-2-clause-few
 new-requires-2-clause-few c = sets_small c.args.sets c.args.depth c.requires.some c.requires.small
