@@ -9,5 +9,6 @@ pub mod SlotMoves
 pub mod ListsInSlots
 pub mod RestTouch
 pub mod TwoParts
+pub mod FarShifting
 pub mod LongLists
 pub mod LongBringing

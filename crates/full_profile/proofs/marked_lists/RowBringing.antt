@@ -94,12 +94,12 @@ pub record IsHere (distance clean block : ℕ) (blocks cleans : List ℕ) : Type
   pub clean_is : clean ≡ get_or cleans (index_of block blocks) 0
   pub within : index_of block blocks < length blocks
 
-pub here : (distance clean block first : ℕ) (blocks cleans : List ℕ) →
-    Found distance clean ≡ marked_shift_of block blocks first cleans →
+pub here : (distance clean block front first : ℕ) (blocks cleans : List ℕ) →
+    Found distance clean ≡ marked_shift_of block front blocks first cleans →
     IsHere distance clean block blocks cleans
-here distance clean block first blocks cleans found =
+here distance clean block front first blocks cleans found =
     let parts = found_parts (is_in block blocks) distance clean (index_of block blocks)
-    (get_or cleans (index_of block blocks) 0) (get_or (block ∷ blocks) (length blocks) 0)
+    (get_or cleans (index_of block blocks) 0) (get_or (front ∷ blocks) (length blocks) 0)
     (get_or (first ∷ cleans) (length blocks) 0) found in
     record {
       inside = parts.0;
@@ -109,21 +109,21 @@ here distance clean block first blocks cleans found =
           (sym (list_any_is (λ y. eqb y block) blocks) ∙ parts.0);
     }
 
-pub record IsNowhere (last clean block first : ℕ) (blocks cleans : List ℕ) : Type 0 where
+pub record IsNowhere (last clean block front first : ℕ) (blocks cleans : List ℕ) : Type 0 where
   pub outside : is_in block blocks ≡ false
   pub index_is : length blocks ≡ index_of block blocks
-  pub last_is : last ≡ get_or (block ∷ blocks) (index_of block blocks) 0
+  pub last_is : last ≡ get_or (front ∷ blocks) (index_of block blocks) 0
   pub clean_is : clean ≡ get_or (first ∷ cleans) (index_of block blocks) 0
 
 absent_at : (b : Bool) (p n : ℕ) → b ≡ false → b ≡ ltb p n → p ≤ n → n ≡ p
 absent_at b p n out e le = grind (arith, nat_tests)
 
-pub nowhere : (last clean block first : ℕ) (blocks cleans : List ℕ) →
-    Out last clean ≡ marked_shift_of block blocks first cleans →
-    IsNowhere last clean block first blocks cleans
-nowhere last clean block first blocks cleans out =
+pub nowhere : (last clean block front first : ℕ) (blocks cleans : List ℕ) →
+    Out last clean ≡ marked_shift_of block front blocks first cleans →
+    IsNowhere last clean block front first blocks cleans
+nowhere last clean block front first blocks cleans out =
     let parts = out_parts (is_in block blocks) last clean (index_of block blocks)
-    (get_or cleans (index_of block blocks) 0) (get_or (block ∷ blocks) (length blocks) 0)
+    (get_or cleans (index_of block blocks) 0) (get_or (front ∷ blocks) (length blocks) 0)
     (get_or (first ∷ cleans) (length blocks) 0) out in
     let at : length blocks ≡ index_of block blocks =
     absent_at (is_in block blocks) (index_of block blocks) (length blocks) parts.0
@@ -131,7 +131,7 @@ nowhere last clean block first blocks cleans out =
     record {
       outside = parts.0;
       index_is = at;
-      last_is = parts.1 ∙ ap (λ j. get_or (block ∷ blocks) j 0) at;
+      last_is = parts.1 ∙ ap (λ j. get_or (front ∷ blocks) j 0) at;
       clean_is = parts.2 ∙ ap (λ j. get_or (first ∷ cleans) j 0) at;
     }
 
@@ -151,10 +151,10 @@ pub clean_new : (d block first : ℕ) (access : Access) (blocks cleans : List �
 clean_new d block first access blocks cleans out is = grind arith
 
 -- the row is full
-pub touch_full : (d block clean first last : ℕ) (blocks cleans : List ℕ) → 1 ≤ d →
-    length blocks ≡ d → IsNowhere last clean block first blocks cleans →
+pub touch_full : (d block clean front first last : ℕ) (blocks cleans : List ℕ) → 1 ≤ d →
+    length blocks ≡ d → IsNowhere last clean block front first blocks cleans →
     Full clean ≡ marked_touch_of d block blocks cleans
-touch_full d block clean first last blocks cleans some full h =
+touch_full d block clean front first last blocks cleans some full h =
     let behind : get_or (first ∷ cleans) (index_of block blocks) 0 ≡ get_or cleans (d - 1) 0 =
     ap (λ j. get_or (first ∷ cleans) j 0) {x = index_of block blocks} {y = suc (d - 1)}
     (omega (arith, h.index_is, full, some)) in

@@ -36,12 +36,12 @@ passed_more y xs i lt = passed_suc y xs i lt ∙ ap (λ j. take j (y ∷ xs) ++ 
     (sym (add-one i))
 
 -- the index of a block, found or not
-index_found : (x i : ℕ) (xs : List ℕ) → i < length xs →
+pub index_found : (x i : ℕ) (xs : List ℕ) → i < length xs →
     ((k : ℕ) → k < i → eqb (get_or xs k 0) x ≡ false) → get_or xs i 0 ≡ x → index_of x xs ≡ i
 index_found x i xs lt others at = position_or_len_is (λ y. eqb y x) xs i 0 (omega arith) others
     (λ _. eq-eqb (get_or xs i 0) x at)
 
-index_end : (x : ℕ) (xs : List ℕ) → ((k : ℕ) → k < length xs → eqb (get_or xs k 0) x ≡ false) →
+pub index_end : (x : ℕ) (xs : List ℕ) → ((k : ℕ) → k < length xs → eqb (get_or xs k 0) x ≡ false) →
     index_of x xs ≡ length xs
 index_end x xs others = position_or_len_is (λ y. eqb y x) xs (length xs) 0 (omega arith) others
     (λ h. absurd (omega arith))
@@ -140,7 +140,7 @@ module _ {block clean i carried carried_clean : ℕ} {blocks cleans now now_clea
       index_is = index_found block i blocks lt p.others
           (sym block_is ∙ eqb-true other block is)
 
-      pub passed_found : Found i other_clean ≡ marked_shift_of block blocks clean cleans
+      pub passed_found : Found i other_clean ≡ marked_shift_of block block blocks clean cleans
       passed_found =
           let at : other_clean ≡ get_or cleans i 0 =
           other_clean_is ∙ next_is p.clean_carried clean_lt in
@@ -160,7 +160,7 @@ module _ {block clean i carried carried_clean : ℕ} {blocks cleans now now_clea
     nowhere : index_of block blocks ≡ length blocks
     nowhere = index_end block blocks (λ k lt. p.others k (omega (arith, end, lt)))
 
-    pub passed_all : Out carried carried_clean ≡ marked_shift_of block blocks clean cleans
+    pub passed_all : Out carried carried_clean ≡ marked_shift_of block block blocks clean cleans
     passed_all =
         let first : carried ≡ get_or (block ∷ blocks) (length blocks) 0 =
         p.block_carried.carried_is ∙ ap (λ j. get_or (block ∷ blocks) j 0) end in

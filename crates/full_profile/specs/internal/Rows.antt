@@ -24,11 +24,12 @@ pub record AreRows (depth : ℕ) (blocks cleans lens : List ℕ) : Type 0 where
   pub short : (set : ℕ) → slice_index lens set ≤ depth
   pub blank : (set : ℕ) → slice_index lens set ≡ 0 → slice_index blocks (set * depth) ≡ 0
 
--- How far a list is shifted to put a block in front, with a clean depth: up to the block, or to the
--- end, where the last block falls out. In an empty list that is the block itself.
-abbrev pub marked_shift_of : ℕ → List ℕ → ℕ → List ℕ → Shifted
-marked_shift_of block blocks clean cleans =
+-- How far a list is shifted to put `first` in front, with a clean depth, where a block is looked
+-- for: up to that block, or to the end, where the last one falls out. In an empty list that is
+-- `first` itself.
+abbrev pub marked_shift_of : ℕ → ℕ → List ℕ → ℕ → List ℕ → Shifted
+marked_shift_of block first blocks clean cleans =
     if is_in block blocks
     then Found (index_of block blocks) (slice_index cleans (index_of block blocks))
-    else Out (slice_index (block ∷ blocks) (length blocks))
+    else Out (slice_index (first ∷ blocks) (length blocks))
     (slice_index (clean ∷ cleans) (length blocks))

@@ -47,8 +47,9 @@ first_is c = elim c.if-written.branch [
 pub returns-then-not-written-clause-blocks : goal.returns-then-not-written-clause-blocks
 returns-then-not-written-clause-blocks c =
     let at = (goal.at.returns-then-not-written-clause-blocks c).After-shift_past in
-    let h = here c.in-Found.distance c.in-Found.clean c.args.block c.if-written.clean_if_new
-    (take c.args.len.now c.args.blocks.now) (take c.args.len.now c.args.cleans.now)
+    let h = here c.in-Found.distance c.in-Found.clean c.args.block c.args.block
+    c.if-written.clean_if_new (take c.args.len.now c.args.blocks.now)
+    (take c.args.len.now c.args.cleans.now)
     c.in-Found.ensures.shifted in
     row_kept c.args.block c.args.len.now (length c.args.blocks.now)
     (index_of c.args.block (take c.args.len.now c.args.blocks.now))
@@ -63,8 +64,9 @@ returns-then-not-written-clause-blocks c =
 pub returns-else-not-written-clause-blocks : goal.returns-else-not-written-clause-blocks
 returns-else-not-written-clause-blocks c =
     let at = (goal.at.returns-else-not-written-clause-blocks c).After-shift_past in
-    let h = here c.in-Found.distance c.in-Found.clean c.args.block c.if-written.clean_if_new
-    (take c.args.len.now c.args.blocks.now) (take c.args.len.now c.args.cleans.now)
+    let h = here c.in-Found.distance c.in-Found.clean c.args.block c.args.block
+    c.if-written.clean_if_new (take c.args.len.now c.args.blocks.now)
+    (take c.args.len.now c.args.cleans.now)
     c.in-Found.ensures.shifted in
     row_kept c.args.block c.args.len.now (length c.args.blocks.now)
     (index_of c.args.block (take c.args.len.now c.args.blocks.now))
@@ -81,8 +83,9 @@ returns-then-not-written-clause-cleans c =
     let at = (goal.at.returns-then-not-written-clause-cleans c).After-shift_past in
     let xs = take c.args.len.now c.args.blocks.now in
     let ms = take c.args.len.now c.args.cleans.now in
-    let h = here c.in-Found.distance c.in-Found.clean c.args.block c.if-written.clean_if_new
-    (take c.args.len.now c.args.blocks.now) (take c.args.len.now c.args.cleans.now)
+    let h = here c.in-Found.distance c.in-Found.clean c.args.block c.args.block
+    c.if-written.clean_if_new (take c.args.len.now c.args.blocks.now)
+    (take c.args.len.now c.args.cleans.now)
     c.in-Found.ensures.shifted in
     row_first c.if-written.clean_if_new c.max.result c.args.len.now (length c.args.blocks.now)
     (index_of c.args.block (take c.args.len.now c.args.blocks.now))
@@ -103,8 +106,9 @@ returns-else-not-written-clause-cleans c =
     let at = (goal.at.returns-else-not-written-clause-cleans c).After-shift_past in
     let xs = take c.args.len.now c.args.blocks.now in
     let ms = take c.args.len.now c.args.cleans.now in
-    let h = here c.in-Found.distance c.in-Found.clean c.args.block c.if-written.clean_if_new
-    (take c.args.len.now c.args.blocks.now) (take c.args.len.now c.args.cleans.now)
+    let h = here c.in-Found.distance c.in-Found.clean c.args.block c.args.block
+    c.if-written.clean_if_new (take c.args.len.now c.args.blocks.now)
+    (take c.args.len.now c.args.cleans.now)
     c.in-Found.ensures.shifted in
     let written = sym c.writes-written.ensures ∙ c.if-not-written.false in
     row_kept c.if-written.clean_if_new c.args.len.now (length c.args.blocks.now)
@@ -123,8 +127,9 @@ returns-else-not-written-clause-cleans c =
 pub returns-then-held-blocks-clause-blocks : goal.returns-then-held-blocks-clause-blocks
 returns-then-held-blocks-clause-blocks c =
     let at = (goal.at.returns-then-held-blocks-clause-blocks c).After-shift_past in
-    let h = nowhere c.in-Out.last c.in-Out.clean c.args.block c.if-written.clean_if_new
-    (take c.args.len.now c.args.blocks.now) (take c.args.len.now c.args.cleans.now)
+    let h = nowhere c.in-Out.last c.in-Out.clean c.args.block c.args.block
+    c.if-written.clean_if_new (take c.args.len.now c.args.blocks.now)
+    (take c.args.len.now c.args.cleans.now)
     c.in-Out.ensures.shifted in
     row_grown c.args.block c.args.len.now
     (index_of c.args.block (take c.args.len.now c.args.blocks.now))
@@ -137,8 +142,9 @@ returns-then-held-blocks-clause-cleans c =
     let at = (goal.at.returns-then-held-blocks-clause-cleans c).After-shift_past in
     let xs = take c.args.len.now c.args.blocks.now in
     let ms = take c.args.len.now c.args.cleans.now in
-    let h = nowhere c.in-Out.last c.in-Out.clean c.args.block c.if-written.clean_if_new
-    (take c.args.len.now c.args.blocks.now) (take c.args.len.now c.args.cleans.now)
+    let h = nowhere c.in-Out.last c.in-Out.clean c.args.block c.args.block
+    c.if-written.clean_if_new (take c.args.len.now c.args.blocks.now)
+    (take c.args.len.now c.args.cleans.now)
     c.in-Out.ensures.shifted in
     row_grown c.if-written.clean_if_new c.args.len.now
     (index_of c.args.block (take c.args.len.now c.args.blocks.now))
@@ -159,8 +165,9 @@ pub returns-else-held-blocks-clause-blocks : goal.returns-else-held-blocks-claus
 returns-else-held-blocks-clause-blocks c =
     let at = (goal.at.returns-else-held-blocks-clause-blocks c).After-shift_past in
     let xs = take c.args.len.now c.args.blocks.now in
-    let h = nowhere c.in-Out.last c.in-Out.clean c.args.block c.if-written.clean_if_new
-    (take c.args.len.now c.args.blocks.now) (take c.args.len.now c.args.cleans.now)
+    let h = nowhere c.in-Out.last c.in-Out.clean c.args.block c.args.block
+    c.if-written.clean_if_new (take c.args.len.now c.args.blocks.now)
+    (take c.args.len.now c.args.cleans.now)
     c.in-Out.ensures.shifted in
     row_full c.args.block c.args.len.now
     (index_of c.args.block (take c.args.len.now c.args.blocks.now))
@@ -176,8 +183,9 @@ returns-else-held-blocks-clause-cleans c =
     let at = (goal.at.returns-else-held-blocks-clause-cleans c).After-shift_past in
     let xs = take c.args.len.now c.args.blocks.now in
     let ms = take c.args.len.now c.args.cleans.now in
-    let h = nowhere c.in-Out.last c.in-Out.clean c.args.block c.if-written.clean_if_new
-    (take c.args.len.now c.args.blocks.now) (take c.args.len.now c.args.cleans.now)
+    let h = nowhere c.in-Out.last c.in-Out.clean c.args.block c.args.block
+    c.if-written.clean_if_new (take c.args.len.now c.args.blocks.now)
+    (take c.args.len.now c.args.cleans.now)
     c.in-Out.ensures.shifted in
     row_full c.if-written.clean_if_new c.args.len.now
     (index_of c.args.block (take c.args.len.now c.args.blocks.now))
@@ -195,10 +203,12 @@ returns-else-held-blocks-clause-cleans c =
 pub returns-else-held-blocks-clause-found : goal.returns-else-held-blocks-clause-found
 returns-else-held-blocks-clause-found c =
     let at = (goal.at.returns-else-held-blocks-clause-found c).After-shift_past in
-    let h = nowhere c.in-Out.last c.in-Out.clean c.args.block c.if-written.clean_if_new
-    (take c.args.len.now c.args.blocks.now) (take c.args.len.now c.args.cleans.now)
+    let h = nowhere c.in-Out.last c.in-Out.clean c.args.block c.args.block
+    c.if-written.clean_if_new (take c.args.len.now c.args.blocks.now)
+    (take c.args.len.now c.args.cleans.now)
     c.in-Out.ensures.shifted in
-    touch_full (length c.args.blocks.now) c.args.block c.in-Out.clean c.if-written.clean_if_new
-    c.in-Out.last (take c.args.len.now c.args.blocks.now) (take c.args.len.now c.args.cleans.now)
+    touch_full (length c.args.blocks.now) c.args.block c.in-Out.clean c.args.block
+    c.if-written.clean_if_new c.in-Out.last (take c.args.len.now c.args.blocks.now)
+    (take c.args.len.now c.args.cleans.now)
     c.requires.some
     (omega (arith, blocks_size at, c.if-held-blocks.false, c.requires.fits)) h

@@ -1,6 +1,6 @@
 -- None of the blocks that were passed is the one that is looked for.
 use Rattle.full_profile.proofs.marked_lists.Shifting.{ArePassed}
-use Rattle.full_profile.proofs.marked_lists.row.shift_past.Given as goal
+use Rattle.full_profile.proofs.marked_lists.row.shift_by_one.Given as goal
 
 abbrev pub invariant-loop-index : goal.invariant-loop-index
 invariant-loop-index l =
