@@ -101,7 +101,8 @@ class Mutants(ToolTest):
     def setUp(self):
         super().setUp()
         self.top = self.folder / "a copy"
-        for folder in ("tests/mutants/low", "crates/low/src", "crates/low/must-fail"):
+        for folder in ("tests/mutants/low", "crates/low/src", "crates/low/must-fail",
+                       "crates/low/out/incremental"):
             (self.top / folder).mkdir(parents=True)
         for name in ("try-mutants", "common.py", "contracts.py", "edits.py", "prover.py"):
             shutil.copy(TOP / "tests" / name, self.top / "tests")
@@ -151,6 +152,17 @@ class Mutants(ToolTest):
         self.refused("src/lib.rt:6:5: error: no such word\n" + REFUSED, before)
         self.mutant.write_text(EDIT.replace("number / 2", "number / 4"))
         self.refused(IN_CODE + REFUSED, "an 'old:' text is in src/lib.rt 0 times, and not once")
+
+    def test_a_crate_that_was_not_checked(self):
+        """It is told that it takes long."""
+        (self.top / "crates/low/out/incremental").rmdir()
+        (self.folder / "mutant").write_text(IN_CODE + REFUSED)
+        stand_in = {"RT": str(self.folder / "rt"), "STAND_IN": str(self.folder)}
+        ran = self.run_command(self.top / "tests/try-mutants", "--jobs", "1", env=stand_in)
+        self.assertEqual(ran.stderr.decode(), (
+            "each copy of low first proves it and all crates below it, which takes long: "
+            "(cd crates/low && rt check) does so once\n"))
+        self.assertEqual(ran.returncode, 0)
 
     def test_a_goal_that_is_no_promise(self):
         """It fails untried."""
