@@ -42,7 +42,7 @@ def full_spaces():
     shape = (r"ok (\w+) --full: \d+ rows, cachesim (\S+) s, C (\S+) s, plain C (\S+) s, ratio of "
              r"medians \(of minima\) (\S+ \(\S+\)), to plain C (\S+ \(\S+\)), (\S+) of the time "
              r"without --full")
-    found = map(re.compile(shape).fullmatch, measured("against_c"))
+    found = map(re.compile(shape).fullmatch, measured("against_c_full"))
     return {it[1]: it.groups()[1:] for it in found if it}
 
 
