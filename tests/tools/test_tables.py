@@ -158,7 +158,7 @@ class Speed(base.ToolTest):
             self.judge_ratios(titles[3:], measured)
 
     def test_full_tables(self):
-        """Of the same spaces, once they are measured; the last ratio is to the sweeps above."""
+        """Of the same spaces, once they are measured; the last ratio is to sweeps of that day."""
         heading = "With `--full`"
         self.assertEqual(f"\n{heading} |" in self.TEXT, bool(full_spaces()))
         if full_spaces():
@@ -168,10 +168,9 @@ class Speed(base.ToolTest):
         rows, above = table(self.TEXT, heading), table(self.TEXT, "Space")
         self.assertEqual([row[0] for row in rows], [row[0] for row in above])
         titles = head(self.TEXT, heading)
-        for (_, *measured, longer), (_, _, _, without, *_) in zip(rows, above):
+        for _, *measured, longer in rows:
             self.judge_ratios(titles[1:-1], measured)
-            ours, theirs = (float(it.removesuffix(" s")) for it in (measured[0], without))
-            self.assertAlmostEqual(float(longer), ours / theirs, delta=0.05)
+            self.assertRegex(longer, r"^\d+\.\d+$")
 
     def judge_ratios(self, titles, measured):
         """A ratio is that of the first time to the time before it."""
