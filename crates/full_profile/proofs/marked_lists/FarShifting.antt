@@ -1,15 +1,14 @@
 -- A list whose first blocks are shifted one by one, and those behind them at once.
 use Rattle.std.proofs.Common.{◌≡◌, ℕ, suc, ◌+◌, ◌-◌, ◌<◌, ◌≤◌, ◌||◌, true, false, List, [], ◌∷◌}
-use Rattle.std.proofs.Common.{◌++◌, length, take, drop, get_or, set, sym, ◌∙◌, ap, arith}
+use Rattle.std.proofs.Common.{◌++◌, length, take, drop, get_or, sym, ◌∙◌, ap, arith}
 use Rattle.std.proofs.Common.{length-append, append-nil}
 use Rattle.std.specs.List.{remove}
-use lib.Seq.{paste}
-use Rattle.std.proofs.lemmas.List.{take_all, drop_all}
+use Rattle.std.proofs.lemmas.List.{drop_all}
 use Rattle.profile_core.specs.profile.RecencyList.{index_of, is_in, move_to_front}
 use Rattle.profile_core.proofs.ListParts.{is_in-append, index-append_left, index-append_right}
 use Rattle.full_profile.specs.declared.marked_lists.row.Shifted.TheVariants.{Found, Out}
 use Rattle.full_profile.specs.internal.Rows.{marked_shift_of}
-use Rattle.full_profile.proofs.marked_lists.Shifting.{length-remove, remove_end, is_found}
+use Rattle.full_profile.proofs.marked_lists.Shifting.{remove_end, is_found}
 use Rattle.full_profile.proofs.marked_lists.Shifting.{is_absent}
 use Rattle.full_profile.proofs.marked_lists.RowBringing.{here, nowhere}
 use Rattle.full_profile.proofs.marked_lists.TwoParts.{near_out, far_out, read_left, read_right}
@@ -26,19 +25,7 @@ ends y z xs (w ∷ ws) n full some is =
     ∙ ap (λ i. get_or (y ∷ (xs ++ (w ∷ ws))) i 0) {x = suc (n + length ws)}
     {y = length (xs ++ (w ∷ ws))} (omega (arith, full, length-append xs (w ∷ ws)))
 
--- a number in front, and that at an index gone
-pub moved_up : (y last : ℕ) (xs : List ℕ) → last < length xs →
-    set (paste xs 1 xs last) 0 y ≡ y ∷ remove xs last
-moved_up y last [] lt = absurd (omega arith)
-moved_up y last (x ∷ xs) lt =
-    ap (λ i. y ∷ (take last (x ∷ xs) ++ drop i (x ∷ xs))) {x = 1 + last} {y = suc last}
-    (omega arith)
-
-pub one_gone : (y i : ℕ) (xs : List ℕ) → i < length xs →
-    y ∷ remove xs i ≡ take (length xs) (y ∷ remove xs i)
-one_gone y i xs lt = sym (take_all (length xs) (y ∷ remove xs i)
-    (omega (arith, length-remove xs i lt)))
-
+-- a number in front, and the last one gone
 pub last_gone : (y : ℕ) (xs : List ℕ) → 0 < length xs →
     y ∷ remove xs (length xs - 1) ≡ take (length xs) (y ∷ remove xs (length xs))
 last_gone y [] some = absurd (omega arith)
