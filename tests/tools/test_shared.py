@@ -152,22 +152,25 @@ class Signals(Shared):
         not by a status or a fault."""
         for moment in ("    signals.put_off_stops(); signals.stop(15, None)",
                        "    type('Made', (), {'it': Sets()})"):
-            lines = ("import sys", f"sys.path.insert(0, {str(TOOLS)!r})", "from lib import signals",
+            lines = ("import sys", f"sys.path.insert(0, {str(TOOLS)!r})",
+                     "from lib import signals, tool",
                      "class Sets:", "    def __set_name__(self, *_): signals.stop(15, None)",
-                     "with signals.ends_by_signal():", moment)
+                     "def main():", moment, "tool.run(main)")
             ran = self.run_command(sys.executable, "-B", "-c", "\n".join(lines))
             self.assertEqual((ran.returncode, ran.stdout, ran.stderr), (-15, b"", b""), moment)
 
     def test_a_signal_just_before_a_wait(self):
         """Python takes note of it, and waits all the same: as of one that another thread got."""
         lines = ("import signal, sys, threading, time", f"sys.path.insert(0, {str(TOOLS)!r})",
-                 "from lib import processes, signals",
+                 "from lib import processes, tool",
                  "def stop():",
                  "    time.sleep(0.3)",
                  "    signal.pthread_kill(threading.get_ident(), signal.SIGTERM)",
-                 "with signals.ends_by_signal(), processes.Group() as group:",
-                 "    threading.Thread(target=stop).start()",
-                 "    group.start(processes.Helper, ['sleep', '60']).wait()")
+                 "def main():",
+                 "    with processes.Group() as group:",
+                 "        threading.Thread(target=stop).start()",
+                 "        group.start(processes.Helper, ['sleep', '60']).wait()",
+                 "tool.run(main)")
         ran = self.run_command(sys.executable, "-B", "-c", "\n".join(lines), seconds=40,
                                env={"TMPDIR": str(self.folder)})
         self.ends(ran, -signal.SIGTERM, "")

@@ -32,13 +32,6 @@ class Build(argparse.Action):
         parser.exit()
 
 
-class ByT(argparse.Action):
-    """The trace by -t, as the program takes it, where it has a place among the arguments."""
-
-    def __call__(self, parser, *_):
-        parser.error(f"the trace is the {self.const} argument, and not given by -t")
-
-
 class Collected(argparse.Action):
     """Collects an option and its value, as they are to be handed on."""
 
@@ -66,7 +59,7 @@ class Explained(Arguments):
 
     def add_trace(self, *before):
         self.add_places(*before, "trace")
-        self.add_argument("-t", action=ByT, nargs="?", const=("first", "second")[len(before)])
+        self.add_argument("-t", nargs="?", const="", dest="by_t")  # as the program takes it
 
     def before_program(self, flags=(), others="(?!)", asked=None):
         """What is asked for, the `program` with its words, before which '--' may stand, and the
@@ -93,6 +86,9 @@ class Explained(Arguments):
         if words[last:] and re.match("-.", words[last]) and os.path.exists(words[last]):
             words[last] = f"./{words[last]}"  # a file, and no option
         asked, others = self.parse_known_args(words, asked)
+        if getattr(asked, "by_t", None) is not None:
+            place = ("first", "second")[last]
+            self.error(f"the trace is the {place} argument, and not given by -t")
         is_missing = getattr(asked, self.places[-1]) is None
         if is_missing or {*others[:1]} & {*words[:len(self.places)]}:
             self.error(needed)

@@ -1,6 +1,7 @@
 """The best caches of a table, of those that `best` is asked for."""
 
 import heapq
+import statistics
 
 from lib import costs, table, table_din, tool
 
@@ -70,19 +71,16 @@ def of_din(asked, lines, name):
     given = table_din.read_table(lines, name, asked.measure)
     if given.left_out:
         tool.warn(given.left_out)
-    spread = ["runs", "deviation", "least", "greatest"] if given.has_seeds else []
+    has_seeds = any(len(case.values) > 1 for case in given.cases)
+    spread = ["runs", "deviation", "least", "greatest"] if has_seeds else []
     percents = ["percent"] * (asked.below is not None and given.is_count)
     yield ",".join([*given.options, "size", given.measure, *spread, *percents])
     for case in chosen(asked, given.cases, given.is_count):
-        ends = number_text(min(case.values)), number_text(max(case.values))
-        several = len(case.values)
-        means = [str(several), f"{case.deviation:.3f}"] if several > 1 else ["", ""]
+        means, ends = ["", ""], map(number_text, (min(case.values), max(case.values)))
+        if len(case.values) > 1:
+            deviation = statistics.stdev(map(float, case.values))  # of a sample
+            means = [str(len(case.values)), f"{deviation:.3f}"]
         spread_texts = [*means, *ends]
         shares = [f"{float(case.share):.3f}" for _ in percents]
         yield ",".join([*case.given, str(case.size), number_text(case.measured),
                         *spread_texts[:len(spread)], *shares])
-
-
-def answer(asked, lines, name):
-    """The lines of the answer for a table."""
-    return (of_din if table.is_din(lines) else of_sweep)(asked, lines, name)

@@ -16,17 +16,14 @@ class Make(Helper):
         os.killpg(self.number, signal.SIGTERM)
 
 
-def newest_source():
-    """When the C code was last written; None where the tools are installed, without it."""
-    files = [os.path.join(folder, name) for folder, _, names in os.walk(f"{tool.HERE}/lib")
-             for name in names if name.endswith((".c", ".h"))]
-    return max(map(os.path.getmtime, files), default=None)
-
-
 def compiled(name):
     """The path of a part, out/NAME, compiled where it may be older than its source."""
-    binary, newest = f"{tool.HERE}/out/{name}", newest_source()
-    if newest is None or os.path.exists(binary) and os.path.getmtime(binary) > newest:
+    binary = f"{tool.HERE}/out/{name}"
+    times = [os.path.getmtime(os.path.join(folder, file))
+             for folder, _, files in os.walk(f"{tool.HERE}/lib")
+             for file in files if file.endswith((".c", ".h"))]
+    # where the tools are installed, there is no source
+    if not times or os.path.exists(binary) and os.path.getmtime(binary) > max(times):
         return binary
     try:
         os.makedirs(f"{tool.HERE}/out", exist_ok=True)

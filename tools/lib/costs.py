@@ -37,12 +37,6 @@ def cost_of(bsize, cost):
     return fixed + of_byte * bsize
 
 
-def access_time(row, cost):
-    """The cycles of a reference in the mean: those of a hit, and what misses add."""
-    each, references = cost_of(row.bsize, cost), max(1, row.references)
-    return HIT + Fraction(row.misses * each.numerator, references * each.denominator)
-
-
 def column_of(asked):
     """The name of what is asked for."""
     return ACCESS_TIME if asked.miss_cost else asked.measure or "misses"
@@ -62,24 +56,21 @@ def name_of(asked, lines):
     return column_of(asked)
 
 
-def traffic(row, name):
-    """The bytes that misses bring in and, if the name says no other, copybacks carry out."""
-    copybacks = row.more[-1] if row.more and name == TRAFFIC else 0
-    return row.bsize * (row.misses + copybacks)
-
-
 def rows_of(asked, lines, name):
     """The rows of a sweep's table with what is asked for. A column named so comes before what would
     be made of the block size and the misses."""
     column = column_of(asked)
-    if asked.miss_cost:
-        def made(row):
-            return access_time(row, asked.miss_cost)
-    elif is_made(asked, lines):
-        def made(row):
-            return traffic(row, column)
-    else:
+    if not asked.miss_cost and not is_made(asked, lines):
         return table.read_table(lines, name, column)
+
+    def made(row):
+        if asked.miss_cost:  # the cycles of a reference in the mean
+            each, references = cost_of(row.bsize, asked.miss_cost), max(1, row.references)
+            return HIT + Fraction(row.misses * each.numerator, references * each.denominator)
+        # the bytes that misses bring in and, if the name says no other, copybacks carry out
+        copybacks = row.more[-1] if row.more and column == TRAFFIC else 0
+        return row.bsize * (row.misses + copybacks)
+
     return [row._replace(value=made(row), is_count=False)
             for row in table.read_table(lines, name)]
 

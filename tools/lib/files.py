@@ -38,11 +38,6 @@ def identity(file):
     return (found.st_dev, found.st_ino) if stat.S_ISREG(found.st_mode) else None
 
 
-def is_same(file, other):
-    """Whether two names or descriptors are of one such file."""
-    return None is not identity(file) == identity(other)
-
-
 def readable(trace):
     """Ends the tool where a trace is neither '-' nor something that can be read, or is the file
     that standard output goes to."""
@@ -55,7 +50,8 @@ def spare(file):
     """Ends the tool where the file that it is about to read, or '-', is the one that standard
     output goes to: it would be lost, or grow as it is read. What opens a trace or a table asks
     this."""
-    if is_same(0 if file == "-" else file, 1):
+    own = identity(0 if file == "-" else file)
+    if own and own == identity(1):
         name = "standard input" if file == "-" else file
         tool.fail(f"{name} is standard output too", kind=tool.Spared)
 

@@ -13,42 +13,35 @@
 #include "numbers.h"
 
 struct count { uint64_t references, misses; };
-static struct numbers numbers;
-static void *counts;         // of pages by their numbers, or of steps
+static struct numbers counts = {.size = sizeof(struct count)};  // of pages, or of steps
 static bool are_pages;
 static const char *cache;
 static uint64_t bits, each;  // one of them is given
 
-static struct count *count_of_page(uint64_t page) {
-    uint32_t number = number_of(&numbers, page, &counts, sizeof(struct count));
-    return (struct count *)counts + number;
-}
-
 // A step begins when the one before has all its references.
-static struct count *count_of_step(void) {
+static uint64_t present_step(void) {
     static uint64_t left, step;
     if (!left) left = each, step++;
     left--;
-    return count_of_page(step);
+    return step;
 }
 
 static const char *take(const char *text) {
     struct log_line line;
     const char *next = read_log_line(text, &line);
     if (line.is_flush || !is_at(&line, cache)) return next;
-    struct count *count = are_pages ? count_of_page(line.address >> bits) : count_of_step();
+    struct count *count = value_of(&counts, are_pages ? line.address >> bits : present_step());
     count->references++;
     count->misses += line.misses;
     return next;
 }
 
 static void write_counts(void) {
-    for (uint32_t i = 0; i < numbers.count; i++) {
-        struct count count = ((struct count *)counts)[i];
-        if (are_pages) printf("%lx ", numbers.keys[i]);
-        printf("%lu %lu\n", count.references, count.misses);
+    for (uint32_t i = 0; i < counts.count; i++) {
+        const struct count *count = (const struct count *)counts.values + i;
+        if (are_pages) printf("%lx ", counts.keys[i]);
+        printf("%lu %lu\n", count->references, count->misses);
     }
-    puts("end");
     if (fflush(stdout) || ferror(stdout)) err(EXIT_FAILURE, "the counts can't be written");
 }
 

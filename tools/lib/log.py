@@ -3,7 +3,7 @@
 import os
 import re
 
-from lib import files, processes, streams, tool
+from lib import files, processes, tool
 from lib.arguments import Explained
 from lib.compiled import compiled
 
@@ -70,16 +70,17 @@ class Counter(processes.Process):
 
 
 def over(trace, options, take):
-    """Has `take` called with the log's descriptor. A fault ends the tool."""
-    streams.keep_places()
+    """What `take` returns, which is called with the log's descriptor. A fault ends the tool."""
+    tool.keep_places()
     program = tool.find_cachesim()
     with processes.Group() as group:
         source, unpacker = group.start_source(trace)
         logging = group.start(Logging, program, options, source, ends=(source,))
-        take(logging.pipe)
+        answer = take(logging.pipe)
         logging.wait()
         if unpacker:
             unpacker.wait()
+    return answer
 
 
 def pieces(source):
@@ -95,16 +96,13 @@ def pieces(source):
 
 def counts(asked, what, each):
     """What the log of a trace has, as out/log-counts counts it: rows of words."""
-    binary, counters = compiled("log-counts"), []
+    binary = compiled("log-counts")
 
     def take(source):
         with processes.Group() as group:
             words = ["log-counts", what, asked.cache, str(each)]
-            counters.append(group.start(Counter, words, source, path=binary))
-            counters[0].wait()
+            counter = group.start(Counter, words, source, path=binary)
+            counter.wait()
+        return [row.split() for row in counter.text.decode("ascii").splitlines()]
 
-    over(asked.trace, asked.options, take)
-    *rows, end = counters[0].text.decode("ascii").splitlines() or [""]
-    if end != "end":
-        tool.fail("the log can't be counted")
-    return [row.split() for row in rows]
+    return over(asked.trace, asked.options, take)

@@ -2,7 +2,7 @@
 which is l2-u, as Cachegrind takes them."""
 
 import collections
-import os
+import glob
 
 from lib import tool
 
@@ -42,34 +42,23 @@ class Cache(collections.namedtuple("Cache", "name level block sets ways")):
                 f"of sets, and up to {MOST_LINES:,} lines")
 
 
-def number(folder, name):
+def told(path):
+    """What a file of Linux tells, or nothing."""
     try:
-        with open(f"{folder}/{name}", encoding="ascii") as file:
-            return tool.number_of(file.read().strip()) or 0
-    except OSError:
-        return 0
-
-
-def kind(folder):
-    try:
-        with open(f"{folder}/type", encoding="ascii") as file:
-            return KINDS.get(file.read().strip(), "")
+        with open(path, encoding="ascii") as file:
+            return file.read().strip()
     except OSError:
         return ""
 
 
 def found_in(folder):
     """The level, the kind, and the block size, sets and ways of each cache that is told whole."""
-    try:
-        names = sorted(name for name in os.listdir(folder) if name.startswith("index"))
-    except OSError:
-        return
-    for name in names:
-        place = f"{folder}/{name}"
-        shape = [number(place, what) for what in
-                 ("coherency_line_size", "number_of_sets", "ways_of_associativity")]
-        if kind(place) and all(shape):
-            yield number(place, "level"), kind(place), shape
+    for place in sorted(glob.glob(f"{glob.escape(folder)}/index*")):
+        level, *shape = (tool.number_of(told(f"{place}/{name}")) or 0 for name in (
+            "level", "coherency_line_size", "number_of_sets", "ways_of_associativity"))
+        kind = KINDS.get(told(f"{place}/type"))
+        if kind and all(shape):
+            yield level, kind, shape
 
 
 def caches(folder=FOLDER):

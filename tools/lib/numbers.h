@@ -1,11 +1,13 @@
-// Numbers from 0 on for different keys, in the order in which the keys come. It ends the program
-// where memory is refused.
+// Numbers from 0 on for different keys, in the order in which the keys come, and a value for each.
+// It ends the program where memory is refused.
 #include <err.h>
 #include <stdint.h>
 #include <stdlib.h>
 #include <string.h>
 
 struct numbers {
+    size_t size;      // of a value
+    void *values;     // by number
     uint64_t *keys;   // by number
     uint32_t *slots;  // a number and 1, or 0; a power of two of them, of which half may be used
     uint32_t count, room;
@@ -29,6 +31,7 @@ static void make_room(struct numbers *numbers) {
     if (numbers->room == UINT32_C(1) << 31) errx(EXIT_FAILURE, "too many different addresses");
     numbers->room = numbers->room ? 2 * numbers->room : 1024;
     numbers->keys = grown(numbers->keys, numbers->room / 2 * sizeof *numbers->keys);
+    numbers->values = grown(numbers->values, numbers->room / 2 * numbers->size);
     free(numbers->slots);
     numbers->slots = calloc(numbers->room, sizeof *numbers->slots);
     if (!numbers->slots) errx(EXIT_FAILURE, "too little memory");
@@ -36,16 +39,20 @@ static void make_room(struct numbers *numbers) {
         numbers->slots[slot_of(numbers, numbers->keys[number])] = number + 1;
 }
 
-// The number of a key; for a new one `*values` gets a zero of this size, and room where needed.
-static uint32_t number_of(struct numbers *numbers, uint64_t key, void **values, size_t size) {
+// The number of a key. The value of a new one is zero.
+static uint32_t number_of(struct numbers *numbers, uint64_t key) {
     uint32_t slot = numbers->room ? slot_of(numbers, key) : 0;
     if (numbers->room && numbers->slots[slot]) return numbers->slots[slot] - 1;
     if (numbers->count >= numbers->room / 2) {
         make_room(numbers);
-        *values = grown(*values, numbers->room / 2 * size);
         slot = slot_of(numbers, key);
     }
-    memset((char *)*values + numbers->count * size, 0, size);
+    memset((char *)numbers->values + numbers->count * numbers->size, 0, numbers->size);
     numbers->keys[numbers->count] = key;
     return (numbers->slots[slot] = ++numbers->count) - 1;
+}
+
+static void *value_of(struct numbers *numbers, uint64_t key) {
+    uint32_t number = number_of(numbers, key);  // which may move the values
+    return (char *)numbers->values + number * numbers->size;
 }

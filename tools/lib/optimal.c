@@ -93,21 +93,19 @@ static const char *take(const char *text) {
 
 // For blocks that are larger than the least by so many bits.
 static void find_next(unsigned bits) {
-    struct numbers numbers = {0};
-    void *uses = NULL;  // of each block when it is referenced next, and 1; or 0
+    struct numbers uses = {.size = sizeof(uint32_t)};  // of blocks: when each is next, and 1; or 0
     uint32_t end = count;
     for (uint32_t at = count, left = flush_count; at-- > 0;) {
         if (at == count - 1 || at % HELD == HELD - 1) move_piece(pread, &blocks, at);
         while (left && flushes[left - 1] > at) end = flushes[--left];
-        uint32_t number = number_of(&numbers, *block_at(at) >> bits, &uses, sizeof(uint32_t));
-        uint32_t *use = (uint32_t *)uses + number, next = *use - 1;
+        uint32_t *use = value_of(&uses, *block_at(at) >> bits), next = *use - 1;
         *use_at(at) = next < end ? next : NEVER;
         *use = at + 1;
         if (at % HELD == 0) move_piece(put_bytes, &next_use, at);
     }
-    free(numbers.keys);
-    free(numbers.slots);
-    free(uses);
+    free(uses.keys);
+    free(uses.slots);
+    free(uses.values);
 }
 
 // ---- The lists

@@ -41,20 +41,6 @@ class Pair:
         return looks + 3 * depth / (int(self.bsize) * int(self.sets) ** 0.2)
 
 
-class Page:
-    """The pairs that one run sweeps, and what they cost."""
-
-    def __init__(self):
-        self.pairs, self.cost = [], 0
-
-    def cost_of(self, pair):
-        return pair.cost(self.pairs[-1] if self.pairs else None)
-
-    def add(self, pair):
-        self.cost += self.cost_of(pair)
-        self.pairs.append(pair)
-
-
 def rows_of(program, options):
     """The lines of a table, for an empty trace. Options that the program refuses end this tool."""
     code, table, told = processes.ran([program, "sweep", "-t", "/dev/null", *options])
@@ -81,25 +67,27 @@ def pairs_of(program, options):
 
 
 def within(pairs, bound):
-    """Pages of which none costs more than the bound, but a pair alone."""
-    pages = []
-    for pair in pairs:
-        if not pages or pages[-1].cost + pages[-1].cost_of(pair) > bound:
-            pages.append(Page())
-        pages[-1].add(pair)
-    return pages
+    """Pages of which none costs more than the bound, but a pair alone; and what the last costs."""
+    pages, cost = [], 0
+    for before, pair in zip([None, *pairs], pairs):
+        cost += pair.cost(before)
+        if not pages or cost > bound:
+            pages.append([])
+            cost = pair.cost(None)
+        pages[-1].append(pair)
+    return pages, cost
 
 
 def cut(pairs, most):
     """The pairs of at most so many pages, the dearest of which costs as little as it can."""
-    least, enough = 0, within(pairs, math.inf)[0].cost
+    least, (_, enough) = 0, within(pairs, math.inf)
     for _ in range(60):
         bound = (least + enough) / 2
-        if len(within(pairs, bound)) > most:
+        if len(within(pairs, bound)[0]) > most:
             least = bound
         else:
             enough = bound
-    return [page.pairs for page in within(pairs, enough)]
+    return within(pairs, enough)[0]
 
 
 def split(options):

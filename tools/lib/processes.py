@@ -10,7 +10,6 @@ import time
 
 from lib import STOPS, files, tool
 from lib.signals import stop_at_signals, uninterrupted
-from lib.streams import keep_places
 
 TOLD = 1 << 18  # the bytes of its messages that are looked at
 UNPACKERS = {".gz": ("gzip", "gzip"), ".xz": ("xz", "xz-utils"), ".zst": ("zstd", "zstd")}
@@ -27,17 +26,6 @@ class Fault(Exception):
         self.text, self.status, self.kind = text, status, kind
 
 
-def start(command, stdin=0, stdout=1, stderr=2, path=None, env=None, **given):
-    """Starts a command, or the program at a path, with these descriptors as its first three.
-    Returns its process's number."""
-    # where it is ignored, the end of a process can't be waited for
-    if signal.getsignal(signal.SIGCHLD) == signal.SIG_IGN:
-        signal.signal(signal.SIGCHLD, signal.SIG_DFL)
-    ends = [(os.POSIX_SPAWN_DUP2, *end) for end in zip((stdin, stdout, stderr), range(3))]
-    return os.posix_spawnp(path or command[0], command, env or os.environ, file_actions=ends,
-                           **given)
-
-
 def widen(pipe, size):
     """Gives a pipe room for so many bytes; less will do."""
     with contextlib.suppress(OSError):
@@ -52,24 +40,25 @@ def is_packed(trace):
     return trace.endswith(tuple(UNPACKERS))
 
 
-def opened(trace):
-    """The descriptor that a trace is read from which is not packed."""
-    return 0 if trace == "-" else os.open(trace, os.O_RDONLY)
-
-
 class Process:
-    """A process over the trace. What it tells, and writes to no other place, is kept in memory."""
+    """A process over the trace: of a command, or the program at a path. What it tells, and writes
+    to no other place, is kept in memory."""
 
     # what a terminal sends to all processes is for the tool alone, which ends the others
     BLOCKED = (signal.SIGHUP, signal.SIGINT, signal.SIGQUIT)
 
-    def __init__(self, command, stdin=0, stdout=None, stderr=None, path=None, **given):
+    def __init__(self, command, stdin=0, stdout=None, stderr=None, path=None, env=None, **given):
         self.kept, self.messages = os.memfd_create("kept"), os.memfd_create("messages")
         self.name, self.text = os.path.basename(path or command[0]), b""
-        self.number = start(command, stdin, self.kept if stdout is None else stdout,
-                            self.messages if stderr is None else stderr, path,
-                            setsigmask=self.BLOCKED,
-                            setsigdef=[signal.SIGPIPE], **given)  # which Python ignores
+        # where it is ignored, the end of a process can't be waited for
+        if signal.getsignal(signal.SIGCHLD) == signal.SIG_IGN:
+            signal.signal(signal.SIGCHLD, signal.SIG_DFL)
+        ends = (stdin, self.kept if stdout is None else stdout,
+                self.messages if stderr is None else stderr)
+        self.number = os.posix_spawnp(
+            path or command[0], command, env or os.environ, setsigmask=self.BLOCKED,
+            file_actions=[(os.POSIX_SPAWN_DUP2, *end) for end in zip(ends, range(3))],
+            setsigdef=[signal.SIGPIPE], **given)  # which Python ignores
         self.is_running = True
 
     def fault(self, code):
@@ -170,7 +159,7 @@ class Group:
         self.processes = []
 
     def __enter__(self):
-        keep_places()  # else a pipe could be what a process gets as another stream
+        tool.keep_places()  # else a pipe could be what a process gets as another stream
         stop_at_signals()
         return self
 
@@ -190,7 +179,7 @@ class Group:
         good one is a fault."""
         files.spare(trace)
         if not is_packed(trace):
-            return opened(trace), None
+            return 0 if trace == "-" else os.open(trace, os.O_RDONLY), None
         unpacker = self.start(kind, trace)
         return unpacker.pipe, unpacker
 

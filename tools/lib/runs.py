@@ -37,11 +37,9 @@ class Run(Process):
             *whole, rest = piece.split(b"\n", self.lines)
             piece = piece if len(whole) < self.lines else piece[:len(piece) - len(rest)]
             self.lines -= len(whole)
-        left = memoryview(piece)
         # where it has ended, who looks after the pipes sees that with its cause
         with contextlib.suppress(BrokenPipeError):
-            while left:
-                left = left[os.write(self.pipe, left):]
+            tool.write_all(self.pipe, piece)
 
     def bytes_read(self):
         with open(f"/proc/{self.number}/io", encoding="ascii") as lines:
@@ -77,11 +75,6 @@ class Runs:
             self.group.start(Run, place, command, *(lines or [None]), name, file))
         return self.runs[-1:]
 
-    def start(self):
-        """Starts as many as may run at once."""
-        for _ in range(min(self.jobs, len(self.commands))):
-            self.start_next()
-
     def read_once(self):
         """Hands out the trace, and keeps it if there are runs to come."""
         try:
@@ -96,9 +89,7 @@ class Runs:
         try:
             with uninterrupted():
                 self.spool = self.spool or tempfile.TemporaryFile(buffering=0)
-            left = memoryview(piece)
-            while left:
-                left = left[self.spool.write(left):]
+            tool.write_all(self.spool.fileno(), piece)
         except OSError as fault:
             folder = tool.visible(tempfile.gettempdir())
             text = f"the trace can't be kept in {folder}: {fault.strerror}"
@@ -154,20 +145,6 @@ class Runs:
             show(f"{tool.NAME}: {self.progress()}")
 
 
-@contextlib.contextmanager
-def progress_of(runs):
-    """Within this it is told each second, if there is a terminal."""
-    if not os.isatty(2):
-        yield
-        return
-    look_each_second(runs.tell)
-    try:
-        yield
-    finally:
-        look_each_second()
-        show("")
-
-
 def show(text):
     """Replaces the text in the terminal's line."""
     with contextlib.suppress(OSError):  # the terminal has gone
@@ -192,12 +169,19 @@ def over(trace, commands, jobs, is_read_once=False):
     files.spare(trace)
     state = state_of(trace)
     with Group() as group:
-        runs = Runs(group, trace, commands, jobs, is_read_once)
-        with progress_of(runs):
-            runs.start()
+        runs, is_shown = Runs(group, trace, commands, jobs, is_read_once), os.isatty(2)
+        if is_shown:
+            look_each_second(runs.tell)
+        try:
+            for _ in range(min(jobs, len(commands))):
+                runs.start_next()
             if runs.is_read_once:
                 runs.read_once()
             runs.finish()
+        finally:
+            if is_shown:
+                look_each_second()
+                show("")
         if not runs.is_read_once and state_of(trace) != state:
             raise Fault(f"{tool.NAME}: {changed(trace)}")
     return [run.text for run in runs.runs]

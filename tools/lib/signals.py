@@ -3,9 +3,7 @@
 import atexit
 import contextlib
 import math
-import os
 import signal
-import sys
 import time
 
 from lib import STOPS
@@ -91,19 +89,3 @@ def stop_at_signals():
             signal.signal(number, stop)
     if alarm_comes is None and signal.getsignal(signal.SIGALRM) != signal.SIG_IGN:
         look_each_second()
-
-
-@contextlib.contextmanager
-def ends_by_signal():
-    """Within this, a tool that a signal ends is seen to have ended by it."""
-    try:
-        yield
-    except (Stopped, RuntimeError) as fault:
-        # as a class is made, Python before 3.12 tells of it by another fault
-        end = fault if isinstance(fault, Stopped) else fault.__cause__
-        if not isinstance(end, Stopped):
-            raise
-        heed_stops()  # it may have come as they were put off
-        signal.signal(end.code - 128, signal.SIG_DFL)
-        os.kill(os.getpid(), end.code - 128)
-        sys.exit(end.code)

@@ -2,8 +2,7 @@
 
 import functools
 
-from lib import files, paging, runs, streams
-from lib.tool import number_of
+from lib import files, paging, runs, tool
 
 
 def asked_of(parser, needed):
@@ -24,7 +23,7 @@ def asked_of(parser, needed):
 
 
 def numbers(fields):
-    found = [(number_of(field), field) for field in fields]
+    found = [(tool.number_of(field), field) for field in fields]
     return [field if number is None else number for number, field in found]
 
 
@@ -52,10 +51,6 @@ class Table:
         """The table of an empty trace. Options that the program refuses end the tool."""
         return cls([line.decode().rstrip("\n") for line in paging.rows_of(program, options)])
 
-    def column(self, name):
-        """That of a sweep's count, among those that the header names."""
-        return self.header.split(",").index(name)
-
 
 def over(trace, program, sweeps):
     """The tables of sweeps over one reading of a trace. Each is a list of options, and how many
@@ -67,4 +62,4 @@ def over(trace, program, sweeps):
 
 
 def deliver(lines):
-    streams.write_out(["".join(f"{line}\n" for line in lines).encode()], "standard output: ")
+    tool.write_out(["".join(f"{line}\n" for line in lines).encode()], "standard output: ")

@@ -3,7 +3,6 @@
 import functools
 import math
 import re
-import statistics
 from collections import namedtuple
 from fractions import Fraction
 
@@ -41,11 +40,6 @@ class Case(namedtuple("Case", "given size values wholes ties")):
                  for value, whole in zip(self.values, self.wholes))
         return Fraction(sum(parts), one * len(self.values))
 
-    @property
-    def deviation(self):
-        """The standard deviation of a sample."""
-        return statistics.stdev(map(float, self.values))
-
 
 class Table(namedtuple("Table", "options measure references cases left_out")):
     """The options, those of a cache alone, the measure, the trace's references, the cases, and what
@@ -55,10 +49,6 @@ class Table(namedtuple("Table", "options measure references cases left_out")):
     def is_count(self):
         """Whether the measure is a count of references, which has a share of them."""
         return bool(COUNT.fullmatch(self.measure))
-
-    @property
-    def has_seeds(self):
-        return any(len(case.values) > 1 for case in self.cases)
 
 
 def kind(option):

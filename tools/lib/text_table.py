@@ -1,6 +1,7 @@
-"""The tables of by-line for reading: columns one below the other, and few rows."""
+"""Tables in CSV, and those of by-line for reading: columns one below the other, and few rows."""
 
 import csv
+import io
 
 KINDS = "compulsory", "capacity", "conflict"
 # of those with misses by kind; and which of all are numbers, at the right
@@ -9,6 +10,13 @@ NUMBERS = {"share", "misses", "references", "first-byte", "last-byte", "reads", 
            "true-sharing", "false-sharing", "thread"}
 LAST = "source"
 WIDEST = 44  # letters of a cell, except for the last column
+
+
+def csv_lines(rows):
+    """Rows as lines of CSV."""
+    text = io.StringIO()
+    csv.writer(text, lineterminator="\n").writerows(rows)
+    return text.getvalue().split("\n")[:-1]
 
 
 def mostly(row):

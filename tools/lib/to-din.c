@@ -15,11 +15,10 @@
 enum { PIECE = 1 << 18, LONGEST = 1 << 24, RECORD = 64, SHOWN = 60 };
 enum label { READ = '0', WRITE = '1', FETCH = '2' };
 
-static const char *name = "to-din";
+static const char *name;
 static char input[LONGEST + 1];  // of this only what the longest line needs is ever touched
 static uintmax_t number; // of lines or records that were read
 static bool accessed;    // there was an access
-static int failure = 1;  // the exit status after a fault
 
 // ---- Writing
 
@@ -34,7 +33,7 @@ static _Noreturn void fail(const char *form, ...) {
     va_end(values);
     fprintf(stderr, "%s: %s\n", name, line);
     finish(name, writing);
-    exit(failure);
+    exit(1);
 }
 
 static void put(enum label label, uint64_t address) {
@@ -451,12 +450,11 @@ static int convert(const struct format *format) {
 }
 
 int main(int count, char **words) {
-    const char *asked = count == 2 ? words[1] : "that";
-    if (count) name = words[0];
+    if (count != 2) return 2;
+    name = words[0];
     begin_filter();
     make_digits();
     for (size_t i = 0; i < sizeof formats / sizeof *formats; i++)
-        if (!strcmp(asked, formats[i].name)) return convert(&formats[i]);
-    failure = 2;
-    fail("%.99s is no format; '%.99s --help' explains the arguments", asked, name);
+        if (!strcmp(words[1], formats[i].name)) return convert(&formats[i]);
+    fail("this is the inner half of to-din");
 }

@@ -1,5 +1,5 @@
-"""What the tools share: their name, faults and arguments, sizes, files and the program. A tool in a
-folder below tools/ finds it so:
+"""What the tools share: their name, faults and arguments, sizes, files, the program, and how they
+write. A tool in a folder below tools/ finds it so:
 
     sys.path.insert(1, os.path.realpath(f"{os.path.realpath(__file__)}/../.."))
     from lib import tool  # noqa: E402
@@ -9,8 +9,11 @@ import contextlib
 import os
 import re
 import shutil
+import signal
 import sys
 from argparse import ArgumentTypeError
+
+from lib import signals
 
 HERE = os.path.dirname(os.path.dirname(os.path.realpath(__file__)))  # the tools
 NAME = os.path.basename(sys.argv[0])
@@ -59,6 +62,21 @@ def misused(text, kind=SystemExit):
     fail(f"{text}; '{NAME} --help' explains the arguments", MISUSED, kind)
 
 
+def run(main):
+    """Runs a tool. If a signal ends it, it is seen to have ended by it."""
+    try:
+        main()
+    except (signals.Stopped, RuntimeError) as fault:
+        # as a class is made, Python before 3.12 tells of it by another fault
+        stopped = fault if isinstance(fault, signals.Stopped) else fault.__cause__
+        if not isinstance(stopped, signals.Stopped):
+            raise
+        signals.heed_stops()  # it may have come as they were put off
+        signal.signal(stopped.code - 128, signal.SIG_DFL)
+        os.kill(os.getpid(), stopped.code - 128)
+        sys.exit(stopped.code)
+
+
 @contextlib.contextmanager
 def faults_of(name):
     """Within this, what the system refuses ends the tool with a line that begins with this name."""
@@ -66,12 +84,6 @@ def faults_of(name):
         yield
     except OSError as fault:
         fail(f"{name}: {fault.strerror}")
-
-
-def called(name):
-    """How another tool is called: where the tools are installed, by its name on the path."""
-    installed = f"cachesim-{name}"
-    return installed if os.path.exists(f"{HERE}/../../bin/{installed}") else name
 
 
 def needs(command, package):
@@ -140,6 +152,34 @@ def is_cachesim(path):
     return re.fullmatch(rb"bsize,sets,assoc,size,.*\n1,1,1,1,.*\n", table) is not None
 
 
+def write_all(descriptor, data):
+    """Writes some bytes, of which one write may take a part."""
+    left = memoryview(data)
+    while left:
+        left = left[os.write(descriptor, left):]
+
+
+def keep_places():
+    """Opens what fails as well for closed standard descriptors, lest a file take their place."""
+    for number in range(3):
+        try:
+            os.fstat(number)
+        except OSError:
+            os.open("/dev/null", os.O_RDONLY if number else os.O_WRONLY)
+
+
+def write_out(texts, place=""):
+    """Writes texts of bytes to standard output. Where that fails, the tool ends, without a word if
+    a reader has gone away."""
+    try:
+        for text in texts:
+            write_all(1, text)
+    except BrokenPipeError:
+        sys.exit(READER_GONE)
+    except OSError:
+        fail(f"{place}write failed")
+
+
 def write_lines(lines):
     """Writes lines to standard output. A fault ends the tool; without a word if a reader left. By
     sys.stdout, text that is held would fail again as Python ends, and without a buffer Python does
@@ -147,10 +187,9 @@ def write_lines(lines):
     if sys.stdout is None:
         fail("standard output: Bad file descriptor")
     text = "".join(f"{line}\n" for line in lines)
-    left = memoryview(text.encode(sys.stdout.encoding, "surrogateescape"))  # as a name's bytes are
     try:
-        while left:
-            left = left[os.write(1, left):]
+        # as a name's bytes are
+        write_all(1, text.encode(sys.stdout.encoding, "surrogateescape"))
     except BrokenPipeError:
         sys.exit(READER_GONE)
     except OSError as fault:

@@ -128,6 +128,41 @@ impl FullProfile {
         in_any_way!(&mut self.kept, profile => profile.feed_each(refs))
     }
 
+    /// Feeds references to this profile as `feed_batch` does, and to `next` only those that are not
+    /// settled in this one. The references that are settled in neither are moved to the front of
+    /// `refs`, in order; returns how many they are. If both keep their lists in the same way, this
+    /// costs less than feeding one after the other: where a reference finds its block in one
+    /// predicts where it does in the next.
+    pub fn feed_batch_with(&mut self, next: &mut FullProfile, refs: &mut [Ref]) -> usize
+        requires few { fed_of self.old.plain + length refs.old ≤ MAX_REFERENCES }
+        requires next_few { fed_of next.old.plain + length refs.old ≤ MAX_REFERENCES }
+        ensures step { self.new ≡ after_full_batch self.old refs.old }
+        ensures more { fed_of self.new.plain
+            ≡ fed_of self.old.plain + length (unsettled self.old refs.old) }
+        ensures at_most { fed_of self.new.plain ≤ fed_of self.old.plain + length refs.old }
+        ensures next_step { next.new ≡ after_full_batch next.old (unsettled self.old refs.old) }
+        ensures next_more { fed_of next.new.plain ≡ fed_of next.old.plain + result }
+        ensures fed { take result refs.new
+            ≡ unsettled next.old (unsettled self.old refs.old) }
+        ensures within { result ≤ length refs.new }
+        ensures length { length refs.new ≡ length refs.old }
+    {
+        match (&mut self.kept, &mut next.kept) {
+            (KeptFull::Rows(first), KeptFull::Rows(second)) => first.feed_each_to_two(second, refs),
+            (KeptFull::Slots(first), KeptFull::Slots(second)) => first.feed_each_to_two(
+                second, refs,
+            ),
+            (KeptFull::Sparse(first), KeptFull::Sparse(second)) => first.feed_each_to_two(
+                second, refs,
+            ),
+            (KeptFull::Long(first), KeptFull::Long(second)) => first.feed_each_to_two(second, refs),
+            _ => {
+                let left = self.feed_batch(refs);
+                next.feed_batch(&mut refs[..left])
+            }
+        }
+    }
+
     /// Counts this many references that were settled, and one comparison for each.
     pub fn count_settled(&mut self, count: u64)
         requires { fed_of self.old.plain + count ≤ MAX_REFERENCES }

@@ -212,23 +212,6 @@ given_reaches {at} {followers} {led_count} {end} is = elim (cases_lt at end) [
   | inr past ↦ omega (arith, (is.all past).1)
 ]
 
--- two neighbours that are set, each in its part of a list
-set_parts : (at : ℕ) (xs : List PairProfile) (x y : PairProfile) → suc at < length xs →
-    set (take (suc at) xs) at x ++ set (drop (suc at) xs) 0 y ≡ set (set xs at x) (suc at) y
-set_parts at [] x y lt = absurd (omega (arith, lt))
-set_parts zero (z ∷ []) x y lt = absurd (omega (arith, lt))
-set_parts zero (z ∷ w ∷ xs) x y lt = refl
-set_parts (suc at) (z ∷ xs) x y lt = ap (λ l. z ∷ l) (set_parts at xs x y (omega (arith, lt)))
-
-pub set_neighbours : (at : ℕ) (xs front back : List PairProfile) (x y : PairProfile) →
-    at + 1 < length xs → front ≡ take (at + 1) xs → back ≡ drop (at + 1) xs →
-    set front at x ++ set back 0 y ≡ set (set xs at x) (at + 1) y
-set_neighbours at xs front back x y lt front_is back_is =
-    ap (λ l. set l at x ++ set back 0 y) front_is ∙
-    ap (λ l. set (take (at + 1) xs) at x ++ set l 0 y) back_is ∙
-    subst (λ n. set (take n xs) at x ++ set (drop n xs) 0 y ≡ set (set xs at x) n y) {x = suc at}
-    {y = at + 1} (omega arith) (set_parts at xs x y (omega (arith, lt)))
-
 -- a profile is fed no more than it is given
 pub fed-short : (v : ProfileState) (addrs : List ℕ) → length (fed_of_batch v addrs) ≤ length addrs
 fed-short v [] = omega arith

@@ -47,13 +47,6 @@ use Rattle.sweep_core.specs.internal.Full.{is_repeated, repeats_last, with_waiti
 use Rattle.sweep_core.specs.internal.Full.{AreNoFinerFull}
 use Rattle.sweep_core.specs.internal.Full.{finest_full_bits}
 
--- two changes of each pair are equal where they are so for what holds of each
-pub same-each : (f g : FullPair → FullPair) (P : FullPair → Type 0) →
-    ((x : FullPair) → P x → f x ≡ g x) → (xs : List FullPair) → Each P xs → map f xs ≡ map g xs
-same-each f g P same [] h = refl
-same-each f g P same (x ∷ xs) h =
-    ap (λ y. y ∷ map f xs) (same x h.0) ∙ ap (λ l. g x ∷ l) (same-each f g P same xs h.1)
-
 -- a change that keeps a pair as it is
 pub same-all : (f : FullPair → FullPair) → ((x : FullPair) → f x ≡ x) → (xs : List FullPair) →
     map f xs ≡ xs

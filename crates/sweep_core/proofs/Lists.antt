@@ -1,11 +1,12 @@
--- Lists: what is true of each element, what is a member, what a filter keeps, the greatest number
--- and sums.
+-- Lists: what is true of each element, what is a member, what a filter keeps, the greatest number,
+-- sums, and two neighbours that are set.
 use Rattle.std.proofs.Common.{◌≡◌, ℕ, suc, zero, ◌+◌, ◌*◌, ◌<◌, ◌≤◌, max, Bool, true, false}
 use Rattle.std.proofs.Common.{List, [], ◌∷◌, ◌++◌, map, take, length, fold, get_or, refl, sym, ap}
-use Rattle.std.proofs.Common.{◌∙◌, inl, inr, arith, subst, mul-add}
+use Rattle.std.proofs.Common.{◌∙◌, inl, inr, arith, subst, mul-add, drop}
 use Rattle.std.specs.Prelude.{◌⊎◌, filter, flat_map, Contains, sum_by}
 use Rattle.std.specs.List.{range_with_len, AllByRecursion as Each}
 use Rattle.std.proofs.lemmas.Bool.{cases_Bool, cond-true, cond-false, cases_lt}
+use Rattle.std.proofs.Math.ListN.{set}
 use Rattle.std.proofs.lemmas.List.Sums.{sum_by-cons}
 
 abbrev pub Member : {A : Type 0} → A → List A → Type 0
@@ -210,3 +211,20 @@ sum-times n f [] = omega arith
 sum-times n f (x ∷ xs) =
     sum_by-cons (λ y. n * f y) x xs ∙ ap (λ s. n * f x + s) (sum-times n f xs)
     ∙ sym (mul-add n (f x) (sum_by f xs)) ∙ ap (λ s. n * s) (sym (sum_by-cons f x xs))
+
+-- two neighbours that are set, each in its part of a list
+set_parts : {A : Type 0} (at : ℕ) (xs : List A) (x y : A) → suc at < length xs →
+    set (take (suc at) xs) at x ++ set (drop (suc at) xs) 0 y ≡ set (set xs at x) (suc at) y
+set_parts at [] x y lt = absurd (omega (arith, lt))
+set_parts zero (z ∷ []) x y lt = absurd (omega (arith, lt))
+set_parts zero (z ∷ w ∷ xs) x y lt = refl
+set_parts (suc at) (z ∷ xs) x y lt = ap (λ l. z ∷ l) (set_parts at xs x y (omega (arith, lt)))
+
+pub set_neighbours : {A : Type 0} (at : ℕ) (xs front back : List A) (x y : A) →
+    at + 1 < length xs → front ≡ take (at + 1) xs → back ≡ drop (at + 1) xs →
+    set front at x ++ set back 0 y ≡ set (set xs at x) (at + 1) y
+set_neighbours at xs front back x y lt front_is back_is =
+    ap (λ l. set l at x ++ set back 0 y) front_is ∙
+    ap (λ l. set (take (at + 1) xs) at x ++ set l 0 y) back_is ∙
+    subst (λ n. set (take n xs) at x ++ set (drop n xs) 0 y ≡ set (set xs at x) n y) {x = suc at}
+    {y = at + 1} (omega arith) (set_parts at xs x y (omega (arith, lt)))

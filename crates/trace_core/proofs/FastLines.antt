@@ -27,7 +27,7 @@ use Rattle.trace_core.proofs.Fronts.{unfed-append, Plain, Fails, position-past, 
 use Rattle.trace_core.proofs.Fronts.{fields-field, trimmed-plain}
 
 -- a byte that is no digit is none of the digits
-other-byte : (b radix : ℕ) → is_digit b radix ≡ false → (c : ℕ) → is_digit c radix ≡ true →
+pub other-byte : (b radix : ℕ) → is_digit b radix ≡ false → (c : ℕ) → is_digit c radix ≡ true →
     (c == b) ≡ false
 other-byte b radix other c digit = by_case (c == b) refl
   where
@@ -65,7 +65,7 @@ module _ (radix : ℕ) (small : nat_lt 36 radix ≡ false) where
       (other-byte 10 radix small c both.0, digits-unfed cs both.1)
 
 -- what writes a number is one or more digits
-number-digits : (radix most : ℕ) (ds : List ℕ) (n : ℕ) → number_written radix most ds ≡ Some n
+pub number-digits : (radix most : ℕ) (ds : List ℕ) (n : ℕ) → number_written radix most ds ≡ Some n
     → (1 ≤ length ds) × (list_all (λ c. is_digit c radix) ds ≡ true)
 number-digits radix most ds n is = by_case (nat_le 1 (length ds)) (nat_le (length ds) most)
     (list_all (λ c. is_digit c radix) ds) refl refl refl is

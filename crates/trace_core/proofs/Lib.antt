@@ -2,6 +2,7 @@
 pub mod Tables
 pub mod Fronts
 pub mod FastLines
+pub mod PlainLines
 pub mod Readings
 pub mod Buffers
 pub mod Splits

@@ -1,7 +1,7 @@
 -- The number that digits in front of a text write.
 use Rattle.std.proofs.Common.{◌≡◌, ℕ, ◌+◌, ◌*◌, ◌<◌, ◌≤◌, ◌^◌, ◌⊎◌, inl, inr, Bool, true, false}
 use Rattle.std.proofs.Common.{List, [], ◌∷◌, ◌++◌, length, take, drop, get_or, Some, refl, sym, ap}
-use Rattle.std.proofs.Common.{◌∙◌, arith, rules, tests, ltb, leb, if◌then◌else◌}
+use Rattle.std.proofs.Common.{◌∙◌, ◌-◌, arith, rules, tests, ltb, leb, nat_lt, if◌then◌else◌}
 use Rattle.std.specs.List.{list_all}
 use Rattle.std.specs.Char.{digit_value, is_digit}
 use Rattle.std.specs.Str.Parse.{AllDigits, digits_value}
@@ -112,3 +112,16 @@ module _ (radix most : ℕ) (some : 0 < radix) where
         number_written-some (take n text) (omega (arith, len)) (omega (arith, len)) written.1 ∙
             ap Some (sym written.0),
       )
+
+-- a decimal digit writes its value
+digit-is : (d : ℕ) → 48 ≤ d → d ≤ 57 → digit_value d ≡ d - 48
+digit-is d low high =
+    let a : nat_lt d 48 ≡ false = search (rules, tests) in
+    let b : nat_lt d 58 ≡ true = search (rules, tests) in
+    rw (a, b) refl
+
+pub one_digit : (d : ℕ) → 48 ≤ d → d ≤ 57 → number_written 10 9 (d ∷ []) ≡ Some (d - 48)
+one_digit d low high =
+    let all : digits_value 10 (d ∷ []) ≡ d - 48 = omega (arith, digit-is d low high) in
+    number_written-some 10 9 (omega arith) (d ∷ []) (omega arith) (omega arith)
+    (omega (arith, digit-is d low high), tt) ∙ ap Some all

@@ -3,7 +3,10 @@ use Rattle.std.proofs.Common.{◌≡◌, ℕ, zero, suc, ◌+◌, ◌-◌, ◌*�
 use Rattle.std.proofs.Common.{false, cond, eqb, leb, ltb, List, [], ◌∷◌, map, length, get_or}
 use Rattle.std.proofs.Common.{replicate, refl, sym, ap, ◌∙◌, arith, ◌⊎◌, inl, inr, bit_and, bit_or}
 use Rattle.std.proofs.Common.{w8, w64, Fits, take}
-use Rattle.std.proofs.lemmas.Bool.{false≢true}
+use Rattle.std.proofs.lemmas.Bool.{false≢true, le-leb, lt-leb, le-ltb, ltb-false, leb-true}
+use Rattle.std.proofs.lemmas.Bool.{leb-false}
+use Rattle.std.proofs.Common.{to_z}
+use Rattle.std.specs.Int.Signed.{le_z}
 use Rattle.std.proofs.lemmas.Int.Digits.{number_more}
 use Rattle.std.proofs.lemmas.Nat.{and_mask, le-div, div_below}
 use Rattle.std.proofs.lemmas.List.{take_all}
@@ -36,21 +39,6 @@ select_splat p (x ∷ xs) zero a b long = absurd (omega arith)
 select_splat p (x ∷ xs) (suc n) a b long =
     ap (λ rest. cond (p x) a b ∷ rest) (select_splat p xs n a b (omega arith))
 
-pub within_is : (xs : List ℕ) (first more : ℕ) → length xs ≡ 16
-    → sel_l (map (top 7) (zip2 (λ a b. cond (leb a b) 255 0) (zip2 (λ a b. (a + (256 - b)) % 256) xs
-    (replicate 16 first)) (replicate 16 more))) (replicate 16 255) (replicate 16 0)
-    ≡ map (near first more) xs
-within_is xs first more long =
-    let moved = λ (x : ℕ). (x + (256 - first)) % 256 in
-    let lanes = zip2_splat (λ a b. (a + (256 - b)) % 256) xs 16 first long in
-    let ms = tops_compared w8 leb (zip2 (λ a b. (a + (256 - b)) % 256) xs (replicate 16 first))
-    (replicate 16 more)
-    ∙ ap (λ l. zip2 leb l (replicate 16 more)) lanes
-    ∙ zip2_splat leb (map moved xs) 16 more (length-map xs moved ∙ long)
-    ∙ map-map (λ x. leb x more) moved xs in
-    ap (λ m. sel_l m (replicate 16 255) (replicate 16 0)) ms ∙
-    select_splat (λ x. leb (moved x) more) xs 16 255 0 long
-
 abbrev pub letter : ℕ → ℕ
 letter c = near 97 5 (bit_or c 32)
 
@@ -71,6 +59,116 @@ map_same : {A : Type 0} (f g : ℕ → A) → ((c : ℕ) → c < 256 → f c ≡
 map_same f g same [] fits = refl
 map_same f g same (x ∷ xs) fits = λ i. same x fits.0.fits i ∷ map_same f g same xs fits.1 i
 
+-- the order of signed lanes, from the least of them on
+order_of_signed : (c first more : ℕ) → c < 256 → first ≤ 127 → more ≤ 127
+    → le_z (to_z w8 ((c + (128 - first)) % 256)) (to_z w8 ((more + 128) % 256)) ≡
+    leb ((c + (256 - first)) % 256) more
+order_of_signed c first more below low few = by_case (ltb x 128) refl
+  where
+    x : ℕ
+    x = (c + (128 - first)) % 256
+
+    y : ℕ
+    y = (more + 128) % 256
+
+    last : ltb y 128 ≡ false
+    last = le-ltb y 128 (omega (arith, few))
+
+    by_order : (t : Bool) → leb (256 - suc y) (256 - suc x) ≡ t → 128 ≤ x →
+        t ≡ leb ((c + (256 - first)) % 256) more
+    by_order true is large =
+        let order = leb-true _ _ is in
+        sym (le-leb ((c + (256 - first)) % 256) more (omega (arith, order, large, low, few, below)))
+    by_order false is large =
+        let order = leb-false _ _ is in
+        sym (lt-leb ((c + (256 - first)) % 256) more (omega (arith, order, large, low, few, below)))
+
+    by_case : (t : Bool) → ltb x 128 ≡ t →
+        le_z (to_z w8 x) (to_z w8 y) ≡ leb ((c + (256 - first)) % 256) more
+    by_case true is =
+        let small = ltb-true x 128 is in
+        rw (is, last) (sym (lt-leb ((c + (256 - first)) % 256) more
+        (omega (arith, small, low, few, below))))
+    by_case false is =
+        let large = ltb-false x 128 is in
+        rw (is, last) (by_order (leb (256 - suc y) (256 - suc x)) refl large)
+
+pub within_is : (xs : List ℕ) (first more : ℕ) → length xs ≡ 16 → Each1 (Fits w8) xs →
+    first ≤ 127 → more ≤ 127
+    → sel_l (map (top 7) (zip2 (λ a b. cond (le_z (to_z w8 a) (to_z w8 b)) 255 0)
+    (zip2 (λ a b. (a + b) % 256) (map (λ (a : ℕ). a) xs) (replicate 16 (128 - first)))
+    (replicate 16 ((more + 128) % 256)))) (replicate 16 255) (replicate 16 0)
+    ≡ map (near first more) xs
+within_is xs first more long fits low few =
+    let order = λ (a b : ℕ). le_z (to_z w8 a) (to_z w8 b) in
+    let moved = λ (x : ℕ). (x + (128 - first)) % 256 in
+    let signed = map (λ (a : ℕ). a) xs in
+    let sums = zip2 (λ a b. (a + b) % 256) signed (replicate 16 (128 - first)) in
+    let last = (more + 128) % 256 in
+    let lanes : sums ≡ map moved xs =
+    zip2_splat (λ a b. (a + b) % 256) signed 16 (128 - first) (length-map xs (λ a. a) ∙ long) ∙
+    map-map moved (λ (a : ℕ). a) xs in
+    let chosen = λ (x : ℕ). order (moved x) last in
+    let ms : map (top 7) (zip2 (λ a b. cond (order a b) 255 0) sums (replicate 16 last)) ≡
+    map chosen xs = tops_compared w8 order sums (replicate 16 last)
+    ∙ ap (λ l. zip2 order l (replicate 16 last)) lanes
+    ∙ zip2_splat order (map moved xs) 16 last (length-map xs moved ∙ long)
+    ∙ map-map (λ x. order x last) moved xs in
+    ap (λ m. sel_l m (replicate 16 255) (replicate 16 0)) ms ∙
+    select_splat chosen xs 16 255 0 long ∙
+    map_same (λ x. cond (chosen x) 255 0) (near first more)
+    (λ c below. ap (λ b. cond b 255 0) (order_of_signed c first more below low few)) xs fits
+
+-- a byte, or 127
+abbrev pub capped : ℕ → ℕ
+capped c = cond (ltb c 127) c 127
+
+select_or : (p : ℕ → Bool) (xs : List ℕ) (n b : ℕ) → length xs ≡ n →
+    sel_l (map p xs) xs (replicate n b) ≡ map (λ x. cond (p x) x b) xs
+select_or p [] n b long = refl
+select_or p (x ∷ xs) zero b long = absurd (omega arith)
+select_or p (x ∷ xs) (suc n) b long =
+    ap (λ rest. cond (p x) x b ∷ rest) (select_or p xs n b (omega arith))
+
+pub capped_are : (xs : List ℕ) → length xs ≡ 16
+    → sel_l (map (top 7) (zip2 (λ a b. cond (ltb a b) 255 0) xs (replicate 16 127))) xs
+    (replicate 16 127) ≡ map capped xs
+capped_are xs long =
+    ap (λ m. sel_l m xs (replicate 16 127)) (tops_compared w8 ltb xs (replicate 16 127) ∙
+    zip2_splat ltb xs 16 127 long) ∙ select_or (λ x. ltb x 127) xs 16 127 long
+
+capped_low : (c : ℕ) → capped c ≤ 127
+capped_low c = by_case (ltb c 127) refl
+  where
+    by_case : (t : Bool) → ltb c 127 ≡ t → capped c ≤ 127
+    by_case true is = rw is (omega (arith, ltb-true c 127 is))
+    by_case false is = rw is (omega arith)
+
+pub all_low : (xs : List ℕ) → Each1 (λ c. c ≤ 127) (map capped xs)
+all_low [] = tt
+all_low (x ∷ xs) = (capped_low x, all_low xs)
+
+pub low_fits : (xs : List ℕ) → Each1 (λ c. c ≤ 127) xs → Each1 (Fits w8) xs
+low_fits [] low = tt
+low_fits (x ∷ xs) low = (record { fits = omega (arith, low.0) }, low_fits xs low.1)
+
+-- lower-case letters and more stay ASCII
+lower_low : (c : ℕ) → c < 256 → cond (leb c 127) (leb (bit_or c 32) 127) true ≡ true
+lower_low = same_on_bytes true (λ c. cond (leb c 127) (leb (bit_or c 32) 127) true) (λ _. true) refl
+
+lower_each : (xs : List ℕ) → Each1 (λ c. c ≤ 127) xs →
+    Each1 (λ c. c ≤ 127) (map (λ c. bit_or c 32) xs)
+lower_each [] low = tt
+lower_each (x ∷ xs) low =
+    let at_most : leb x 127 ≡ true = le-leb x 127 low.0 in
+    let e = lower_low x (omega (arith, low.0)) in
+    (leb-true _ _ (rw at_most at e), lower_each xs low.1)
+
+pub lowered : (xs : List ℕ) → length xs ≡ 16 → Each1 (λ c. c ≤ 127) xs →
+    Each1 (λ c. c ≤ 127) (zip2 bit_or xs (replicate 16 32))
+lowered xs long low = subst (Each1 (λ c. c ≤ 127)) (sym (zip2_splat bit_or xs 16 32 long))
+    (lower_each xs low)
+
 abbrev either : ℕ → ℕ
 either c = bit_or (near 48 9 c) (letter c)
 
@@ -87,6 +185,29 @@ mask_is xs long fits =
     ∙ bitmask_splat w8 eqb (map either xs) 16 255 (length-map xs either ∙ long) (omega arith)
     ∙ ap mask_l (map-map (λ x. eqb x 255) either xs ∙ map_same (λ c. eqb (either c) 255)
     (λ c. is_digit c 16) either_is xs fits)
+
+capped_digit : (c : ℕ) → c < 256 → is_digit (capped c) 16 ≡ is_digit c 16
+capped_digit = same_on_bytes false (λ c. is_digit (capped c) 16) (λ c. is_digit c 16) refl
+
+capped_letter : (c : ℕ) → c < 256 → letter (capped c) ≡ letter c
+capped_letter = same_on_bytes 0 (λ c. letter (capped c)) letter refl
+
+-- which of some bytes are digits, by those that stand for them
+pub mask_of_capped : (xs ascii : List ℕ) → length ascii ≡ 16 → Each1 (λ c. c ≤ 127) ascii →
+    ascii ≡ map capped xs → Each1 (Fits w8) xs
+    → mask_l (map (top 7) (zip2 (λ a b. cond (eqb a b) 255 0) (zip2 bit_or (map (near 48 9) ascii)
+    (map letter ascii)) (replicate 16 255))) % 2 ^ 64 ≡ mask_l (map (λ c. is_digit c 16) xs)
+mask_of_capped xs ascii long low is fits =
+    mask_is ascii long (low_fits ascii low) ∙
+    ap (λ l. mask_l (map (λ c. is_digit c 16) l)) is ∙
+    ap mask_l (map-map (λ c. is_digit c 16) capped xs ∙
+    map_same (λ c. is_digit (capped c) 16) (λ c. is_digit c 16) capped_digit xs fits)
+
+pub letters_of_capped : (xs ascii : List ℕ) → ascii ≡ map capped xs → Each1 (Fits w8) xs →
+    map letter ascii ≡ map letter xs
+letters_of_capped xs ascii is fits =
+    ap (map letter) is ∙ map-map letter capped xs ∙
+    map_same (λ c. letter (capped c)) letter capped_letter xs fits
 
 -- the value of a byte, if it is a digit
 abbrev pub nibble : ℕ → ℕ

@@ -60,8 +60,7 @@ pub(crate) fn read_number(radix: u8, most: usize, digits: &[u8]) -> Option<u64>
 }
 
 /// The number that the hexadecimal digits in front write, and how many they are; at most 16 are
-/// read. All are read at once, so no branch depends on how many they are; `docs/speed.md` says what
-/// that gains.
+/// read.
 #[inline(always)]
 fn read_hexadecimal(text: &[u8]) -> (u64, usize)
     ensures value { WritesNumber 16 text.now result }
@@ -70,6 +69,17 @@ fn read_hexadecimal(text: &[u8]) -> (u64, usize)
     if text.len() < 16 {
         return more_digits(16, text, text.len(), (0, 0));
     }
+    front_hexadecimal(text)
+}
+
+/// `read_hexadecimal` where there are at least 16 bytes. All are read at once, so no branch depends
+/// on how many digits they are; `docs/speed.md` says what that gains.
+#[inline(always)]
+pub(crate) fn front_hexadecimal(text: &[u8]) -> (u64, usize)
+    requires room { 16 ≤ length text.now }
+    ensures value { WritesNumber 16 text.now result }
+    ensures most { result.1 ≤ 16 }
+{
     let bytes = u8x16::from_slice(text);
     let len = digit_mask(bytes).trailing_ones() as usize;
     if len == 0 {

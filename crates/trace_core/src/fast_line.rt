@@ -1,5 +1,5 @@
-//! Lines in the form that most have, read in one pass from their front. `None` says nothing of a
-//! line: `line::read_line` then checks it.
+//! Lines of the usual form with any blanks beside the label, read in one pass from their front.
+//! `None` says nothing of a line: `line::read_line` then checks it.
 //!
 //! This way is for speed alone. A reader that never took it would meet each contract, and read most
 //! traces several times slower: only `tests/limits` sees that.
@@ -18,34 +18,9 @@ use crate::limits::MAX_LINE;
 use crate::line::{Format, din_op, lackey_op};
 use memchr::memchr;
 
-/// How many bytes a text must have for the plain form. One test of it stands for those of each
-/// part, and only the last lines of what a source delivered at once are read more slowly.
-const PLAIN_ROOM: usize = 64;
-
 /// The item of the line that a text begins with, and the index of the line's LF, if the line has
-/// the usual form: the label and the blanks as tracers write them. A line that ends after its
-/// fields has at most 30 bytes, so its length needs no test.
-#[inline(always)]
-pub(crate) fn read_plain_line(format: Format, text: &[u8]) -> Option<(Item, usize)>
-    ensures line { IfSome result (λ found. IsFirstByte (is_byte 10) text.now (Some found.1)) }
-    ensures short { IfSome result (λ found. found.1 ≤ MAX_LINE) }
-    ensures item { IfSome result (λ found.
-        meaning format (take found.1 text.now) ≡ Ok (Some (Entry.Item found.0))) }
-{
-    if text.len() < PLAIN_ROOM {
-        return None;
-    }
-    let (label, fields) = split_plain_label(format, text)?;
-    let (item, at) = read_item(format, text, label, fields)?;
-    if text[at] == b'\n' {
-        return Some((item, at));
-    }
-    let end = late_end(text, at)?;
-    Some((item, end))
-}
-
-/// `read_plain_line` with any blanks beside the label. Without it a sweep of one cache over two
-/// million lines that are padded with blanks takes 1.7 times as long, and `din` 1.6 times.
+/// the usual form. Without it a sweep of one cache over two million lines that are padded with
+/// blanks takes 1.7 times as long, and `din` 1.6 times.
 #[inline(always)]
 pub(crate) fn read_spaced_line(format: Format, text: &[u8]) -> Option<(Item, usize)>
     ensures line { IfSome result (λ found. IsFirstByte (is_byte 10) text.now (Some found.1)) }
@@ -65,7 +40,7 @@ pub(crate) fn read_spaced_line(format: Format, text: &[u8]) -> Option<(Item, usi
 /// The index of a line's LF in its text, if it comes after a CR, or after a blank and a comment.
 /// The last field that matters ends at `at`.
 #[inline(never)]
-fn late_end(text: &[u8], at: usize) -> Option<usize>
+pub(crate) fn late_end(text: &[u8], at: usize) -> Option<usize>
     requires { at ≤ length text.now }
     ensures line { IfSome result (λ end. EndsLine text.now (drop at text.now) end) }
     ensures short { IfSome result (λ end. end ≤ MAX_LINE) }
@@ -91,8 +66,7 @@ fn read_item(format: Format, text: &[u8], label: u8, rest: &[u8]) -> Option<(Ite
     requires within { length rest.now ≤ length text.now }
     ensures begins { IfSome result (λ found.
         BeginsLine format text.now (drop found.1 text.now) found.0) }
-    ensures near { IfSome result (λ found. (found.1 ≤ length text.now)
-        × (found.1 + length rest.now ≤ length text.now + 26)) }
+    ensures near { IfSome result (λ found. found.1 ≤ length text.now) }
 {
     match format {
         Format::Din => read_din_item(text, label, rest),
@@ -107,8 +81,7 @@ fn read_din_item(text: &[u8], label: u8, rest: &[u8]) -> Option<(Item, usize)>
     requires within { length rest.now ≤ length text.now }
     ensures begins { IfSome result (λ found.
         BeginsLine Format.Din text.now (drop found.1 text.now) found.0) }
-    ensures near { IfSome result (λ found. (found.1 ≤ length text.now)
-        × (found.1 + length rest.now ≤ length text.now + 26)) }
+    ensures near { IfSome result (λ found. found.1 ≤ length text.now) }
 {
     let op = din_op(label)?;
     // Each way has an end of its own, so that it is a sum of few terms.
@@ -122,7 +95,7 @@ fn read_din_item(text: &[u8], label: u8, rest: &[u8]) -> Option<(Item, usize)>
 
 /// The text after a `0x` or `0X` in front, if it has one.
 #[inline(always)]
-fn split_0x(text: &[u8]) -> Option<&[u8]>
+pub(crate) fn split_0x(text: &[u8]) -> Option<&[u8]>
     ensures value { MatchOption result (without_0x text.now ≡ text.now)
         (λ digits. without_0x text.now ≡ digits.now) }
     ensures near { IfSome result (λ digits. (length text.now ≤ length digits.now + 2)
@@ -141,8 +114,7 @@ fn read_lackey_item(text: &[u8], label: u8, rest: &[u8]) -> Option<(Item, usize)
     requires within { length rest.now ≤ length text.now }
     ensures begins { IfSome result (λ found.
         BeginsLine Format.Lackey text.now (drop found.1 text.now) found.0) }
-    ensures near { IfSome result (λ found. (found.1 ≤ length text.now)
-        × (found.1 + length rest.now ≤ length text.now + 26)) }
+    ensures near { IfSome result (λ found. found.1 ≤ length text.now) }
 {
     let op = lackey_op(label)?;
     let (addr, after, len) = split_hexadecimal(rest)?;
@@ -169,20 +141,6 @@ fn split_one_digit(text: &[u8]) -> Option<(u32, &[u8])>
             [b'\n', ..] => Some(((*digit - b'0') as u32, rest)),
             _ => None,
         },
-        _ => None,
-    }
-}
-
-/// A label with the blanks beside it that tracers write, and what comes after them.
-#[inline(always)]
-fn split_plain_label(format: Format, text: &[u8]) -> Option<(u8, &[u8])>
-    ensures begins { IfSome result (λ parts. BeginsLabel text.now parts.1.now parts.0) }
-    ensures near { IfSome result (λ parts. length text.now ≤ length parts.1.now + 3) }
-{
-    match (format, text) {
-        (Format::Din, [label, b' ', rest @ ..]) => Some((*label, rest)),
-        (Format::Lackey, [b' ', label, b' ', rest @ ..]) => Some((*label, rest)),
-        (Format::Lackey, [label, b' ', b' ', rest @ ..]) => Some((*label, rest)),
         _ => None,
     }
 }

@@ -12,6 +12,7 @@ pub mod laws;
 mod limits;
 pub mod line;
 mod nibbles;
+mod plain_line;
 pub mod reader;
 mod scan;
 mod state;

@@ -1,9 +1,9 @@
 //! Sixteen bytes at once, as hexadecimal digits.
-ghost use Rattle.std.specs.Prelude.{◌≡◌, ℕ, ◌+◌, ◌-◌, ◌%◌, true, map, nat_le, length, slice_index};
-ghost use Rattle.std.specs.Prelude.{if◌then◌else◌, bit_or, false};
+ghost use Rattle.std.specs.Prelude.{◌≡◌, ℕ, ◌+◌, ◌-◌, ◌%◌, ◌≤◌, true, false, map, nat_le, nat_lt};
+ghost use Rattle.std.specs.Prelude.{if◌then◌else◌, bit_or, length, slice_index};
 ghost use Rattle.std.specs.Char.{digit_value, is_digit};
 ghost use Rattle.std.specs.Int.Digits.{number_from_digits, AllBelowBase};
-ghost use Rattle.std.specs.Simd.Lanes.{mask_l};
+ghost use Rattle.std.specs.Simd.Lanes.{mask_l, Each1};
 ghost use Rattle.std.specs.Fmt.{digit_glyph};
 ghost use Rattle.trace_core.specs.internal.HexadecimalDigits.{nibbles, hexadecimal_digits};
 
@@ -14,7 +14,8 @@ use std::simd::prelude::*;
 pub(crate) fn digit_mask(bytes: u8x16) -> u64
     ensures { result ≡ mask_l (map (λ c. is_digit c 16) bytes) }
 {
-    let digits = lanes_within(bytes, b'0', 9) | letters(bytes);
+    let ascii = ascii_lanes(bytes);
+    let digits = lanes_within(ascii, b'0', 9) | letters(ascii);
     digits.simd_eq(u8x16::splat(255)).to_bitmask()
 }
 
@@ -26,7 +27,7 @@ pub(crate) fn digit_values(bytes: u8x16) -> u8x16
     ensures values { (k : ℕ) → is_digit (slice_index bytes k) 16 ≡ true →
         slice_index result k ≡ digit_value (slice_index bytes k) }
 {
-    (bytes & u8x16::splat(15)) + (letters(bytes) & u8x16::splat(9))
+    (bytes & u8x16::splat(15)) + (letters(ascii_lanes(bytes)) & u8x16::splat(9))
 }
 
 /// The number that sixteen digits write.
@@ -40,22 +41,40 @@ pub(crate) fn number_of(digits: u8x16) -> u64
     u64::from_be_bytes(pairs.cast::<u8>().to_array())
 }
 
+/// The bytes, where 127 stands for each that is no ASCII. That is no digit either, and lanes up to
+/// it can be compared as signed ones, for which the processor has an instruction: three less.
+#[inline(always)]
+fn ascii_lanes(bytes: u8x16) -> u8x16
+    ensures lanes { length result ≡ 16 }
+    ensures low { Each1 (λ c. c ≤ 127) result }
+    ensures values { result ≡ map (λ c. if nat_lt c 127 then c else 127) bytes }
+{
+    bytes.simd_min(u8x16::splat(127))
+}
+
 /// 255 for each byte that is a letter from `a` to `f` or from `A` to `F`, and 0 for the others.
 #[inline(always)]
-fn letters(bytes: u8x16) -> u8x16
+fn letters(ascii: u8x16) -> u8x16
+    requires low { Each1 (λ c. c ≤ 127) ascii }
     ensures { result ≡ map (λ c. if nat_le ((bit_or c 32 + (256 - 97)) % 256) 5 then 255 else 0)
-        bytes }
+        ascii }
 {
-    lanes_within(bytes | u8x16::splat(32), b'a', 5)
+    lanes_within(ascii | u8x16::splat(32), b'a', 5)
 }
 
 /// 255 for each byte that is `first` or at most `more` above it, and 0 for the others.
 #[inline(always)]
-fn lanes_within(bytes: u8x16, first: u8, more: u8) -> u8x16
-    ensures { result ≡ map (λ c. if nat_le ((c + (256 - first)) % 256) more then 255 else 0) bytes }
+fn lanes_within(ascii: u8x16, first: u8, more: u8) -> u8x16
+    requires low { Each1 (λ c. c ≤ 127) ascii }
+    requires some { 1 ≤ first }
+    requires begins { first ≤ 127 }
+    requires ends { more ≤ 127 }
+    ensures { result ≡ map (λ c. if nat_le ((c + (256 - first)) % 256) more then 255 else 0) ascii }
 {
-    (bytes - u8x16::splat(first))
-        .simd_le(u8x16::splat(more))
+    let moved = ascii.cast::<i8>() + u8x16::splat(128 - first).cast::<i8>();
+    let last = u8x16::splat(more).cast::<i8>() + i8x16::splat(i8::MIN);
+    moved
+        .simd_le(last)
         .select(u8x16::splat(255), u8x16::splat(0))
 }
 

@@ -53,6 +53,7 @@ impl Lines {
                     addr: 0,
                     size: 0,
                 },
+                room: 0,
             },
         })
     }

@@ -1,6 +1,6 @@
 //! The loop of a reader: it takes the lines that a source delivers one by one, and asks for more
-//! bytes. What a line means is decided in `line`, and for the usual forms in `fast_line`; `reader`
-//! shows the whole to callers.
+//! bytes. What a line means is decided in `line`, and for the usual forms in `plain_line` and
+//! `fast_line`; `reader` shows the whole to callers.
 ghost use Rattle.std.specs.Prelude.{◌≡◌, ◌≢◌, ℕ, ◌+◌, ◌<◌, ◌≤◌, List, [], Option, None, Some};
 ghost use Rattle.std.specs.Prelude.{length, drop, IfNone, IfSome, OnSome};
 ghost use Rattle.std.specs.Option.{option_to_list};
@@ -13,11 +13,12 @@ ghost use Rattle.trace_core.specs.declared.state.ReaderState.TheVariants as read
 
 use crate::buffer::Buffer;
 use crate::events::{Entry, Item};
-use crate::fast_line::{read_plain_line, read_spaced_line};
+use crate::fast_line::read_spaced_line;
 use crate::fault::TraceFault;
 use crate::io::{DeviceFault, Source};
 use crate::limits::MAX_LINE;
 use crate::line::{Format, read_line};
+use crate::plain_line::{PLAIN_ROOM, read_plain_line};
 use crate::state::ReaderState;
 use memchr::memchr;
 
@@ -37,8 +38,13 @@ pub(crate) struct Scan {
     pub(crate) state: ReaderState,
     /// The last item that `search` found.
     pub(crate) item: Item,
+    /// How many bytes may be read as lines of the plain form. They wait in the buffer, and are no
+    /// more than the lines that may follow, so a test of it stands for one of each, which saves
+    /// five instructions a line.
+    pub(crate) room: usize,
     ghost limited: { limit ≤ MAX_LINES },
-    ghost within: { lines ≤ limit },
+    ghost within: { lines + room ≤ limit },
+    ghost waiting: { room ≤ length buffer },
     ghost stopped: { state ≢ reader.Open → buffer ≡ [] },
 }
 
@@ -92,12 +98,28 @@ impl Scan {
         ensures open { IfSome result (λ _. self.old.state ≡ ReaderState.Open) }
         ensures none { IfNone result (self.new ≡ self.old) }
     {
-        if self.lines == self.limit {
+        if self.room < PLAIN_ROOM {
             return None;
         }
-        let (item, end) = read_plain_line(self.format, self.buffer.as_slice())?;
-        self.pass_line(end + 1);
+        let (text, _) = self.buffer.as_slice().split_at(PLAIN_ROOM);
+        let (item, len) = read_plain_line(self.format, text)?;
+        self.pass_plain_line(len);
         Some(item)
+    }
+
+    /// Passes over a line of so many bytes, for which there is room.
+    #[inline(always)]
+    fn pass_plain_line(&mut self, len: usize)
+        requires some { 1 ≤ len }
+        requires within { len ≤ self.old.room }
+        ensures lines { self.new.lines ≡ self.old.lines + 1 }
+        ensures buffer { self.new.buffer ≡ drop len self.old.buffer }
+        ensures same { (self.new.format ≡ self.old.format) × (self.new.limit ≡ self.old.limit)
+            × (self.new.state ≡ self.old.state) }
+    {
+        self.room -= len;
+        self.buffer.consume(len);
+        self.lines += 1;
     }
 
     /// Reads on to the next entry, through lines of any form.
@@ -178,6 +200,7 @@ impl Scan {
         ensures same { KeepsTask self.old self.new }
         ensures lines { self.new.lines ≡ self.old.lines }
     {
+        self.room = 0;
         self.buffer.clear();
         self.state = state;
     }
@@ -195,6 +218,7 @@ impl Scan {
     {
         self.buffer.consume(len);
         self.lines += 1;
+        self.room = room_for(self.limit - self.lines, self.buffer.as_slice().len());
         self.lines
     }
 
@@ -243,7 +267,10 @@ impl Scan {
         }
         match self.buffer.refill(source) {
             Ok(0) => self.finish(),
-            Ok(_) => None,
+            Ok(_) => {
+                self.room = room_for(self.limit - self.lines, self.buffer.as_slice().len());
+                None
+            }
             Err(DeviceFault) => {
                 self.stop(ReaderState::Failed(TraceFault::Read { line }));
                 None
@@ -273,8 +300,8 @@ impl Scan {
         let line = self.lines + 1;
         match judge(self.format, line, unread) {
             Ok(entry) => {
-                self.lines = line;
                 self.stop(ReaderState::Ended);
+                self.lines = line;
                 entry.map(|entry| (line, entry))
             }
             Err(fault) => {
@@ -283,6 +310,16 @@ impl Scan {
             }
         }
     }
+}
+
+/// How many of the bytes that wait may be read without a test of the limit, if so many lines may
+/// follow: each line has at least one byte.
+#[inline]
+fn room_for(lines: u64, waiting: usize) -> usize
+    ensures lines { result ≤ lines }
+    ensures waiting { result ≤ waiting }
+{
+    lines.min(waiting as u64) as usize
 }
 
 ghost use Rattle.trace_core.specs.Reading.{judgement};

@@ -17,14 +17,6 @@ class Cache(namedtuple("Cache", "options place sets block ways repl walloc wback
     def text(self, number):
         return format(number, self.digits)
 
-    @property
-    def set_bits(self):
-        return self.sets.bit_length() - 1
-
-    @property
-    def block_bits(self):
-        return self.block.bit_length() - 1
-
     def set_of(self, address):
         return address // self.block % self.sets
 

@@ -1,14 +1,13 @@
 """The table of a class, for which `grade` judges one student after another."""
 
 import concurrent.futures
-import csv
-import io
 import os
 import re
 import subprocess
 from collections import namedtuple
 
 from lib import files, processes
+from lib.text_table import csv_lines
 from parts import tool, traces
 from parts.student import visible_name
 
@@ -99,33 +98,22 @@ class Class:
             process.terminate()
 
 
-def names_of(folders):
-    """The folders' names, without what all have in front."""
-    front = os.path.commonpath([os.path.dirname(folder) for folder in folders])
-    return [os.path.relpath(folder, front) for folder in folders]
-
-
-def csv_line(fields):
-    """A row of CSV, without its end."""
-    line = io.StringIO()
-    csv.writer(line, lineterminator="").writerow(fields)
-    return line.getvalue()
-
-
 def write_table(group, names, folders, jobs):
     """Judges all, and writes a row for each as soon as it and those before it are judged."""
     # a fault of the arguments, before it is said of each student
     nobody = group.judge("/bin/true", "--verbose-lines=no")
     if nobody.fault:
         tool.fail(nobody.fault)
-    tool.write_lines([csv_line(["name", "right", "of", "points", *names, "reason"])])
+    tool.write_lines(csv_lines([["name", "right", "of", "points", *names, "reason"]]))
+    front = os.path.commonpath([os.path.dirname(folder) for folder in folders])
     with concurrent.futures.ThreadPoolExecutor(jobs) as threads:
         try:
-            for name, found in zip(names_of(folders), threads.map(group.student, folders)):
+            for folder, found in zip(folders, threads.map(group.student, folders)):
+                name = os.path.relpath(folder, front)
                 of = nobody.of if found.of is None else found.of
                 by_trace = found.by_trace(len(names))
                 row = [visible_name(name), found.right, of, found.points, *by_trace, found.reason]
-                tool.write_lines([csv_line(row)])
+                tool.write_lines(csv_lines([row]))
         except BaseException:
             group.stop()
             raise

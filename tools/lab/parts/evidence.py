@@ -182,9 +182,12 @@ def place(runs, seen, crashed, failed):
     wrong = [case for case, wanted, got in runs if wanted != got]
     crashing = [case for case, _ in crashed]
     if crashed:
-        text = said_by_glibc([fault for _, fault in crashed])
-        if text or wrong:
-            return text or wrong_if_large(fine, wrong + crashing, "crashes or is wrong")
+        texts = {text for _, fault in crashed for words, text in MESSAGES.items()
+                 if re.search(words, fault)}
+        if len(texts) == 1:
+            return f"it crashes: {texts.pop()}"
+        if wrong:
+            return wrong_if_large(fine, wrong + crashing, "crashes or is wrong")
         return too_large(fine, crashing) or too_small("crashes", fine, crashing)
     small = wrong_if_small(fine, wrong + failed)
     if small:
@@ -196,12 +199,6 @@ def place(runs, seen, crashed, failed):
         return ("the wrong block is evicted, since all is right where a set has one line or "
                 "nothing is evicted: uses are noted, or the one longest ago is found, wrongly")
     return ended_early(seen) or (miscounted(seen) if len(seen) >= ENOUGH else "")
-
-
-def said_by_glibc(faults):
-    """What the last messages of a program that crashes tell, if they tell one thing."""
-    told = {text for fault in faults for words, text in MESSAGES.items() if re.search(words, fault)}
-    return f"it crashes: {told.pop()}" if len(told) == 1 else ""
 
 
 def too_large(fine, crashed):

@@ -147,7 +147,8 @@ def replay_of(case, place, text):
     set_bits, lines, block_bits = map(int, case.cache.split(","))
     address = int(text.split()[1].partition(b",")[0], 16)
     number = address >> block_bits & (1 << set_bits) - 1
-    return (f"see {tool.called('replay')} -s {set_bits} -E {lines} -b {block_bits} "
+    is_installed = os.path.exists(f"{tool.HERE}/../../bin/cachesim-replay")
+    return (f"see {'cachesim-' * is_installed}replay -s {set_bits} -E {lines} -b {block_bits} "
             f"--set {number:x} --until {place} -t {shlex.quote(case.name)}")
 
 

@@ -6,11 +6,10 @@ from collections import namedtuple
 
 from parts.simulator import short
 
-
-class Numbered(namedtuple("Numbered", "text numbers usual matters")):
-    """Mistakes that differ by a number: what is said of them, with {} for it; the numbers, and the
-    usual ones, those of types of C, of the addresses of x86-64, of arrays; and whether a number
-    matters in a run: else it makes no difference there."""
+# mistakes that differ by a number: what is said of them, with {} for it; the numbers, and the usual
+# ones, those of types of C, of the addresses of x86-64, of arrays; and whether a number matters in
+# a run: else it makes no difference there
+Numbered = namedtuple("Numbered", "text numbers usual matters")
 
 
 def counts_of(bits, is_signed=False):

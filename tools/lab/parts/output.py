@@ -61,7 +61,7 @@ def page_of(title, picture):
     data = {"title": title, "about": str(cache), "policy": cache.repl, "sets": drawn}
     data["base"] = 10 if cache.digits == "d" else 16
     data.update(allSets=cache.sets, ways=cache.ways)
-    data.update(setBits=cache.set_bits, blockBits=cache.block_bits)
+    data.update(setBits=cache.sets.bit_length() - 1, blockBits=cache.block.bit_length() - 1)
     # what sets hold before the first step that is shown
     data["before"] = [{"set": step.set, "next": step.next,
                        "ways": [one and block_data(cache, one) for one in step.held]}

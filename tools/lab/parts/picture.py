@@ -5,12 +5,9 @@ from collections import namedtuple
 from parts.cache import number_of
 
 ACCESSES = ("read", "write", "fetch")
-
-
-class Block(namedtuple("Block", "tag since line dirty", defaults=(False,))):
-    """A block in a way of a set. It is there since the step in which it was used last, or with FIFO
-    in which it came, and in that line of the trace. The one with the least `since` is evicted
-    next."""
+# A block in a way of a set. It is there since the step in which it was used last, or with FIFO in
+# which it came, and in that line of the trace. The one with the least `since` is evicted next.
+Block = namedtuple("Block", "tag since line dirty", defaults=(False,))
 
 
 class Step:
@@ -43,9 +40,10 @@ class Picture:
         self.only = only  # the number of the one set that is shown, or None
         self.before, self.count = {}, 0  # the last steps of sets that are no longer there
 
-    def add(self, step):
-        self.count = step.number
-        self.steps.append(step)
+    def new_step(self, line, access):
+        self.count += 1
+        self.steps.append(Step(self.count, line, access))
+        return self.steps[-1]
 
     def drop_first(self):
         """Forgets the first step, but not what its set holds then."""
@@ -56,13 +54,12 @@ class Picture:
         blocks = [block for lines in self.sets.values() for block in lines]
         dirty = sum(1 for block in blocks if block and block.dirty)
         self.sets = {}
-        step = Step(self.count + 1, line, "flush")
+        step = self.new_step(line, "flush")
         step.outcome, step.written_back = "flush", dirty
-        self.add(step)
         return f"{self.cache.place} flush {dirty}"
 
     def access(self, line, access, label, address):
-        step = Step(self.count + 1, line, access)
+        step = self.new_step(line, access)
         step.address, step.is_write = address, ACCESSES[label] == "write"
         block, step.offset = divmod(address, self.cache.block)
         step.tag, step.set = divmod(block, self.cache.sets)
@@ -71,7 +68,6 @@ class Picture:
         if step.way is not None and step.is_write and self.cache.wback == "a":
             lines[step.way] = lines[step.way]._replace(dirty=True)
         step.held = tuple(lines)
-        self.add(step)
         return f"{self.cache.place} {label} {address:x} {step.outcome}{self.victim_of(step)}"
 
     def find(self, step, lines):

@@ -21,11 +21,9 @@ PIECE = 1 << 20
 def no_room(folder):
     """Why no more can be written to a folder, in words; nothing where it can. This is asked after
     each run: a program that is wrong may have had no room for what it wrote."""
-    left = bytes(PAGE)
     try:
         with tempfile.TemporaryFile(dir=folder, buffering=0) as file:
-            while left:
-                left = left[file.write(left):]
+            tool.write_all(file.fileno(), bytes(PAGE))
     except OSError as fault:
         return no_room_text(fault)
     return ""

@@ -8,12 +8,8 @@ from parts.victims import COUNTED, KEYS, PLACES
 MOST = 200000  # accesses: longer traces are not looked at
 MANY = 1 << 20  # no limit
 PART = re.compile(r"\s*(\S)?(?:\s*([0-9a-fA-F]+)(?:,([0-9]+))?)?")  # what sscanf finds in a part
-
-
-class Access(collections.namedtuple("Access", "kind address size digits")):
-    """A line of a trace. The digits are those that its address is written with."""
-
-
+# a line of a trace; the digits are those that its address is written with
+Access = collections.namedtuple("Access", "kind address size digits")
 # how a right simulator works
 RIGHT = dict(
     evicts="used",  # the block used first, or that which came first, was used last, ..
@@ -69,15 +65,10 @@ RIGHT = dict(
     tag_of=lambda address, s, b: address >> s + b,
     report=lambda hits, misses, evictions: (hits, misses, evictions),
 )
-
-
+Habits = collections.namedtuple("Habits", RIGHT, defaults=RIGHT.values())
 # the habits that change which accesses count, or what is told of the counts
 OF_ACCESSES = ("kinds", "stores", "crosses", "spread", "compared", "kept", "split", "stale",
                "taken", "report")
-
-
-class Habits(collections.namedtuple("Habits", RIGHT, defaults=RIGHT.values())):
-    """How a simulator works. As it stands it is right."""
 
 
 def short(number, bits, is_signed=False):

@@ -26,6 +26,10 @@ FILLED = {"MALLOC_PERTURB_": "165"}
 UNFILLED = ["env", "MALLOC_PERTURB_=0"]
 ZEROED = ["env", "MALLOC_PERTURB_=255"]
 APART = ["env", "GLIBC_TUNABLES=glibc.malloc.mmap_threshold=1"]
+# What a run of a student's program left: a file of its output, and its results, or None. The fault
+# is empty where it ended well. A run that was killed had no time to flush. Where there was no room
+# for what it writes, words say so, and it can't be judged as wrong.
+Run = namedtuple("Run", "fault is_slow is_killed output results no_room")
 
 
 class Case(namedtuple("Case", "cache trace name is_turned", defaults=(False,))):
@@ -39,12 +43,6 @@ class Case(namedtuple("Case", "cache trace name is_turned", defaults=(False,))):
 
     def __str__(self):
         return " ".join(self.arguments(self.name))
-
-
-class Run(namedtuple("Run", "fault is_slow is_killed output results no_room")):
-    """What a run of a student's program left: a file of its output, and its results, or None. The
-    fault is empty where it ended well. A run that was killed had no time to flush. Where there was
-    no room for what it writes, words say so, and it can't be judged as wrong."""
 
 
 class Student:

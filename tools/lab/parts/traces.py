@@ -19,11 +19,6 @@ def line(kind, address, size):
     return f"I  {address:08x},{size}\n" if kind == "I" else f" {kind} {address:08x},{size}\n"
 
 
-def by_hand():
-    for kind, block in ORDER.split():
-        yield line(kind, 0x10 + APART * (ord(block) - ord("a")), 4)
-
-
 def at_random(seed, count, bases):
     """Loads, stores and modifies, half of them at a recent address, and a fetch before every tenth
     or so. Of Python's generator only random() is used, which it promises never to change."""
@@ -56,7 +51,8 @@ def transposed(edge, source=0x4A9000, target=0x4A8000, side=32):
 
 
 def traces():
-    yield "order", by_hand()
+    yield "order", (line(kind, 0x10 + APART * (ord(block) - ord("a")), 4)
+                    for kind, block in ORDER.split())
     yield "mixed", at_random(1, 600, (0x10000, 0x14000, 0x18000))
     yield "wide", at_random(2, 300, (0x10000, 0x7F0000010000, 0x7E0000010000, 0xFFFF7F0000010000))
     yield "rows", transposed(32)

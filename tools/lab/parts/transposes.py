@@ -110,17 +110,10 @@ class Place(collections.namedtuple("Place", "a b before after")):
         return "B" if self.b <= address < self.b + BYTES else "others"
 
 
-class Result(collections.namedtuple("Result", "fault lines place", defaults=((), None))):
-    """What a function did: what is wrong with it, and where it ended well its accesses, as lines,
-    and where the data is."""
-
-    is_judged = True
-
-
-class Unjudged(Result):
-    """What it did is not known, as there was no room to say it."""
-
-    is_judged = False
+# what a function did: what is wrong with it, and where it ended well its accesses, as lines, and
+# where the data is; or, where there was no room to say it, only that it is not judged
+Result = collections.namedtuple("Result", "fault lines place is_judged",
+                                defaults=((), None, True))
 
 
 def compiled(source, folder, seconds):
@@ -206,26 +199,23 @@ def traced(program, number, size, folder, seconds):
         fault = end_of(running)
     place, *judged = report.read_text().split("\n")[:-1] or [""]
     if not judged and (no_room := private.no_room(folder)):
-        return Unjudged(f"not judged: {no_room}")
+        return Result(f"not judged: {no_room}", is_judged=False)
     if not place:
         said = shown(last_line(folder / "messages"))
         tool.fail(f"{size}: no function has begun: {fault}" + f"; {said}" * bool(said))
     if not judged:
         return Result(fault)
     place = Place(*(int(word, 16) for word in place.split()))
-    return Result(JUDGED[judged[0]], own_lines(lines, place), place)
+    # its own accesses: from the store to `before` up to that to `after`
+    at = {parts_of_line(line)[:2]: index for index, line in enumerate(lines)}
+    own = lines[at[b"S", place.before]:at[b"S", place.after] + 1]
+    return Result(JUDGED[judged[0]], own, place)
 
 
 def parts_of_line(line):
     """The kind, the address and the size of an access."""
     kind, address, size = ACCESS.fullmatch(line).groups()
     return kind, int(address, 16), int(size)
-
-
-def own_lines(lines, place):
-    """The accesses of a function: from the store to `before` up to that to `after`."""
-    at = {parts_of_line(line)[:2]: index for index, line in enumerate(lines)}
-    return lines[at[b"S", place.before]:at[b"S", place.after] + 1]
 
 
 def beyond(result, size):

@@ -1,7 +1,5 @@
 """Ways to choose the block that is evicted from a full set."""
 
-from parts import rand
-
 # the block with the least of these is evicted
 KEYS = {
     "used": lambda line: (line.used, line.place),
@@ -28,6 +26,23 @@ def oldest_of(uses, places):
     return min(places, key=uses.__getitem__, default=0)
 
 
+# The numbers of rand() in glibc without srand(): each is the sum of those 3 and 31 before it, as
+# `man 3 random` says of its default table of 31 words ("additive feedback").
+SKIPPED = 310  # numbers that are drawn and not told
+BEFORE = [1]  # words of 32 bits; the seed is 1
+while len(BEFORE) < 31:
+    BEFORE.append(16807 * BEFORE[-1] % 0x7FFFFFFF)
+BEFORE += BEFORE[:3]
+FIRST = len(BEFORE) + SKIPPED
+
+
+def drawn(at):
+    """The number that the call after so many others returns."""
+    while len(BEFORE) <= FIRST + at:
+        BEFORE.append((BEFORE[-3] + BEFORE[-31]) % (1 << 32))
+    return BEFORE[FIRST + at] >> 1
+
+
 # the place of the block that is evicted, by the last uses of a set's blocks from the first line on
 PLACES = {
     "last older than first": lambda uses: last_of(
@@ -45,5 +60,5 @@ COUNTED = {
     "accesses": lambda cache, index: cache.now(index),
     "misses": lambda cache, index: cache.misses,
     "evictions": lambda cache, index: cache.evictions + 1,
-    "rand": lambda cache, index: rand.number(cache.turn()),
+    "rand": lambda cache, index: drawn(cache.turn()),
 }

@@ -45,12 +45,10 @@ struct touched {
     uint32_t thread;  // the first
     bool by_others, is_written;
 };
-static struct numbers touched_numbers;
-static void *touched;
+static struct numbers touched = {.size = sizeof(struct touched)};  // blocks
 
 static void touch(uint64_t block, const struct access *access) {
-    uint32_t number = number_of(&touched_numbers, block, &touched, sizeof(struct touched));
-    struct touched *one = (struct touched *)touched + number;
+    struct touched *one = value_of(&touched, block);
     if (!one->thread) one->thread = access->thread;
     one->by_others |= one->thread != access->thread;
     one->is_written |= access->label == '1';
@@ -68,9 +66,9 @@ static const char *touch_line(const char *line) {
 // Writes the numbers of the blocks that a thread writes and another touches.
 static void find_shared(void) {
     take_lines(touch_line);
-    for (uint32_t i = 0; i < touched_numbers.count; i++) {
-        const struct touched *one = (const struct touched *)touched + i;
-        if (one->by_others && one->is_written) printf("%lx\n", touched_numbers.keys[i]);
+    for (uint32_t i = 0; i < touched.count; i++) {
+        const struct touched *one = (const struct touched *)touched.values + i;
+        if (one->by_others && one->is_written) printf("%lx\n", touched.keys[i]);
     }
 }
 
@@ -90,8 +88,9 @@ struct row {
     uint64_t reads, writes, true_misses, false_misses;
     uint32_t first, last;    // the bytes of the block that it touches
 };
-static struct numbers shared_numbers, sharer_numbers, row_numbers;
-static void *shareds, *sharers, *rows;
+static struct numbers shareds = {.size = sizeof(struct shared)};
+static struct numbers sharers = {.size = sizeof(struct sharer)};
+static struct numbers rows = {.size = sizeof(struct row)};
 static uint64_t moment;      // of data references, from 1 on
 
 static void read_shared(const char *path) {
@@ -99,10 +98,9 @@ static void read_shared(const char *path) {
     uint64_t block;
     if (!file) err(FAILED, "%s", path);
     while (fscanf(file, "%lx", &block) == 1) {
-        uint32_t number = number_of(&shared_numbers, block, &shareds, sizeof(struct shared));
-        struct written *bytes = calloc((size_t)1 << shift, sizeof *bytes);
-        if (!bytes) errx(FAILED, "too little memory");
-        ((struct shared *)shareds)[number].bytes = bytes;
+        struct shared *shared = value_of(&shareds, block);
+        shared->bytes = calloc((size_t)1 << shift, sizeof *shared->bytes);
+        if (!shared->bytes) errx(FAILED, "too little memory");
     }
     fclose(file);
 }
@@ -138,22 +136,20 @@ static void count_access(struct row *row, const struct access *access, uint32_t 
 // Takes what an access does to the bytes of a shared block.
 static void share(uint64_t block, const struct access *access, uint32_t first, uint32_t last) {
     uint32_t thread = access->thread;
-    uint32_t number = number_of(&shared_numbers, block, &shareds, sizeof(struct shared));
-    struct shared *shared = (struct shared *)shareds + number;
-    uint32_t own = number_of(&sharer_numbers, (uint64_t)number << 32 | thread, &sharers,
-                             sizeof(struct sharer));
-    struct sharer *sharer = (struct sharer *)sharers + own;
-    uint64_t begin = (block << shift) + first;
-    uint32_t at = number_of(&row_numbers, (uint64_t)own << 32 | cell_at(begin), &rows,
-                            sizeof(struct row));
-    struct row *row = (struct row *)rows + at;
+    uint32_t number = number_of(&shareds, block);
+    struct shared *shared = (struct shared *)shareds.values + number;
+    uint32_t own = number_of(&sharers, (uint64_t)number << 32 | thread);
+    struct sharer *sharer = (struct sharer *)sharers.values + own;
+    uint32_t cell = cell_at((block << shift) + first);
+    uint32_t at = number_of(&rows, (uint64_t)own << 32 | cell);
+    struct row *row = (struct row *)rows.values + at;
     const struct written *other = shared->last.thread == thread ? &shared->other : &shared->last;
     if (sharer->last && other->time > sharer->last) {
         row->false_misses++;
         sharer->before = sharer->last, sharer->pending = (uint64_t)at + 1;
     }
     if (sharer->pending && is_new(shared, first, last, thread, sharer->before)) {
-        struct row *missed = (struct row *)rows + sharer->pending - 1;
+        struct row *missed = (struct row *)rows.values + sharer->pending - 1;
         missed->false_misses--, missed->true_misses++;
         sharer->pending = 0;
     }
@@ -165,13 +161,13 @@ static void share(uint64_t block, const struct access *access, uint32_t first, u
 static const char *share_line(const char *line) {
     struct access access;
     const char *next = read_access(line, &access);
-    if (access.label == '2') counter = number_of_counter(access.address);
+    if (access.label == '2') counter = number_of(&counters, access.address);
     if (is_data(&access)) {
         uint64_t end = access.address + access.bytes - 1, mask = (UINT64_C(1) << shift) - 1;
         moment++;
         apply_up_to(events_before());
         for (uint64_t block = access.address >> shift; block <= end >> shift; block++)
-            if (is_known(&shared_numbers, block))
+            if (is_known(&shareds, block))
                 share(block, &access, (uint32_t)(block == access.address >> shift
                                                      ? access.address & mask : 0),
                       (uint32_t)(block == end >> shift ? end & mask : mask));
@@ -181,12 +177,11 @@ static const char *share_line(const char *line) {
 }
 
 static void write_shared(void) {
-    for (uint32_t i = 0; i < row_numbers.count; i++) {
-        const struct row *row = (const struct row *)rows + i;
-        uint64_t sharer = sharer_numbers.keys[row_numbers.keys[i] >> 32];
-        printf("shared %lx %lu %lu %u %u %lu %lu %lu %lu\n",
-               shared_numbers.keys[sharer >> 32] << shift, sharer & UINT32_MAX,
-               row_numbers.keys[i] & UINT32_MAX, row->first, row->last, row->reads, row->writes,
-               row->true_misses, row->false_misses);
+    for (uint32_t i = 0; i < rows.count; i++) {
+        const struct row *row = (const struct row *)rows.values + i;
+        uint64_t sharer = sharers.keys[rows.keys[i] >> 32];
+        printf("shared %lx %lu %lu %u %u %lu %lu %lu %lu\n", shareds.keys[sharer >> 32] << shift,
+               sharer & UINT32_MAX, rows.keys[i] & UINT32_MAX, row->first, row->last, row->reads,
+               row->writes, row->true_misses, row->false_misses);
     }
 }

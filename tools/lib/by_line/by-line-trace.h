@@ -12,7 +12,7 @@ static uint64_t fetched = UINT64_MAX;  // of the last fetch; at first that of no
 static uint32_t counter_fetched;       // its number, or UNKNOWN
 
 static void hand(uint64_t address) {
-    if (counter_fetched == UNKNOWN) counter_fetched = number_of_counter(fetched);
+    if (counter_fetched == UNKNOWN) counter_fetched = number_of(&counters, fetched);
     push(&handed, (struct reference){address, counter_fetched, events_before(), false});
 }
 

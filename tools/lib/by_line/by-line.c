@@ -74,18 +74,14 @@ struct counter {              // the cell of a program counter's last reference,
     uint32_t cell;
 };
 struct cell { uint64_t references, misses, compulsory, capacity; };
-static struct numbers counter_numbers, cell_numbers;
-static void *counters, *cells;
+static struct numbers counters = {.size = sizeof(struct counter)};
+static struct numbers cells = {.size = sizeof(struct cell)};
 static uint32_t counter;      // that of the last reference; 0 stands for none
 
-static struct cell *cell_of(uint32_t number) { return (struct cell *)cells + number; }
-
-static uint32_t number_of_counter(uint64_t address) {
-    return number_of(&counter_numbers, address, &counters, sizeof(struct counter));
-}
+static struct cell *cell_of(uint32_t number) { return (struct cell *)cells.values + number; }
 
 static uint32_t cell_at(uint64_t address) {
-    struct counter *present = (struct counter *)counters + counter;
+    struct counter *present = (struct counter *)counters.values + counter;
     if (present->from <= address && address < present->to) return present->cell;
     uint32_t place = objects_up_to(address);
     bool is_in_one = place && address < objects[place - 1].to;
@@ -95,7 +91,7 @@ static uint32_t cell_at(uint64_t address) {
     if (!is_in_one) place = event_count ? object_count + 1 + site_at(address) : 0;
     if (!is_in_one && event_count) present->to = 0;  // something else may come to be there
     uint64_t key = (uint64_t)counter << 32 | place;
-    return present->cell = number_of(&cell_numbers, key, &cells, sizeof(struct cell));
+    return present->cell = number_of(&cells, key);
 }
 
 // ---- Blocks, and who evicted them
@@ -104,18 +100,13 @@ struct block {
     uint32_t seen;     // the number of the flush, from 1 on, after which it was referenced
     uint32_t evicted;  // the cell that evicted it and 1, or 0
 };
-static struct numbers block_numbers, pair_numbers;
-static void *blocks, *pairs;
+static struct numbers blocks = {.size = sizeof(struct block)};
+static struct numbers pairs = {.size = sizeof(uint64_t)};  // of cells: the misses
 static uint32_t flushes = 1;
-
-static struct block *block_at(uint64_t block) {
-    uint32_t number = number_of(&block_numbers, block, &blocks, sizeof(struct block));
-    return (struct block *)blocks + number;
-}
 
 // Counts a miss, and returns whether it is the first reference to the block.
 static bool count_miss(uint32_t cell, uint64_t address) {
-    struct block *block = block_at(address);
+    struct block *block = value_of(&blocks, address);
     struct cell *counts = cell_of(cell);
     bool is_first = block->seen != flushes;
     counts->misses++;
@@ -123,9 +114,8 @@ static bool count_miss(uint32_t cell, uint64_t address) {
         counts->compulsory++;
         block->evicted = 0;  // before a flush, where there was one
     } else if (block->evicted) {  // perhaps as at the miss before: a write may bring no block in
-        uint64_t key = (uint64_t)cell << 32 | (block->evicted - 1);
-        uint32_t pair = number_of(&pair_numbers, key, &pairs, sizeof(uint64_t));
-        ((uint64_t *)pairs)[pair]++;
+        uint64_t *misses = value_of(&pairs, (uint64_t)cell << 32 | (block->evicted - 1));
+        ++*misses;
     }
     block->seen = flushes;
     return is_first;
@@ -196,7 +186,10 @@ static void take_arrival(bool is_full, const struct log_line *line, uint64_t wan
     uint32_t cell = cell_at(wanted);
     cell_of(cell)->references++;
     if (line->misses) is_first = count_miss(cell, line->address >> shift);
-    if (line->evicts) block_at(line->evicted >> shift)->evicted = cell + 1;
+    if (line->evicts) {
+        struct block *evicted = value_of(&blocks, line->evicted >> shift);
+        evicted->evicted = cell + 1;
+    }
     // what misses in the fully associative cache counts there, also where this one hits
     if (log_count > 1) meet(false, (struct reference){line->address, cell, 0, !is_first});
     else if (line->misses && !is_first) cell_of(cell)->capacity++;
@@ -282,20 +275,20 @@ static void work(void) {
 // ---- The whole
 
 static void write_cells(void) {
-    for (uint32_t i = 0; i < cell_numbers.count; i++) {
+    for (uint32_t i = 0; i < cells.count; i++) {
         const struct cell *cell = cell_of(i);
-        uint32_t own = (uint32_t)(cell_numbers.keys[i] >> 32);
-        if (own) printf("cell %lx", counter_numbers.keys[own]);
+        uint32_t own = (uint32_t)(cells.keys[i] >> 32);
+        if (own) printf("cell %lx", counters.keys[own]);
         else printf("cell -");
-        printf(" %d %lu %lu %lu %lu\n", (int)(uint32_t)cell_numbers.keys[i] - 1, cell->references,
+        printf(" %d %lu %lu %lu %lu\n", (int)(uint32_t)cells.keys[i] - 1, cell->references,
                cell->misses, cell->compulsory, cell->capacity);
     }
 }
 
 static void write_evictions(void) {
-    for (uint32_t i = 0; i < pair_numbers.count; i++)
-        printf("evicted %lu %lu %lu\n", pair_numbers.keys[i] >> 32,
-               pair_numbers.keys[i] & UINT32_MAX, ((uint64_t *)pairs)[i]);
+    for (uint32_t i = 0; i < pairs.count; i++)
+        printf("evicted %lu %lu %lu\n", pairs.keys[i] >> 32, pairs.keys[i] & UINT32_MAX,
+               ((uint64_t *)pairs.values)[i]);
 }
 
 static void end_answer(void) {
@@ -339,7 +332,7 @@ int main(int count, char **words) {
     if (!is_first_pass && !is_second_pass && count < 9)
         errx(FAILED, "this is the inner half of by-line");
     signal(SIGPIPE, SIG_IGN);
-    number_of_counter(fetched);  // number 0, with an address of no instruction
+    number_of(&counters, fetched);  // number 0, with an address of no instruction
     if (is_first_pass) shift = (unsigned)atoi(words[2]), find_shared();
     else if (is_second_pass) count_sharing(words + 2);
     else count_misses(words + 1, count - 1);

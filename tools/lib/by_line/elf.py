@@ -7,6 +7,7 @@ import functools
 import io
 import os
 import re
+from collections import namedtuple
 
 from lib import regular, tool
 from lib.by_line.binutils import (debug_file, line_finder, links_of, mended, output_of,
@@ -30,31 +31,21 @@ UNIT = re.compile(r"\.\w+-cgu\.\d+$")
 STACKS = [(0x1FFE000000, 0x2000000000), (0x7FF000000000, 0x800000000000)]
 
 
-class Range(collections.namedtuple("Range", "start end name")):
-    """Addresses from `start` to before `end`, and what is there."""
-
-
-class Symbol(collections.namedtuple("Symbol", "place kind source")):
-    """What has a name in a program; the letter of nm for its kind; and the source file of what only
-    this file knows, else nothing."""
-
-
-class Function(collections.namedtuple("Function", "name program file source is_one",
-                                      defaults=(None, None, "", True))):
-    """A function. Its file is None where there are no lines; then `source` is the name of the file,
-    if the symbols of the program have it. Code without a function has a name in brackets; outside
-    of all programs, the program is None."""
-
-
-class Line(collections.namedtuple("Line", "file number", defaults=(None, 0))):
-    """A line of a source file, which is None where it isn't known."""
-
-
-class Code(collections.namedtuple("Code", "function lines")):
-    """The function that has an instruction; the line in it, and then those of functions that are
-    inlined there."""
-
-
+# addresses from `start` to before `end`, and what is there
+Range = namedtuple("Range", "start end name")
+# what has a name in a program; the letter of nm for its kind; and the source file of what only this
+# file knows, else nothing
+Symbol = namedtuple("Symbol", "place kind source")
+# A function. Its file is None where there are no lines; then `source` is the name of the file, if
+# the symbols of the program have it. Code without a function has a name in brackets; outside of all
+# programs, the program is None.
+Function = namedtuple("Function", "name program file source is_one",
+                      defaults=(None, None, "", True))
+# a line of a source file, which is None where it isn't known
+Line = namedtuple("Line", "file number", defaults=(None, 0))
+# the function that has an instruction; the line in it, and then those of functions that are inlined
+# there
+Code = namedtuple("Code", "function lines")
 NOWHERE = Code(Function("?"), [Line()])
 
 

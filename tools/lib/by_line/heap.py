@@ -75,14 +75,11 @@ class Heap:
         stacks = [[back - 1 for back in stack]
                   for stack in tail_calls.completed(of_program, stacks)]
         codes = functions(layout, {address for stack in stacks for address in stack})
-        return [*([named(name)] for name in KINDS.values()),
+        # what has no line and is no function
+        return [*([elf.Code(elf.Function(name, is_one=False), [elf.Line()])]
+                  for name in KINDS.values()),
                 *(site([code for at in stack for code in codes.get(at, ())], own, asked)
                   for stack in stacks)]
-
-
-def named(name):
-    """What has no line and is no function."""
-    return elf.Code(elf.Function(name, is_one=False), [elf.Line()])
 
 
 def functions(layout, addresses):
@@ -117,8 +114,7 @@ def site(codes, own, asked):
     with_lines = [code for code in callers
                   if code.lines[0].file and not FOREIGN.match(code.lines[0].file)
                   and not is_skipped(code.lines[0].file, asked)]
-    nothing = elf.Code(elf.Function("?"), [elf.Line()])
-    found = with_lines or callers or of_program or codes or [nothing]
+    found = with_lines or callers or of_program or codes or [elf.NOWHERE]
     # one that calls itself is there once
     different = [code for at, code in enumerate(found) if at == 0 or code != found[at - 1]]
     return different[:1 + asked.callers]

@@ -1,12 +1,11 @@
 """The tables of by-line, with the names of what was counted."""
 
-from lib import regular, streams, tool
+from lib import regular, tool
 from lib.by_line import binutils, elf
+from lib.text_table import csv_lines
 
 import collections
-import csv
 import functools
-import io
 import os
 
 COUNTS = ("references", "misses", "compulsory", "capacity", "conflict")
@@ -15,11 +14,9 @@ SHARING = "first-byte", "last-byte", "reads", "writes", "true-sharing", "false-s
 MOST_INLINED = 8
 LARGEST_SOURCE = 64 << 20
 NO_FETCH = elf.Code(elf.Function("(no fetch before it)", is_one=False), [elf.Line()])
-
-
-class Cell(collections.namedtuple("Cell", "code object counts site", defaults=((),))):
-    """What was counted for an instruction and an object, or for a site of the heap, which is the
-    code that allocates, and then that of its callers."""
+# what was counted for an instruction and an object, or for a site of the heap, which is the code
+# that allocates, and then that of its callers
+Cell = collections.namedtuple("Cell", "code object counts site", defaults=((),))
 
 
 class Names:
@@ -39,41 +36,33 @@ class Names:
             self.names.update((path, name) for path, name in names.items() if often[name] == 1)
             paths = {path for path in paths if path not in self.names}
         self.functions = {function: function.name for function in functions}
-        for tell_apart in (self.with_file, self.with_program):
+        for has_program in (False, True):
             often = collections.Counter(self.functions.values())
-            self.functions.update((function, tell_apart(function))
+            self.functions.update((function, self.told_apart(function, has_program))
                                   for function, name in self.functions.items()
                                   if often[name] > 1 and function.is_one)
 
-    def with_file(self, function):
-        file = self.names[function.file] if function.file else function.source
-        return f"{function.name} ({file})" if file else self.with_program(function)
-
-    def with_program(self, function):
+    def told_apart(self, function, has_program):
         file = self.names[function.file] if function.file else function.source
         program = os.path.basename(function.program)
-        return f"{function.name} ({file} of {program})" if file else f"{function.name} ({program})"
-
-    def function(self, code):
-        return self.functions[code.function]
+        place = program if not file else f"{file} of {program}" if has_program else file
+        return f"{function.name} ({place})"
 
     def line(self, line):
         return f"{self.names[line.file]}:{line.number}"
 
-    @staticmethod
-    def cut(lines):
-        """The lines of functions inlined in one another, without the middle ones of many."""
-        half = MOST_INLINED // 2
-        return lines if len(lines) <= MOST_INLINED else [*lines[:half], "..", *lines[-half:]]
-
     def place(self, code):
-        """The line of an instruction, those of what is inlined there, and the function."""
+        """The line of an instruction, those of what is inlined there, without the middle ones of
+        many, and the function."""
         outer, *others = code.lines
-        function = self.function(code)
+        function = self.functions[code.function]
         line = f"({function})" if code.function.is_one else function
         line = self.line(outer) if outer.file else line
         inlined = [self.line(line) if line.file else "?" for line in others]
-        return line, " ".join(self.cut(inlined)), function
+        half = MOST_INLINED // 2
+        if len(inlined) > MOST_INLINED:
+            inlined[half:-half] = [".."]
+        return line, " ".join(inlined), function
 
     def columns(self, cell, by):
         """What tells a row from others, in its columns."""
@@ -196,7 +185,7 @@ def in_callgrind_format(asked, cells):
     for cell in cells:
         function, inner = cell.code.function, [line for line in cell.code.lines if line.file]
         is_alone = often[function.file, function.name] == 1
-        name = function.name if is_alone else names.function(cell.code)
+        name = function.name if is_alone else names.functions[function]
         line = inner[-1] if inner else elf.Line()
         program = os.path.abspath(function.program) if function.program else "???"
         key = program, function.file or "???", name, line.file or "???", line.number
@@ -254,13 +243,6 @@ def warn_of_unknown(cells):
                   "or --base")
 
 
-def lines_of(rows):
-    """Rows as lines of CSV."""
-    text = io.StringIO()
-    csv.writer(text, lineterminator="\n").writerows(rows)
-    return text.getvalue().split("\n")[:-1]
-
-
 def report(asked, text, objects, layout, heap):
     cells, pairs = read_counts(asked, text, objects, layout, heap)
     asked.spare({line.file for cell in cells for line in cell.code.lines if line.file})
@@ -276,10 +258,10 @@ def report(asked, text, objects, layout, heap):
     if asked.callgrind or "line" in asked.by:
         warn_of_lines(cells)
     if asked.shared:
-        lines = lines_of(table_of_sharing(asked, cells, text))
+        rows = table_of_sharing(asked, cells, text)
     elif asked.evicted_by:
-        lines = lines_of(table_of_evictions(asked, cells, pairs))
+        rows = table_of_evictions(asked, cells, pairs)
     else:
-        lines = lines_of(table(asked, cells))
-    text = "".join(f"{line}\n" for line in lines)
-    streams.write_out([text.encode(*elf.ANY_TEXT.values())], "standard output: ")
+        rows = table(asked, cells)
+    text = "".join(f"{line}\n" for line in csv_lines(rows))
+    tool.write_out([text.encode(*elf.ANY_TEXT.values())], "standard output: ")

@@ -1,9 +1,9 @@
 """The functions that a stack lacks: one that ends by a call of another leaves no frame, if the
 compiler makes that a jump. The debug information tells of each call which function it is of."""
 
-import collections
 import re
 import shutil
+from collections import namedtuple
 
 from lib.by_line.binutils import output_of
 
@@ -14,27 +14,16 @@ NAME = re.compile(r"DW_AT_(?:(?:linkage_)?name\t\(|(?:specification|abstract_ori
                   r"\"(.*)\"\)")
 SYMBOL = re.compile(r"([0-9a-f]+) [tTwWi] (\S+)")
 ROUNDS = 8  # functions that end by calls of one another, at most
-
-
-class Call(collections.namedtuple("Call", "back origin is_tail")):
-    """A call: where it returns to, the entry of the function that it is of, and whether that
-    returns for the one that calls."""
-
-
-class Body(collections.namedtuple("Body", "start entries names calls")):
-    """The code of a function: where it begins, the entries that stand for it, its names, and its
-    calls."""
+# a call: where it returns to, the entry of the function that it is of, and whether that returns for
+# the one that calls
+Call = namedtuple("Call", "back origin is_tail")
+# the code of a function: where it begins, the entries that stand for it, its names, and its calls
+Body = namedtuple("Body", "start entries names calls")
 
 
 def number(kind, text):
     found = re.search(NUMBER.format(kind), text)
     return int(found[1], 16) if found else None
-
-
-def call_of(text):
-    back = number("call_return_pc|call_pc|low_pc", text)
-    origin = number("call_origin|abstract_origin", text)
-    return Call(back, origin, "tail_call" in text) if None not in (back, origin) else None
 
 
 class Calls:
@@ -63,7 +52,9 @@ class Calls:
                 names = set(NAME.findall(rest))
                 body = start and self.bodies.setdefault(start, Body(start, entries, names, []))
             elif body and kind in ("call_site", "GNU_call_site"):
-                body.calls.append(call_of(rest))
+                call = Call(number("call_return_pc|call_pc|low_pc", rest),
+                            number("call_origin|abstract_origin", rest), "tail_call" in rest)
+                body.calls.extend([call] * (None not in call))
 
     def bodies_of(self, entry):
         """Those of the function for which an entry stands, which is read if it was not."""
@@ -80,7 +71,7 @@ class Calls:
         first: it stands in the function that begins at `caller`, and the one that begins at `inner`
         has the next frame."""
         body, found = self.bodies.get(caller), []
-        calls = [call for call in body.calls if call and call.back == back] if body else []
+        calls = [call for call in body.calls if call.back == back] if body else []
         for _ in range(ROUNDS):
             called = self.bodies_of(calls[0].origin) if len(calls) == 1 else []
             is_there = inner in {each.start for each in called} or (
@@ -88,7 +79,7 @@ class Calls:
                     name for each in called for name in each.names})
             if len(called) != 1 or is_there:
                 break
-            calls = [call for call in called[0].calls if call and call.is_tail]
+            calls = [call for call in called[0].calls if call.is_tail]
             found.insert(0, calls[0].back if len(calls) == 1 else called[0].start + 1)
         return found
 

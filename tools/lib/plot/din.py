@@ -59,15 +59,15 @@ def measure_of(views):
     return Measure(f"{name} in per cent", f"{name[0].upper()}{name[1:]}")
 
 
-def value_text(option, value, has_caches):
-    """A value as a legend has it, with its cache where there are several."""
-    word = kind(option)
-    text = WORDS[word].get(value, value) if word in WORDS else TEXTS[word](int(value))
-    return f"{cache(option)} {text}" if has_caches else text
-
-
 def label(pairs, has_caches):
-    return ", ".join(value_text(*pair, has_caches) for pair in pairs if pair[1])
+    """Options with their values as a legend has them, with their caches where there are several."""
+    texts = []
+    for option, value in pairs:
+        word = kind(option)
+        if value:
+            text = WORDS[word].get(value, value) if word in WORDS else TEXTS[word](int(value))
+            texts.append(f"{cache(option)} {text}" if has_caches else text)
+    return ", ".join(texts)
 
 
 def told(table, lines, has_caches, case):

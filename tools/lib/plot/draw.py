@@ -4,7 +4,7 @@ import os
 from collections import namedtuple
 
 from lib import costs, files, table, tool
-from lib.plot import din, kinds, pictures, sweep, text
+from lib.plot import din, pictures, sweep, text
 
 LONGEST = 24  # letters of a table's name in the legend
 
@@ -52,25 +52,14 @@ def of_sweeps(asked, tables):
         tool.fail(f"several tables have the pictures size, curve, pareto, and not {asked.only}")
     if asked.only in OWN and costs.column_of(asked) != "misses":
         tool.fail(f"--only {asked.only} draws {OWN[asked.only]}, and no other measure")
-    if asked.only in kinds.MEASURES:
-        picture, offered, rows = kinds.drawn(asked, tables[0])
-        drawn, measure = [picture], kinds.MEASURES[asked.only]
-    else:
-        measure, offered = sweep.measure_of(asked), None
-        sweeps = sweep.Sweeps(asked, [sweep.with_rows(asked, one) for one in tables], measure)
-        drawn, rows = sweep.drawn(sweeps), sweeps.rows
+    sweeps = sweep.Sweeps(asked, [sweep.with_rows(asked, one) for one in tables],
+                          sweep.measure_of(asked))
+    drawn, rows = sweep.drawn(sweeps), sweeps.rows
     if len(tables) == 1 and not rows[0].references:
         asked.title = f"{asked.title} (no references)".strip()
     counts = pictures.counted(len(rows), "cache", "{:,}".format)
-    return Drawn(drawn, measure, f"{counts}, {rows[0].references:,} references",
-                 lambda picture: offered or sweep.choices(sweeps, picture))
-
-
-def of_dins(asked, tables):
-    """The picture of tables of din."""
-    costs.refuse_din(asked)
-    picture, measure, counts = din.drawn(asked, tables)
-    return Drawn([picture], measure, counts, lambda _: {picture.fixed: picture})
+    return Drawn(drawn, sweeps.measure, f"{counts}, {rows[0].references:,} references",
+                 lambda picture: sweep.choices(sweeps, picture))
 
 
 def drawn_of(asked):
@@ -81,7 +70,11 @@ def drawn_of(asked):
     if len(are_din) > 1:
         tool.fail("tables of sweeps and of din have no picture in common")
     try:
-        return (of_dins if are_din.pop() else of_sweeps)(asked, tables)
+        if not are_din.pop():
+            return of_sweeps(asked, tables)
+        costs.refuse_din(asked)
+        picture, measure, counts = din.drawn(asked, tables)
+        return Drawn([picture], measure, counts, lambda _: {picture.fixed: picture})
     except table.BadTable as fault:
         tool.fail(str(fault))
 

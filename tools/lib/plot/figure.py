@@ -120,9 +120,6 @@ class Canvas:
         return words if self.ending != ".pgf" else re.sub(
             ".", lambda found: LATEX.get(found[0], found[0]), words)
 
-    def lay_out(self):
-        self.figure.get_layout_engine().execute(self.figure)
-
 
 def draw_line(canvas, axes, number, line, colour):
     """A line with its marks, and the bars from the least to the greatest of several seeds."""
@@ -234,7 +231,8 @@ def figure_of(drawn, asked):
         set_axis(axes, "x", across)
         set_axis(axes, "y", up)
         add_legend(canvas, axes, picture, columns, named)
-    canvas.lay_out()
+    layout = canvas.figure.get_layout_engine()
+    layout.execute(canvas.figure)
     boxes = [axes.get_window_extent() for _, _, axes, _ in places]
     em = canvas.em * canvas.unit
     up = pictures.value_axis(drawn.pictures, drawn.measure,
@@ -242,7 +240,7 @@ def figure_of(drawn, asked):
     for (picture, _, axes, _), box in zip(places, boxes):
         set_axis(axes, "x", pictures.size_axis(picture, 5.5 * LETTER * em / box.width))
         set_axis(axes, "y", up)
-    canvas.lay_out()
+    layout.execute(canvas.figure)
     for picture, _, axes, _ in places:
         label_front(canvas, axes, picture, up)
     if asked.ending != ".pgf":  # in which LaTeX says how broad a text is

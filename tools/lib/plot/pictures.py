@@ -18,11 +18,9 @@ STACK = ("#feedde", "#fdbe85", "#fd8d3c", "#d94701", "#8c2d04", "#6baed6", "#083
 GREYS = ("#f4f4f4", "#dcdcdc", "#c0c0c0", "#a2a2a2", "#848484", "#606060", "#202020")
 CELLS = {"curve": (1000, 500), "dots": (400, 200)}  # columns and rows of what can be seen
 PALE, FRONT, BLACK = "#bbbbbb", "#d55e00", "#000000"
-
-
-class Point(namedtuple("Point", "x y told ends", defaults=((),))):
-    """A cache in a picture: its place, ends over several seeds, and a function of what is said of
-    it and its label, which few of a million are asked for."""
+# a cache in a picture: its place, ends over several seeds, and a function of what is said of it and
+# its label, which few of a million are asked for
+Point = namedtuple("Point", "x y told ends", defaults=((),))
 
 
 class Line(namedtuple("Line", "name points style", defaults=("marks",))):

@@ -5,7 +5,7 @@ import functools
 from collections import namedtuple
 
 from lib import costs, table
-from lib.plot import pictures
+from lib.plot import kinds, pictures
 from lib.plot.pictures import (Line, Measure, Picture, Point, bytes_text, counted, handful,
                                is_broad, short, ways_text)
 from lib.tool import MOST, fail
@@ -83,7 +83,9 @@ def judge(rows, name):
 
 def with_rows(asked, given):
     """A table with its rows, which are of one sweep."""
-    if asked.only == "traffic":
+    if asked.only in kinds.COLUMNS:
+        rows = kinds.rows_of(given, kinds.COLUMNS[asked.only])
+    elif asked.only == "traffic":
         rows = [row._replace(value=row.bsize * (row.misses + row.value), is_count=False)
                 for row in table.read_table(given.lines, given.shown, "copybacks")]
     else:
@@ -95,6 +97,8 @@ def with_rows(asked, given):
 def measure_of(asked):
     """How the measure is called. It is drawn in per cent of the references where it counts some."""
     column = costs.column_of(asked)
+    if asked.only in kinds.MEASURES:
+        return kinds.MEASURES[asked.only]
     if asked.only == "traffic":
         return BOTH_WAYS
     if column == "misses":
@@ -190,7 +194,7 @@ def by_front(sweeps, _=None):
 
 
 MADE = {"size": by_size, "curve": by_ways, "block": by_block, "pareto": by_front,
-        "traffic": by_traffic}
+        "traffic": by_traffic, "three-c": kinds.three_c, "kinds": kinds.of_references}
 
 
 def drawn(sweeps):
@@ -204,15 +208,15 @@ def drawn(sweeps):
     if sweeps.asked.only or not sweeps.is_one:
         return [MADE[sweeps.asked.only or first](sweeps)]
     usual = [MADE[name](sweeps) for name in (first, "block", "pareto")]
-    is_page = sweeps.asked.ending == ".html"
-    return [each for each in usual if any(
-        map(is_broad, choices(sweeps, each).values() if is_page else [each]))] or usual[:1]
+    return [each for each in usual
+            if any(map(is_broad, choices(sweeps, each).values()))] or usual[:1]
 
 
 def choices(sweeps, picture):
-    """The pictures that may be chosen instead of one: by what they fix."""
-    if not sweeps.is_one or not picture.fixed:
+    """The pictures that may be chosen in a page instead of one: by what they fix."""
+    if sweeps.asked.ending != ".html" or not sweeps.is_one or not picture.fixed:
         return {picture.fixed: picture}
     column = "assoc" if picture.name in ("block", "traffic") else "bsize"
     values = handful((getattr(row, column) for row in sweeps.rows), MOST_CHOICES)
-    return {value: MADE[picture.name](sweeps, value) for value in sorted({*values, picture.fixed})}
+    made = [MADE[picture.name](sweeps, value) for value in sorted({*values, picture.fixed})]
+    return {each.fixed: each for each in made if each.points}

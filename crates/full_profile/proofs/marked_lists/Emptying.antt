@@ -3,7 +3,6 @@ use Rattle.std.proofs.Common.{◌≡◌, ℕ, zero, suc, ◌<◌, ◌≤◌, Lis
 use Rattle.std.proofs.Common.{get_or, set, refl, sym, ◌∙◌, ap, subst, arith, inl, inr}
 use Rattle.std.proofs.Common.{length-set, get_or-set_same, get_or-set_other}
 use Rattle.std.specs.Prelude.{replicate}
-use Rattle.std.specs.List.{sum_by}
 use Rattle.std.proofs.lemmas.Bool.{cases_eq, cases_lt}
 use Rattle.std.proofs.lemmas.List.Sums.{sum_by-set}
 use Rattle.cache_core.specs.Touched.{ListsFilled}
@@ -60,9 +59,6 @@ module _ {e : Emptying} {was : Marked} {c : CopiesValue} {now : Marked} {d : Cop
     (left : IsLeft e was c now d) (k : ℕ) (lt : k < length now.blocks) where
   among_cleans : k < length now.cleans
   among_cleans = omega (arith, lt, left.alike.set_count)
-
-  pub few_cleans : length (cleans_in now k) ≤ sum_by length now.cleans
-  few_cleans = omega (arith, sum_by-set length now.cleans k [] [] among_cleans)
 
   pub one_emptied : AreAlike (without_list now k)
   one_emptied = record {

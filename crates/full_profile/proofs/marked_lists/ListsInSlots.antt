@@ -193,18 +193,6 @@ module _ {d k : ℕ} {fronts cleans : List ℕ} {lists : List ListSlots} {m : Ma
       (get_or-set_other cleans k j x 0 other)))
       ∙ ap (λ (v : Marked). record v { cleans = set v.cleans k (set (cleans_in m k) 0 x) }) h.seen
 
-  pub clean_sound : (x : ℕ) → AreSlotted d fronts (set cleans k x) lists
-  clean_sound x = record {
-    two = h.sound.two;
-    most = h.sound.most;
-    few = h.sound.few;
-    fronts_len = h.sound.fronts_len;
-    cleans_len = length-set cleans k x ∙ h.sound.cleans_len;
-    sound = h.sound.sound;
-    short = h.sound.short;
-    blank = h.sound.blank;
-  }
-
   -- a list written anew, with its front
   module _ (front clean : ℕ) (l : ListSlots) (sound : IsInSlots l) (short : l.len ≤ d)
       (blank : l.len ≡ 0 → front ≡ 0) where

@@ -8,8 +8,8 @@ use Rattle.std.proofs.Common.{length-append, length-set, get_or-set_same, get_or
 use Rattle.std.proofs.Common.{inr}
 use Rattle.std.specs.List.{remove}
 use Rattle.std.specs.Prelude.{replicate}
-use Rattle.std.proofs.lemmas.Bool.{cases_eq, cases_lt}
-use Rattle.std.proofs.lemmas.List.{length-replicate, get_or-replicate, get_or_past, take-take}
+use Rattle.std.proofs.lemmas.Bool.{cases_eq}
+use Rattle.std.proofs.lemmas.List.{length-replicate, get_or-replicate, take-take}
 use Rattle.std.proofs.lemmas.List.{get_or_read}
 use Rattle.std.proofs.lemmas.List.{take_all}
 use Rattle.trace_core.specs.declared.events.Access.{Access}
@@ -19,7 +19,7 @@ use Rattle.profile_core.specs.internal.set_lists.LongLists.{whole_lists, nothing
 use Rattle.profile_core.specs.internal.set_lists.LongLists.{empty_deep}
 use Rattle.profile_core.proofs.Elements.{all_set}
 use Rattle.profile_core.proofs.LongListLemmas.{HasWhole, within, within_far}
-use Rattle.profile_core.proofs.LongListLemmas.{list_is, joined-set, joined_at}
+use Rattle.profile_core.proofs.LongListLemmas.{list_is, joined-set}
 use Rattle.profile_core.proofs.LongListLemmas.{length-joined, joined_empty, empty_list}
 use Rattle.profile_core.proofs.LongListLemmas.{empty_rest, split_none}
 use Rattle.full_profile.specs.State.{clean_in_front}
@@ -301,37 +301,6 @@ module _ (near : Marked) (sets beyond : ℕ) (far : List (Deep ℕ))
       (joined_empty sets none (empty_rest ℕ sets beyond))
       ∙ ap (made (replicate sets [])) (cleans_empty sets none (empty_values sets beyond))
       ∙ ap (empty_marked sets) is
-
-length-cleans : (near : List (List ℕ)) (far : List (Deep ℕ)) →
-    length (whole_cleans near far) ≡ length near
-length-cleans [] far = refl
-length-cleans (xs ∷ near) [] = refl
-length-cleans (xs ∷ near) (d ∷ far) = ap suc (length-cleans near far)
-
--- as many clean depths as blocks
-pub whole_alike : {near : Marked} {beyond : ℕ} {far : List (Deep ℕ)} → InParts near beyond far →
-    AreAlike (whole_marked near beyond far)
-whole_alike {near} {beyond} {far} s = record {
-  set_count = length-cleans near.cleans far ∙ s.alike.set_count
-      ∙ sym (length-joined near.blocks far);
-  same_lengths = λ k. elim (cases_lt k (length near.blocks)) [
-    | inl lt ↦
-        let in_cleans : k < length near.cleans = omega (arith, lt, s.alike.set_count) in
-        omega (
-          arith,
-          ap length (cleans_at near.cleans far k in_cleans),
-          ap length (joined_at near.blocks far k lt),
-          length-append (cleans_in near k) (values_of far k),
-          length-append (blocks_in near k) (rest_of far k),
-          s.alike.same_lengths k,
-          s.beside k,
-        )
-    | inr le ↦ ap length (get_or_past (whole_cleans near.cleans far) k []
-        (omega (arith, le, length-cleans near.cleans far, s.alike.set_count)))
-        ∙ sym (ap length (get_or_past (whole_lists near.blocks far) k []
-        (omega (arith, le, length-joined near.blocks far))))
-  ];
-}
 
 pub whole_count : {near : Marked} {beyond : ℕ} {far : List (Deep ℕ)} → InParts near beyond far →
     length (whole_lists near.blocks far) ≡ length far

@@ -115,6 +115,38 @@ impl<L: MarkedLists> FullStackProfile<L> {
         fed
     }
 
+    /// Feeds references to two profiles: to the second only those that are not settled in the
+    /// first. The references that are settled in neither are moved to the front of `refs`, in
+    /// order; returns how many they are. One loop feeds both, since where a reference finds its
+    /// block in one predicts where it does in the next.
+    #[inline(never)]
+    pub fn feed_each_to_two(&mut self, next: &mut FullStackProfile<L>, refs: &mut [Ref]) -> usize
+        requires few { fed_of self.old.plain + length refs.old ≤ MAX_REFERENCES }
+        requires next_few { fed_of next.old.plain + length refs.old ≤ MAX_REFERENCES }
+        ensures step { self.new ≡ after_full_batch self.old refs.old }
+        ensures more { fed_of self.new.plain
+            ≡ fed_of self.old.plain + length (unsettled self.old refs.old) }
+        ensures at_most { fed_of self.new.plain ≤ fed_of self.old.plain + length refs.old }
+        ensures next_step { next.new ≡ after_full_batch next.old (unsettled self.old refs.old) }
+        ensures next_more { fed_of next.new.plain ≡ fed_of next.old.plain + result }
+        ensures fed { take result refs.new
+            ≡ unsettled next.old (unsettled self.old refs.old) }
+        ensures within { result ≤ length refs.new }
+        ensures length { length refs.new ≡ length refs.old }
+    {
+        let mut left = 0;
+        for at in 0..refs.len() {
+            let r = refs[at];
+            if !self.feed_unless_settled(r) {
+                if !next.feed_unless_settled(r) {
+                    refs[left] = r;
+                    left += 1;
+                }
+            }
+        }
+        left
+    }
+
     /// Feeds one reference, unless it is settled. Returns whether it is.
     #[inline(always)]
     fn feed_unless_settled(&mut self, r: Ref) -> bool

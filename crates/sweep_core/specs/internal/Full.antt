@@ -1,7 +1,7 @@
 -- The profiles of a full sweep, and the references that wait to be fed to them.
 use Rattle.std.specs.Prelude.{◌≡◌, ℕ, ◌≤◌, ◌+◌, ◌-◌, ◌/◌, ◌^◌, ◌==◌, ◌&&◌, ◌||◌, not, nat_lt, min}
 use Rattle.std.specs.Prelude.{Bool, if◌then◌else◌, List, [], ◌∷◌, ◌++◌, length, map, flat_map, fold}
-use Rattle.std.specs.Prelude.{slice_index_or}
+use Rattle.std.specs.Prelude.{slice_index_or, slice_set, false}
 use Rattle.std.specs.List.{AllByRecursion}
 use Rattle.trace_core.specs.declared.events.Access.TheVariants.{Read}
 use Rattle.trace_core.specs.declared.events.Event.{Event}
@@ -16,7 +16,8 @@ use Rattle.cache_core.specs.Geometry.{IsGeometry}
 use Rattle.profile_core.specs.profile.State.{fed_of}
 use Rattle.full_profile.specs.State.{empty_full, after_full_event, after_full_flush, after_end}
 use Rattle.full_profile.specs.State.{full_after}
-use Rattle.full_profile.specs.Batches.{after_full_batch, with_settled, IsLagging}
+use Rattle.profile_core.specs.profile.Fronts.{is_refined}
+use Rattle.full_profile.specs.Batches.{after_full_batch, with_settled, IsLagging, unsettled}
 use Rattle.sweep_core.specs.declared.space.Config.{Config}
 use Rattle.sweep_core.specs.declared.request.Request.{Request}
 use Rattle.sweep_core.specs.declared.full.profiles.FullPair.{FullPair}
@@ -31,6 +32,25 @@ full_pair_fed refs x = record x { profile = after_full_batch x.profile refs }
 
 abbrev pub full_pairs_fed : List Ref → List FullPair → List FullPair
 full_pairs_fed refs xs = map (full_pair_fed refs) xs
+
+-- whether the second of some profiles refines the first
+abbrev pub second_refines_first : List FullPair → Bool
+second_refines_first [] = false
+second_refines_first (x ∷ []) = false
+second_refines_first (x ∷ y ∷ xs) =
+    is_refined x.profile.plain.geometry y.profile.plain.geometry
+
+-- The profile at an index was fed some references, and the next one those that were not settled in
+-- the first; `left` are those that were settled in neither.
+pub record AreTwoFed (at : ℕ) (refs : List Ref) (old now : List FullPair) (left : List Ref) :
+    Type 0 where
+  pub first : FullPair
+  pub second : FullPair
+  pub first_is : first ≡ slice_index_or old at first
+  pub second_is : second ≡ slice_index_or old (at + 1) second
+  pub fed : now ≡ slice_set (slice_set old at (full_pair_fed refs first)) (at + 1)
+      (full_pair_fed (unsettled first.profile refs) second)
+  pub left_are : left ≡ unsettled second.profile (unsettled first.profile refs)
 
 -- The profile of a pair was fed n references, except some that were settled: the pair after these
 -- are counted, too.

@@ -5,7 +5,7 @@ use Rattle.profile_core.specs.profile.State.{ProfileState}
 use Rattle.profile_core.specs.profile.Fronts.{after_batch, fed_of_batch}
 use Rattle.sweep_core.specs.declared.profiles.PairProfile.{PairProfile}
 use Rattle.sweep_core.specs.internal.Feeding.{pair_after_batch}
-use Rattle.sweep_core.proofs.FeedingEach.{set_neighbours}
+use Rattle.sweep_core.proofs.Lists.{set_neighbours}
 use Rattle.sweep_core.proofs.feeding.feed_two.Goals as goal
 
 abbrev with_state : PairProfile → ProfileState → PairProfile

@@ -2,4 +2,5 @@ use Rattle.trace_core.proofs.SixteenBytes.{within_is}
 use Rattle.trace_core.proofs.nibbles.lanes_within.Goals as goal
 
 pub returns : goal.returns
-returns c = within_is c.args.bytes c.args.first c.args.more c.fits-bytes.0
+returns c = within_is c.args.ascii c.args.first c.args.more c.fits-ascii.0 c.fits-ascii.1
+    c.requires.begins c.requires.ends

@@ -1,21 +1,29 @@
 -- What a scan does with a line of the plain form.
-use Rattle.std.proofs.Common.{arith, ap, ◌<◌, [], length, refl}
+use Rattle.std.proofs.Common.{arith, ap, ◌∙◌, ◌≡◌, ◌<◌, ◌+◌, ◌-◌, [], drop, take, length, refl}
+use Rattle.std.proofs.Common.{subst}
 use Rattle.trace_core.specs.internal.Scan.{progress}
+use Rattle.trace_core.specs.internal.FastLine.{HoldsLine}
 use Rattle.trace_core.proofs.Deliveries.{Delivers-none}
+use Rattle.trace_core.proofs.PlainLines.{holds-in-front}
 use Rattle.trace_core.proofs.Steps.{steps-item, stays-open}
 use Rattle.trace_core.proofs.scan.Scan.plain_line.Goals as goal
 
 pub returns-clause-advances : goal.returns-clause-advances
 returns-clause-advances c = λ v.
-    let found = c.in_ok-item.ensures in
-    let passed = c.pass_line.ensures in
     let s = c.args.self.now in
-    let some : 0 < length s.buffer =
-    omega (arith, found.line.0.high, ap length c.as_slice.ensures.value) in (
+    let len = c.in_ok-item.len in
+    let item = c.in_ok-item.item in
+    let read = c.in_ok-item.ensures.line in
+    let found = holds-in-front s.format s.buffer 64 item len
+    (subst (λ t. HoldsLine s.format t item len)
+    (c.split_at.ensures.front ∙ ap (take 64) c.as_slice.ensures.value) read) in
+    let passed = c.pass_plain_line.ensures in
+    let some : 0 < length s.buffer = omega (arith, found.line_feed.0.high) in
+    let place : len ≡ len - 1 + 1 = omega (arith, found.some) in (
       [],
       Delivers-none _ _,
-      steps-item _ s (stays-open s.state s.buffer s.stopped some) _ c.in_ok-item.end
-          c.in_ok-item.item (progress c.pass_line.new.self) _ c.as_slice.ensures.value
-          found.line found.item (omega arith) (omega arith) refl passed.lines
-          passed.buffer passed.same,
+      steps-item _ s (stays-open s.state s.buffer s.stopped some) s.buffer (len - 1)
+          item (progress c.pass_plain_line.new.self) _ refl
+          found.line_feed found.means (omega (arith, c.in_ok-item.ensures.short)) (omega arith)
+          refl passed.lines (passed.buffer ∙ ap (λ k. drop k s.buffer) place) passed.same,
     )

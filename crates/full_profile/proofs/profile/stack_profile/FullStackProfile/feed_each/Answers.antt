@@ -16,7 +16,7 @@ loop-at-preserved g c =
       arith,
       c.loop-at-test.true,
       c.loop-at.auto.at-end,
-      so_far.same_length,
+      so_far.before.same_length,
     ) in
     elim c.if-not-feed_unless_settled.branch [
       | then-not-feed_unless_settled w ↦

@@ -1,0 +1,44 @@
+-- A label between spaces, an address, a comma, a digit and an LF are a line, and so is what has a
+-- longer size or ends later.
+use Rattle.std.proofs.Common.{◌≡◌, ◌+◌, ◌-◌, ◌≤◌, get_or, length, subst, arith, rules, tests}
+use Rattle.std.proofs.Common.{ℕ, List}
+use Rattle.trace_core.specs.Fields.{WritesNumber}
+use Rattle.trace_core.specs.internal.FastLine.{HoldsSize}
+use Rattle.trace_core.proofs.PlainLines.{lackey-line, short-size}
+use Rattle.trace_core.proofs.plain_line.read_plain_lackey.Goals as goal
+
+pub returns-then-digit-le57-clause-line : goal.returns-then-digit-le57-clause-line
+returns-then-digit-le57-clause-line c =
+    let text = c.args.text.now in
+    let read = c.front_hexadecimal-addr.result in
+    let most = c.front_hexadecimal-addr.ensures.most in
+    let some : 1 ≤ read.1 = search (rules, tests) in
+    let comma : get_or text (read.1 + 3) 0 ≡ 44 = search (rules, tests) in
+    let low : 48 ≤ get_or text (read.1 + 4) 0 = search (rules, tests) in
+    let high : get_or text (read.1 + 4) 0 ≤ 57 = search (rules, tests) in
+    let byte : get_or text (read.1 + 5) 0 ≡ 10 = search (rules, tests) in
+    lackey-line text c.in_ok-op.op read.0 read.1 _ (read.1 + 6) c.in_ok-op.ensures
+    (subst (λ r. WritesNumber 16 r read) c.split_at.ensures.back
+    c.front_hexadecimal-addr.ensures.value) some most c.requires.room comma
+    (one-digit text read.1 most c.requires.room low high byte)
+  where
+    one-digit : (text : List ℕ) (len : ℕ) → len ≤ 16 → 64 ≤ length text →
+        48 ≤ get_or text (len + 4) 0 → get_or text (len + 4) 0 ≤ 57 → get_or text (len + 5) 0 ≡ 10
+        → HoldsSize text (len + 4) (get_or text (len + 4) 0 - 48) (len + 6)
+    one-digit text len most room low high byte =
+        let next : len + 5 ≡ len + 4 + 1 = omega arith in
+        let total : len + 4 + 2 ≡ len + 6 = omega arith in
+        subst (HoldsSize text (len + 4) (get_or text (len + 4) 0 - 48)) total
+        (short-size text (len + 4) (omega (arith, most, room)) low high
+        (subst (λ k. get_or text k 0 ≡ 10) next byte))
+
+pub returns-clause-line : goal.returns-clause-line
+returns-clause-line c =
+    let text = c.args.text.now in
+    let read = c.front_hexadecimal-addr.result in
+    let some : 1 ≤ read.1 = search (rules, tests) in
+    let comma : get_or text (read.1 + 3) 0 ≡ 44 = search (rules, tests) in
+    lackey-line text c.in_ok-op.op read.0 read.1 c.in_ok-size.size c.in_ok-size.len
+    c.in_ok-op.ensures (subst (λ r. WritesNumber 16 r read) c.split_at.ensures.back
+    c.front_hexadecimal-addr.ensures.value) some c.front_hexadecimal-addr.ensures.most
+    c.requires.room comma c.in_ok-size.ensures.line

@@ -1,0 +1,167 @@
+//! Lines exactly as tracers write them, the form that most have. `None` says nothing of a line:
+//! `fast_line` and `line` read each.
+//!
+//! This way is for speed alone: one test of a text's length stands for those of all parts. A loop
+//! that adds up addresses takes 52 instructions for a din line and 61 for one of lackey, where with
+//! a test of each part, and a second one of the LF, it took 61 and 80.
+ghost use Rattle.std.specs.Prelude.{◌≡◌, ℕ, ◌-◌, ◌<◌, ◌≤◌, length, drop, Some, IfSome};
+ghost use Rattle.trace_core.specs.Fields.{WritesNumber};
+ghost use Rattle.trace_core.specs.Line.{din_op, lackey_op};
+ghost use Rattle.trace_core.specs.internal.FastLine.{BeginsLabel, EndsLine, HoldsLine};
+ghost use Rattle.trace_core.specs.internal.FastLine.{HoldsAddress, HoldsSize};
+
+use crate::digits::{front_hexadecimal, split_hexadecimal, split_number};
+use crate::events::{Item, Op};
+use crate::fast_line::{late_end, split_0x};
+use crate::line::{Format, lackey_op};
+
+/// How many bytes a text must have for the plain form, so that no step tests for the text's end.
+/// Only the last lines of what a source delivered at once are read more slowly for that.
+pub(crate) const PLAIN_ROOM: usize = 64;
+
+/// The item of the line that a text begins with, and how many bytes the line has, its LF included,
+/// if the blanks are as tracers write them, and the line has at most `PLAIN_ROOM` bytes. An address
+/// without `0x`, a size of one digit and an LF at once after them take the fewest steps.
+#[inline(always)]
+pub(crate) fn read_plain_line(format: Format, text: &[u8]) -> Option<(Item, usize)>
+    requires room { PLAIN_ROOM ≤ length text.now }
+    ensures line { IfSome result (λ found. HoldsLine format text.now found.0 found.1) }
+    ensures short { IfSome result (λ found. found.1 ≤ PLAIN_ROOM) }
+{
+    match format {
+        Format::Din => read_plain_din(text),
+        Format::Lackey => read_plain_lackey(text),
+    }
+}
+
+/// A din line: a label, a space and an address.
+#[inline(always)]
+fn read_plain_din(text: &[u8]) -> Option<(Item, usize)>
+    requires room { PLAIN_ROOM ≤ length text.now }
+    ensures line { IfSome result (λ found. HoldsLine Format.Din text.now found.0 found.1) }
+    ensures short { IfSome result (λ found. found.1 ≤ PLAIN_ROOM) }
+{
+    let op = plain_din_op(text)?;
+    let (_, rest) = text.split_at(2);
+    let (addr, len) = front_hexadecimal(rest);
+    if len > 0 && text[len + 2] == b'\n' {
+        return Some((Item { op, addr, size: 0 }, len + 3));
+    }
+    let (addr, len) = late_address(text, addr, len)?;
+    Some((Item { op, addr, size: 0 }, len))
+}
+
+/// The address of a din line of at most `PLAIN_ROOM` bytes with a `0x`, or with a CR or a comment
+/// at its end, and the line's length. The first `len` bytes after the label write `addr`.
+#[inline(always)]
+fn late_address(text: &[u8], addr: u64, len: usize) -> Option<(u64, usize)>
+    requires room { PLAIN_ROOM ≤ length text.now }
+    requires digits { WritesNumber 16 (drop 2 text.now) (addr, len) }
+    requires most { len ≤ 16 }
+    ensures line { IfSome result (λ found. HoldsAddress text.now found.0 found.1) }
+    ensures short { IfSome result (λ found. found.1 ≤ PLAIN_ROOM) }
+{
+    let (_, rest) = text.split_at(2);
+    if let Some(digits) = split_0x(rest) {
+        let (addr, _, len) = split_hexadecimal(digits)?;
+        return Some((addr, late_len(text, text.len() - digits.len() + len)?));
+    }
+    if len == 0 {
+        return None;
+    }
+    Some((addr, late_len(text, len + 2)?))
+}
+
+/// The length of a line of at most `PLAIN_ROOM` bytes whose last field ends at `at`.
+#[inline(always)]
+fn late_len(text: &[u8], at: usize) -> Option<usize>
+    requires room { PLAIN_ROOM ≤ length text.now }
+    requires within { at < PLAIN_ROOM }
+    ensures some { IfSome result (λ len. 1 ≤ len) }
+    ensures line { IfSome result (λ len. EndsLine text.now (drop at text.now) (len - 1)) }
+    ensures short { IfSome result (λ len. len ≤ PLAIN_ROOM) }
+{
+    if text[at] == b'\n' {
+        return Some(at + 1);
+    }
+    let end = late_end(text, at)?;
+    if end >= PLAIN_ROOM {
+        return None;
+    }
+    Some(end + 1)
+}
+
+/// A lackey line: a label and the spaces beside it, an address, a comma and a size.
+#[inline(always)]
+fn read_plain_lackey(text: &[u8]) -> Option<(Item, usize)>
+    requires room { PLAIN_ROOM ≤ length text.now }
+    ensures line { IfSome result (λ found. HoldsLine Format.Lackey text.now found.0 found.1) }
+    ensures short { IfSome result (λ found. found.1 ≤ PLAIN_ROOM) }
+{
+    let op = plain_lackey_op(text)?;
+    let (_, rest) = text.split_at(3);
+    let (addr, len) = front_hexadecimal(rest);
+    if len == 0 || text[len + 3] != b',' {
+        return None;
+    }
+    let digit = text[len + 4];
+    if text[len + 5] == b'\n' && digit >= b'0' && digit <= b'9' {
+        let size = (digit - b'0') as u32;
+        return Some((Item { op, addr, size }, len + 6));
+    }
+    let (size, len) = late_size(text, len + 4)?;
+    Some((Item { op, addr, size }, len))
+}
+
+/// The size at `at` in a lackey line of at most `PLAIN_ROOM` bytes, if it has more digits than one
+/// or more than an LF comes after it, and the line's length.
+#[inline(always)]
+fn late_size(text: &[u8], at: usize) -> Option<(u32, usize)>
+    requires room { PLAIN_ROOM ≤ length text.now }
+    requires within { at ≤ 20 }
+    ensures line { IfSome result (λ found. HoldsSize text.now at found.0 found.1) }
+    ensures short { IfSome result (λ found. found.1 ≤ PLAIN_ROOM) }
+{
+    let (_, digits) = text.split_at(at);
+    let (size, rest) = split_number(10, 9, digits)?;
+    Some((size as u32, late_len(text, text.len() - rest.len())?))
+}
+
+/// The operation of a din line that begins with its label and a space. Both are compared at once,
+/// which saves two instructions.
+#[inline(always)]
+fn plain_din_op(text: &[u8]) -> Option<Op>
+    requires room { 2 ≤ length text.now }
+    ensures { IfSome result (λ op. (label : ℕ) × BeginsLabel text.now (drop 2 text.now) label
+        × (din_op label ≡ Some op)) }
+{
+    // `0`, `1` and `2`, each before a space.
+    match u16::from_le_bytes([text[0], text[1]]) {
+        0x2030 => Some(Op::Load),
+        0x2031 => Some(Op::Store),
+        0x2032 => Some(Op::Fetch),
+        _ => None,
+    }
+}
+
+/// The operation of a lackey line that begins with `I` and two spaces, or with any label between
+/// spaces. `I` and a space are compared at once, since most lines begin so, which saves three
+/// instructions.
+#[inline(always)]
+fn plain_lackey_op(text: &[u8]) -> Option<Op>
+    requires room { 3 ≤ length text.now }
+    ensures { IfSome result (λ op. (label : ℕ) × BeginsLabel text.now (drop 3 text.now) label
+        × (lackey_op label ≡ Some op)) }
+{
+    if text[2] != b' ' {
+        return None;
+    }
+    // `I` before a space.
+    if u16::from_le_bytes([text[0], text[1]]) == 0x2049 {
+        return Some(Op::Fetch);
+    }
+    if text[0] != b' ' {
+        return None;
+    }
+    lackey_op(text[1])
+}
