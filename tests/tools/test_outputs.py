@@ -2,12 +2,14 @@
 there before, and no part of a trace looks like the whole."""
 
 import contextlib
+import itertools
 import os
 import re
 import resource
 import shutil
 import signal
 import subprocess
+import time
 
 from base import EXAMPLES, PROGRAM, TOOLS, TOP, ToolTest, comes, ended, needs
 from test_trace import QEMU
@@ -94,6 +96,8 @@ SIGNALS = [getattr(signal, f"SIG{name}") for name in
 PASSED_ON = {signal.SIGHUP, signal.SIGINT, signal.SIGQUIT, signal.SIGUSR1, signal.SIGUSR2,
              signal.SIGTERM}  # to a program that is traced: a file is good until there
 BEFORE = "# what the user had\n" * 300000
+# how a tool comes to write behind what a file has: it appends, or its file stands at its end
+WAYS = '"$0" "$@" >> {}', '{{ cat <&3 > /dev/null; "$0" "$@" >&3 3>&-; }} 3<> {}'
 
 
 def without_core():
@@ -149,15 +153,21 @@ class CutTraces(ToolTest):
                     self.lines_before(tool, (self.folder / "cut").read_text(), last)
 
     def test_a_kill(self):
-        """It can't be caught: the last line is one that no simulator takes."""
-        for tool in TRACES:
-            with self.subTest(tool), open(self.folder / "cut", "wb") as cut:
+        """It can't be caught: the last line is one that no simulator takes, also where the kill cuts
+        a write."""
+        for tool, most in itertools.product(TRACES, (1, 20000, 70000)):
+            with self.subTest(tool, most=most), open(self.folder / "cut", "wb") as cut:
                 with self.waiting(tool, cut) as running:
-                    self.assertTrue(comes(lambda: os.fstat(cut.fileno()).st_size))
+                    until = time.monotonic() + 60
+                    while os.fstat(cut.fileno()).st_size < most and time.monotonic() < until:
+                        pass  # the moment counts
                     running.kill()
                     running.wait()
                 text = (self.folder / "cut").read_text()
-                self.assertTrue(TRACES[tool][2].startswith(text))
+                self.assertGreaterEqual(len(text), most)
+                whole, _, cut_off = text.partition("\0")
+                self.assertTrue(TRACES[tool][2].startswith(whole))
+                self.assertRegex(cut_off, r"\A\0*.?\Z")
                 self.assert_refused(text)
 
     def assert_refused(self, text):
@@ -167,7 +177,7 @@ class CutTraces(ToolTest):
         self.refused(swept, 1, "cachesim: line ")
 
     def no_room(self, tool, line, before, seconds=60):
-        """A line of bash runs a tool that appends to a file which has no room for all. What stands
+        """A line of bash runs a tool that writes to a file which has no room for all. What stands
         there then, behind what stood there before, which is as it was."""
         self.write("cut", before)
         ran = self.run_command("bash", "-c", line, *self.words(tool), seconds=seconds,
@@ -182,10 +192,10 @@ class CutTraces(ToolTest):
     def test_a_file_that_may_not_grow(self):
         """The mark takes the place of this run's own last lines; where there are too few, nothing
         of it stands there, and the message says so."""
-        for tool in TRACES:
+        for tool, way in itertools.product(TRACES, WAYS):
             blocks = 4000 if tool == "trace" else 64  # which shares memory
-            line = f'ulimit -f {blocks}; "$0" "$@" >> cut'
-            with self.subTest(tool):
+            line = f"ulimit -f {blocks}; {way.format('cut')}"
+            with self.subTest(tool, way=way):
                 text, _ = self.no_room(tool, line, BEFORE[:1024 * blocks - 5000])
                 self.lines_before(tool, text, r"[a-z-]+ failed: what stands above is not all *")
                 for length in (1024 * blocks - 20, 1024 * blocks, 1024 * blocks + 99):
@@ -196,14 +206,14 @@ class CutTraces(ToolTest):
     @needs("bubblewrap")
     def test_a_full_device(self):
         """The same on a device of its own."""
-        line = ('exec bwrap --dev-bind / / --size 65536 --tmpfs "$PWD/small" --bind "$PWD" '
-                '"$PWD/out" bash -c \'cat out/cut > small/cut; "$0" "$@" >> small/cut; status=$?; '
-                'cat small/cut > out/cut; exit $status\' "$0" "$@"')
         for place in ("small", "out"):
             (self.folder / place).mkdir()
-        for tool in TRACES:
+        for tool, way in itertools.product(TRACES, WAYS):
+            line = ('exec bwrap --dev-bind / / --size 65536 --tmpfs "$PWD/small" --bind "$PWD" '
+                    f'"$PWD/out" bash -c \'cat out/cut > small/cut; {way.format("small/cut")}; '
+                    'status=$?; cat small/cut > out/cut; exit $status\' "$0" "$@"')
             last = r"[a-z-]+ failed: what stands above is not all *"
-            with self.subTest(tool):
+            with self.subTest(tool, way=way):
                 text, told = self.no_room(tool, line, BEFORE[:50000])
                 self.assertIn("No space left" if tool != "lab/lab-trace" else "written", told)
                 self.lines_before(tool, text, last)

@@ -150,11 +150,15 @@ class Output:
 
     def __init__(self, descriptor=1):
         self.descriptor, self.text, self.at, self.tail = descriptor, b"", 0, b""
-        self.begin, self.is_within = None, False
+        self.begin, self.is_within, self.is_at_end = None, False, False
         if is_regular(descriptor):
             appends = fcntl.fcntl(descriptor, fcntl.F_GETFL) & os.O_APPEND
-            self.begin = (os.fstat(descriptor).st_size if appends
-                          else os.lseek(descriptor, 0, os.SEEK_CUR))
+            size = os.fstat(descriptor).st_size
+            self.begin = size if appends else self.place()
+            self.is_at_end = not appends and self.begin == size
+
+    def place(self):
+        return os.lseek(self.descriptor, 0, os.SEEK_CUR)
 
     def write(self, lines):
         """Writes whole lines, except for the last ones."""
@@ -175,11 +179,23 @@ class Output:
 
     def write_piece(self, piece):
         try:
-            return os.write(self.descriptor, piece)
+            return self.write_at_end(piece) if self.is_at_end else os.write(self.descriptor, piece)
         except BrokenPipeError:
             tool.fail("the trace can't be written")
         except OSError:
             tool.fail(f"the trace can't be written{self.settle()}", kind=tool.Spared)
+
+    def write_at_end(self, piece):
+        """The last byte comes first: where a kill cuts the write, zeros lie between."""
+        behind, wrote = self.place() + len(piece), 0
+        with contextlib.suppress(OSError):
+            os.pwrite(self.descriptor, piece[-1:], behind - 1)
+        try:
+            wrote = os.write(self.descriptor, piece)
+        finally:
+            if wrote < len(piece) and os.fstat(self.descriptor).st_size == behind:
+                os.ftruncate(self.descriptor, self.place())
+        return wrote
 
     def finish(self):
         self.put(len(self.text))
@@ -196,7 +212,7 @@ class Output:
             return ""
         if not self.tail:
             return "; none of it is kept"
-        end, mark = os.lseek(self.descriptor, 0, os.SEEK_CUR), mark_line()
+        end, mark = self.place(), mark_line()
         start = end - len(self.tail)
         with contextlib.suppress(OSError), \
                 open(f"/proc/self/fd/{self.descriptor}", "r+b", buffering=0) as file:

@@ -1,9 +1,10 @@
 // Where a trace goes that a C part writes: for to-din.c, second-level.c and trace-run.c.
 //
 // A write ends behind the label of a line, such as "2 ", whose address comes with the next write:
-// what a process leaves that is killed is a trace for no simulator. Only the last write ends with a
-// line. Where a file has no more room, the mark takes the place of this run's own last lines, and
-// never that of what was there before, or of what others have appended.
+// what a process leaves that is killed is a trace for no simulator. Within a write it leaves zeros
+// at the end of a file, unless that is appended to. Only the last write ends with a line. Where a
+// file has no more room, the mark takes the place of this run's own last lines, and never that of
+// what was there before, or of what others have appended.
 #include <errno.h>
 #include <fcntl.h>
 #include <limits.h>
@@ -20,6 +21,7 @@ enum { ROOM = 1 << 20, LABEL = 2, TAIL = 256 };
 static struct {
     int file, fault;          // what a write failed with, as in errno
     bool is_within;           // what was written ends within a line
+    bool is_at_end;           // of a regular file, whose writes are not appended
     off_t begin;              // where this run began in a regular file
     size_t pipe_size;         // the room of an empty pipe
     size_t used, kept;        // the bytes of the next two
@@ -35,8 +37,10 @@ static void begin_output(int file) {
     if (fstat(file, &of)) return;
     int size = S_ISFIFO(of.st_mode) ? fcntl(file, F_GETPIPE_SZ) : 0;
     output.pipe_size = size > PIPE_BUF ? (size_t)size : size ? PIPE_BUF : 0;
-    if (S_ISREG(of.st_mode))
-        output.begin = fcntl(file, F_GETFL) & O_APPEND ? of.st_size : lseek(file, 0, SEEK_CUR);
+    if (!S_ISREG(of.st_mode)) return;
+    bool appends = fcntl(file, F_GETFL) & O_APPEND;
+    output.begin = appends ? of.st_size : lseek(file, 0, SEEK_CUR);
+    output.is_at_end = !appends && output.begin == of.st_size;
 }
 
 static void remember(const char *end, size_t size) {
@@ -58,13 +62,33 @@ static size_t next_piece(const char *from, size_t left) {
     return feed ? (size_t)(feed + 1 + LABEL - from) : left;
 }
 
+// Takes back what was written first, where the write failed and the file still ends there.
+static void cut_behind(off_t end) {
+    struct stat of;
+    int fault = errno;
+    if (!fstat(output.file, &of) && of.st_size == end)
+        (void)!ftruncate(output.file, lseek(output.file, 0, SEEK_CUR));
+    errno = fault;
+}
+
+// A file may take a write in part where the process is killed, up to the end of some page: so its
+// last byte is there first, and what lies between are zeros until then.
+static ssize_t write_piece(const char *from, size_t size) {
+    if (!output.is_at_end) return write(output.file, from, size);
+    off_t behind = lseek(output.file, 0, SEEK_CUR) + (off_t)size;
+    bool is_reserved = pwrite(output.file, from + size - 1, 1, behind - 1) == 1;
+    ssize_t wrote = write(output.file, from, size);
+    if (is_reserved && wrote < (ssize_t)size) cut_behind(behind);
+    return wrote;
+}
+
 // Writes the first bytes that wait; where a signal stops it, the rest of a line at most.
 static void write_first(size_t size) {
     char *from = output.text, *end = from + size;
     while (from < end && !output.fault) {
         if (output_is_stopped)
             end = output.is_within ? (char *)memchr(from, '\n', ROOM) + 1 : from;
-        ssize_t wrote = write(output.file, from, next_piece(from, (size_t)(end - from)));
+        ssize_t wrote = write_piece(from, next_piece(from, (size_t)(end - from)));
         if (wrote < 0 && errno != EINTR) output.fault = errno;
         if (wrote <= 0) continue;
         from += wrote;

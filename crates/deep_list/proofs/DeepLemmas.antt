@@ -6,7 +6,7 @@ use Rattle.std.proofs.Common.{length-set, get_or-set_same, get_or-set_other}
 use Rattle.std.specs.Prelude.{replicate}
 use Rattle.std.specs.List.{remove}
 use Rattle.std.proofs.lemmas.Bool.{cases_eq, cases_lt, false≢true}
-use Rattle.std.proofs.lemmas.List.{take_all, drop_all, length-take-le, get_or_past, nil_from_length}
+use Rattle.std.proofs.lemmas.List.{take_all, drop_all, length-take-le, get_or_past}
 use Rattle.std.proofs.lemmas.List.{length-replicate}
 use Rattle.std.proofs.lemmas.List.Sums.{sum_by-set, sum_by_more}
 use Rattle.deep_list.specs.Slots.{SlotsValue, AreFlags, live_items, slots_with_block}
@@ -210,24 +210,6 @@ module _ {from to : ℕ} {v w : SlotsValue} (g : IsGathering from to v w) (f : �
   one_more = ap (λ j. sum (take j w.live)) (sym next) ∙ sum_by_more (λ x. x) w.live f 0
       (omega (arith, g.order, g.within))
 
-  pub gathering_past : (get_or w.live f 0 ≡ 1 → ⊥) → IsGathering f to v w
-  gathering_past ne =
-      let none : get_or w.live f 0 ≡ 0 = dead_flag w.live f g.flags ne in
-      record {
-        same = g.same;
-        long = g.long;
-        flags = g.flags;
-        order = omega (arith, g.order);
-        within = g.within;
-        dead = λ s le lt. elim (cases_eq s f) [
-          | inl same ↦ ap (λ j. get_or w.live j 0) same ∙ none
-          | inr other ↦ g.dead s (omega arith) lt
-        ];
-        full = g.full;
-        kept_same = g.kept_same;
-        left = omega (arith, g.left, one_more, none);
-      }
-
   pub values_moved : {V : Type 0} (values : List V) (d : V) (u : ℕ) → u + 1 ≡ to →
       length values ≡ length w.live → get_or w.live f 0 ≡ 1
       → live_items (set values u (get_or values f d)) (set (set w.live f 0) u 1)
@@ -352,10 +334,6 @@ module _ {cap held top end values : ℕ} {slots : SlotsValue} {chains : ChainsVa
   pub held_length : held ≡ length (live_items slots.blocks slots.live)
   held_length = d.held_is ∙ sym (length-live_items slots.blocks slots.live d.ranked.same
       d.ranked.flags)
-
-  pub held_none : held ≤ 0 → live_items slots.blocks slots.live ≡ []
-  held_none none = nil_from_length (live_items slots.blocks slots.live)
-      (omega (arith, held_length, none))
 
   -- a live slot vacated
   module _ (s : ℕ) (one : get_or slots.live s 0 ≡ 1) where

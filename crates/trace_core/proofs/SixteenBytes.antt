@@ -8,7 +8,7 @@ use Rattle.std.proofs.lemmas.Bool.{leb-false}
 use Rattle.std.proofs.Common.{to_z}
 use Rattle.std.specs.Int.Signed.{le_z}
 use Rattle.std.proofs.lemmas.Int.Digits.{number_more}
-use Rattle.std.proofs.lemmas.Nat.{and_mask, le-div, div_below}
+use Rattle.std.proofs.lemmas.Nat.{le-div, div_below}
 use Rattle.std.proofs.lemmas.List.{take_all}
 use Rattle.std.specs.Int.{from_be_bytes, bit_at, trailing_ones}
 use Rattle.std.proofs.Common.{pow_pos, subst, length-take-le, pow-suc, drop, take-append-drop}
@@ -255,7 +255,7 @@ packed (a ∷ b ∷ ds) = (a * 16 + b) ∷ packed ds
 
 -- what is made of a lane
 abbrev pub pack : ℕ → ℕ
-pack w = bit_and ((w * 16 % 65536 + w / 256) % 65536) 255
+pack w = w * 4097 % 65536 / 256
 
 joined_are : (k : ℕ) (ds : List ℕ) → length ds ≡ 2 * k → AllBelowBase 16 ds →
     digits_l 65536 k (number_l 256 ds) ≡ joined ds
@@ -276,8 +276,7 @@ packed_are [] small = refl
 packed_are (a ∷ []) small = refl
 packed_are (a ∷ b ∷ ds) small =
     let w = a + 256 * b in
-    let one : pack w ≡ a * 16 + b = and_mask ((w * 16 % 65536 + w / 256) % 65536) 8 ∙
-    omega (arith, small.0, small.1.0) in
+    let one : pack w ≡ a * 16 + b = omega (arith, small.0, small.1.0) in
     λ i. one i ∷ packed_are ds small.1.1 i
 
 length-packed : (k : ℕ) (ds : List ℕ) → length ds ≡ 2 * k → length (packed ds) ≡ k

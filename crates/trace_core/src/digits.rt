@@ -73,7 +73,7 @@ fn read_hexadecimal(text: &[u8]) -> (u64, usize)
 }
 
 /// `read_hexadecimal` where there are at least 16 bytes. All are read at once, so no branch depends
-/// on how many digits they are; `docs/speed.md` says what that gains.
+/// on how many digits they are.
 #[inline(always)]
 pub(crate) fn front_hexadecimal(text: &[u8]) -> (u64, usize)
     requires room { 16 ≤ length text.now }

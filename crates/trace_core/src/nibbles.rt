@@ -30,14 +30,15 @@ pub(crate) fn digit_values(bytes: u8x16) -> u8x16
     (bytes & u8x16::splat(15)) + (letters(ascii_lanes(bytes)) & u8x16::splat(9))
 }
 
-/// The number that sixteen digits write.
+/// The number that sixteen digits write. A product brings the two of each pair together, which
+/// saves three instructions beside two shifts and a mask.
 #[inline(always)]
 pub(crate) fn number_of(digits: u8x16) -> u64
     requires { AllBelowBase 16 digits }
     ensures { result ≡ number_from_digits 16 digits }
 {
     let words = u16x8::from_le_bytes(digits);
-    let pairs = ((words << u16x8::splat(4)) + (words >> u16x8::splat(8))) & u16x8::splat(255);
+    let pairs = (words * u16x8::splat((16 << 8) + 1)) >> u16x8::splat(8);
     u64::from_be_bytes(pairs.cast::<u8>().to_array())
 }
 

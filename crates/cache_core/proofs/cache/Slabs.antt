@@ -112,17 +112,6 @@ module _ (d : Design) (filled : List ℕ) (k n ways : ℕ) (slots segment : List
       (sets_of d.geometry.e slots filled) k (take n segment)
   sets_written = grind (arith, sets_of-put)
 
-  -- the set that was written
-  pub set_read_back : (here : ℕ) → k ≡ here →
-      get_or (sets_of d.geometry.e (with_segment ways k slots segment) (set filled k n)) here []
-      ≡ take n segment
-  set_read_back here same = grind (
-    arith,
-    sets_written,
-    get_or-set_same,
-    length-sets_of,
-  )
-
   pub slab_kept : Addressable d.geometry.b (take n segment) →
       IsCacheSlab d (with_segment ways k slots segment) (set filled k n)
   slab_kept a = record {
