@@ -153,8 +153,8 @@ class CutTraces(ToolTest):
                     self.lines_before(tool, (self.folder / "cut").read_text(), last)
 
     def test_a_kill(self):
-        """It can't be caught: the last line is one that no simulator takes, also where the kill cuts
-        a write."""
+        """It can't be caught: the last line is one that no simulator takes, also where a write is
+        cut."""
         for tool, most in itertools.product(TRACES, (1, 20000, 70000)):
             with self.subTest(tool, most=most), open(self.folder / "cut", "wb") as cut:
                 with self.waiting(tool, cut) as running:

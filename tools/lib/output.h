@@ -74,7 +74,7 @@ static void cut_behind(off_t end) {
 // A file may take a write in part where the process is killed, up to the end of some page: so its
 // last byte is there first, and what lies between are zeros until then.
 static ssize_t write_piece(const char *from, size_t size) {
-    if (!output.is_at_end) return write(output.file, from, size);
+    if (!output.is_at_end || size < 2) return write(output.file, from, size);
     off_t behind = lseek(output.file, 0, SEEK_CUR) + (off_t)size;
     bool is_reserved = pwrite(output.file, from + size - 1, 1, behind - 1) == 1;
     ssize_t wrote = write(output.file, from, size);

@@ -1,5 +1,5 @@
 -- Lines of the plain form, and their meaning.
-use Rattle.std.proofs.Common.{◌≡◌, ℕ, ◌<◌, ◌==◌, ◌+◌, ◌-◌, ◌≤◌, Bool, true, false, List}
+use Rattle.std.proofs.Common.{◌≡◌, ℕ, ◌<◌, ◌==◌, ◌+◌, ◌-◌, ◌%◌, ◌≤◌, Bool, true, false, List}
 use Rattle.std.proofs.Common.{[], ◌∷◌, ◌++◌, length, take, drop, get_or, refl, sym, ap, ◌∙◌, arith}
 use Rattle.std.proofs.Common.{subst, take_all, append_assoc, ◌*◌, ◌^◌}
 use Rattle.std.specs.Prelude.{Option, None, Some, IfSome}
@@ -49,6 +49,17 @@ pub two-bytes : (first second a b : ℕ) → a < 2 ^ 8 → b < 2 ^ 8 → first <
     a + b * 256 ≡ first + second * 256 → (a ≡ first) × (b ≡ second)
 two-bytes first second a b fits fits-2 small is =
     (omega (arith, fits, fits-2, small, is), omega (arith, fits, fits-2, small, is))
+
+-- a digit and an LF that are compared at once
+pub digit-and-feed : (w a b : ℕ) → a < 2 ^ 8 → b < 2 ^ 8 → w ≡ a + b * 256 →
+    (w + 62928) % 65536 < 10
+    → (48 ≤ a) × (a ≤ 57) × (b ≡ 10) × (a - 48 ≡ (w + 62928) % 65536)
+digit-and-feed w a b fits fits-2 is small = (
+  omega (arith, fits, fits-2, is, small),
+  omega (arith, fits, fits-2, is, small),
+  omega (arith, fits, fits-2, is, small),
+  omega (arith, fits, fits-2, is, small),
+)
 
 -- the operation of a label that a text begins with, if it has one
 pub some-op : (text rest : List ℕ) (result : Option Op) (label : ℕ) → result ≡ lackey_op label →

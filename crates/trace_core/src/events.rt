@@ -2,13 +2,14 @@
 ghost use Rattle.std.specs.Prelude.{◌≡◌};
 ghost use Rattle.trace_core.specs.Events.{references, is_kept};
 
-/// The operation of an item on its address.
+/// The operation of an item on its address. The first three are in the order of din's labels, so
+/// that no table is needed for these.
 #[derive(Clone, Copy, Debug, PartialEq, Eq)]
 pub enum Op {
-    /// An instruction is fetched.
-    Fetch,
     Load,
     Store,
+    /// An instruction is fetched.
+    Fetch,
     /// A load and then a store of the same address.
     Modify,
 }
@@ -78,7 +79,7 @@ impl Kind {
 
 /// The accesses of the first references, in the order of the operations. A table, since the
 /// operations of a trace come in no order that a processor predicts.
-static FIRST_ACCESSES: [Access; 4] = [Access::Fetch, Access::Read, Access::Write, Access::Read];
+static FIRST_ACCESSES: [Access; 4] = [Access::Read, Access::Write, Access::Fetch, Access::Read];
 
 /// The references of an item: a modify reads and then writes.
 #[inline(always)]

@@ -30,8 +30,7 @@ pub(crate) fn digit_values(bytes: u8x16) -> u8x16
     (bytes & u8x16::splat(15)) + (letters(ascii_lanes(bytes)) & u8x16::splat(9))
 }
 
-/// The number that sixteen digits write. A product brings the two of each pair together, which
-/// saves three instructions beside two shifts and a mask.
+/// The number that sixteen digits write. A product brings the two of each pair together.
 #[inline(always)]
 pub(crate) fn number_of(digits: u8x16) -> u64
     requires { AllBelowBase 16 digits }

@@ -104,9 +104,10 @@ fn read_plain_lackey(text: &[u8]) -> Option<(Item, usize)>
     if len == 0 || text[len + 3] != b',' {
         return None;
     }
-    let digit = text[len + 4];
-    if text[len + 5] == b'\n' && digit >= b'0' && digit <= b'9' {
-        let size = (digit - b'0') as u32;
+    // A digit before an LF: both are compared at once, which saves four instructions.
+    let size = u16::from_le_bytes([text[len + 4], text[len + 5]]).wrapping_sub(0x0A30);
+    if size < 10 {
+        let size = size as u32;
         return Some((Item { op, addr, size }, len + 6));
     }
     let (size, len) = late_size(text, len + 4)?;

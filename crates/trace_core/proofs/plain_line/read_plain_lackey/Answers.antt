@@ -4,23 +4,24 @@ use Rattle.std.proofs.Common.{◌≡◌, ◌+◌, ◌-◌, ◌≤◌, get_or, le
 use Rattle.std.proofs.Common.{ℕ, List}
 use Rattle.trace_core.specs.Fields.{WritesNumber}
 use Rattle.trace_core.specs.internal.FastLine.{HoldsSize}
-use Rattle.trace_core.proofs.PlainLines.{lackey-line, short-size}
+use Rattle.trace_core.proofs.PlainLines.{lackey-line, short-size, digit-and-feed}
 use Rattle.trace_core.proofs.plain_line.read_plain_lackey.Goals as goal
 
-pub returns-then-digit-le57-clause-line : goal.returns-then-digit-le57-clause-line
-returns-then-digit-le57-clause-line c =
+pub returns-then-size-lt10-clause-line : goal.returns-then-size-lt10-clause-line
+returns-then-size-lt10-clause-line c =
     let text = c.args.text.now in
     let read = c.front_hexadecimal-addr.result in
     let most = c.front_hexadecimal-addr.ensures.most in
     let some : 1 ≤ read.1 = search (rules, tests) in
     let comma : get_or text (read.1 + 3) 0 ≡ 44 = search (rules, tests) in
-    let low : 48 ≤ get_or text (read.1 + 4) 0 = search (rules, tests) in
-    let high : get_or text (read.1 + 4) 0 ≤ 57 = search (rules, tests) in
-    let byte : get_or text (read.1 + 5) 0 ≡ 10 = search (rules, tests) in
+    let found = digit-and-feed c.from_le_bytes-size.result _ _
+    (c.type_inv.text (read.1 + 4)).fits (c.type_inv.text (read.1 + 5)).fits
+    c.from_le_bytes-size.ensures c.if-size-lt10.true in
     lackey-line text c.in_ok-op.op read.0 read.1 _ (read.1 + 6) c.in_ok-op.ensures
     (subst (λ r. WritesNumber 16 r read) c.split_at.ensures.back
     c.front_hexadecimal-addr.ensures.value) some most c.requires.room comma
-    (one-digit text read.1 most c.requires.room low high byte)
+    (subst (λ size. HoldsSize text (read.1 + 4) size (read.1 + 6)) found.3
+    (one-digit text read.1 most c.requires.room found.0 found.1 found.2))
   where
     one-digit : (text : List ℕ) (len : ℕ) → len ≤ 16 → 64 ≤ length text →
         48 ≤ get_or text (len + 4) 0 → get_or text (len + 4) 0 ≤ 57 → get_or text (len + 5) 0 ≡ 10
