@@ -1,9 +1,8 @@
 //! Lines exactly as tracers write them, the form that most have. `None` says nothing of a line:
 //! `fast_line` and `line` read each.
 //!
-//! This way is for speed alone: one test of a text's length stands for those of all parts. A loop
-//! that adds up addresses takes 52 instructions for a din line and 61 for one of lackey, where with
-//! a test of each part, and a second one of the LF, it took 61 and 80.
+//! This way is for speed alone: one test of a text's length stands for those of all parts, and the
+//! LF is tested once. `docs/PERF.md` says what that gains.
 ghost use Rattle.std.specs.Prelude.{◌≡◌, ℕ, ◌-◌, ◌<◌, ◌≤◌, length, drop, Some, IfSome};
 ghost use Rattle.trace_core.specs.Fields.{WritesNumber};
 ghost use Rattle.trace_core.specs.Line.{din_op, lackey_op};
@@ -104,7 +103,7 @@ fn read_plain_lackey(text: &[u8]) -> Option<(Item, usize)>
     if len == 0 || text[len + 3] != b',' {
         return None;
     }
-    // A digit before an LF: both are compared at once, which saves four instructions.
+    // A digit before an LF: both are compared at once.
     let size = u16::from_le_bytes([text[len + 4], text[len + 5]]).wrapping_sub(0x0A30);
     if size < 10 {
         let size = size as u32;
@@ -115,8 +114,9 @@ fn read_plain_lackey(text: &[u8]) -> Option<(Item, usize)>
 }
 
 /// The size at `at` in a lackey line of at most `PLAIN_ROOM` bytes, if it has more digits than one
-/// or more than an LF comes after it, and the line's length.
-#[inline(always)]
+/// or more than an LF comes after it, and the line's length. It is not inlined, since the compiler
+/// would then load the bytes of the usual size one by one.
+#[inline(never)]
 fn late_size(text: &[u8], at: usize) -> Option<(u32, usize)>
     requires room { PLAIN_ROOM ≤ length text.now }
     requires within { at ≤ 20 }
