@@ -72,8 +72,8 @@ static void cut_behind(off_t end) {
 }
 
 // A file may take a write in part where the process is killed, up to the end of some page: so its
-// last byte is there first, and what lies between are zeros until then. Who reads the file meanwhile
-// may see them, too.
+// last byte is there first, and what lies between are zeros until then. Who reads the file
+// meanwhile may see them, too.
 static ssize_t write_piece(const char *from, size_t size) {
     if (!output.is_at_end || size < 2) return write(output.file, from, size);
     off_t behind = lseek(output.file, 0, SEEK_CUR) + (off_t)size;
