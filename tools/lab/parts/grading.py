@@ -33,6 +33,7 @@ HARMLESS = (
     (student.UNFILLED, "memory is used after it was freed"),
 )
 SHORT = 64 << 10  # bytes of a trace: cases on longer ones are run once
+AGAIN = 6  # so many wrong cases are run again to see whether the numbers differ
 NOT_WRITTEN = "memory of malloc is read where nothing was written, or past its end"
 DIFFERS = ("its numbers differ from run to run: it draws some by rand() after srand(), takes the "
            "time of a clock, or reads memory before it writes there")
@@ -256,7 +257,9 @@ class Grading:
         """The mistake in words, where another run or all results tell it."""
         first, wanted, _ = self.wrong[0]
         if self.student.slow_runs == 0:
-            if any(self.differs(case, found) for case, _, found in (self.wrong[-1], self.wrong[0])):
+            # by chance the numbers of a case are the same again
+            tried = [*self.wrong[:-AGAIN:-1], self.wrong[0]]
+            if any(self.differs(case, found) for case, _, found in tried):
                 return DIFFERS
             told = self.of_memory(first, wanted)
             if told:
