@@ -7,6 +7,7 @@ import os
 import shutil
 import signal
 import subprocess
+import sys
 from unittest import mock
 
 from base import catches, ended, needs
@@ -45,6 +46,34 @@ SIGNALS = (signal.SIGHUP, signal.SIGINT, signal.SIGQUIT, signal.SIGTERM, signal.
            signal.SIGUSR2, signal.SIGXCPU, signal.SIGALRM)
 PAGE = 4096
 PAGES = 64
+# runs a tool to which a signal comes as it does one thing, and tells how many threads there are as
+# its folder goes
+STOPPED = '''
+import os, runpy, signal, sys, threading
+del sys.argv[0]
+sys.path.insert(0, os.path.dirname(sys.argv[0]))
+from parts import private
+
+def told(folder):
+    print(threading.active_count(), file=sys.stderr)
+    remove(folder)
+
+def as_threads_begin(thread, start=threading.Thread.start):
+    start(thread)
+    os.kill(os.getpid(), signal.SIGTERM)
+
+def at_the_end(put_off=private.put_off_stops, calls=[]):
+    calls.append(1)
+    if len(calls) == 2:
+        os.kill(os.getpid(), signal.SIGTERM)
+    put_off()
+
+remove, private.remove = private.remove, told
+MOMENT
+runpy.run_path(sys.argv[0], run_name="__main__")
+'''
+MOMENTS = {"threading.Thread.start = as_threads_begin": ["waiting", "ann"],
+           "private.put_off_stops = at_the_end": ["ann"]}
 
 
 class FilesTest(StudentTest):
@@ -229,6 +258,21 @@ class LabFiles(FilesTest):
                         self.assertEqual(one.stderr.read(), b"")
                     self.assertTrue(comes(lambda: not running(), 60))
                     self.assertEqual(list(self.private.iterdir()), [])
+
+    def test_signals_at_two_moments(self):
+        """As a class begins, and just as its table is whole: nothing runs on while the folder goes,
+        which always does."""
+        (self.folder / "waiting").mkdir()
+        self.executable("waiting/csim", "exec sleep 1000")
+        for moment, names in MOMENTS.items():
+            with self.subTest(moment):
+                words = [LAB / "grade-class", *ONE, "--trace", "short.trace", *names]
+                code = STOPPED.replace("MOMENT", moment)
+                ran = self.run_command(sys.executable, "-BESc", code, *words,
+                                       env={"TMPDIR": str(self.private)})
+                self.assertIn(ran.returncode, (128 + signal.SIGTERM, -signal.SIGTERM))
+                self.assertEqual(ran.stderr, b"1\n")
+                self.assertEqual((running(), list(self.private.iterdir())), ([], []))
 
     @needs("bubblewrap")
     def test_no_room(self):

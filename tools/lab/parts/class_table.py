@@ -7,6 +7,7 @@ import subprocess
 from collections import namedtuple
 
 from lib import files, processes
+from lib.signals import heed_stops, uninterrupted
 from lib.text_table import csv_lines
 from parts import tool, traces
 from parts.student import visible_name
@@ -106,9 +107,11 @@ def write_table(group, names, folders, jobs):
         tool.fail(nobody.fault)
     tool.write_lines(csv_lines([["name", "right", "of", "points", *names, "reason"]]))
     front = os.path.commonpath([os.path.dirname(folder) for folder in folders])
-    with concurrent.futures.ThreadPoolExecutor(jobs) as threads:
+    with concurrent.futures.ThreadPoolExecutor(jobs, initializer=heed_stops) as threads:
         try:
-            for folder, found in zip(folders, threads.map(group.student, folders)):
+            with uninterrupted():  # else it could begin a thread, and not wait for it at the end
+                judged = threads.map(group.student, folders)
+            for folder, found in zip(folders, judged):
                 name = os.path.relpath(folder, front)
                 of = nobody.of if found.of is None else found.of
                 by_trace = found.by_trace(len(names))

@@ -97,10 +97,12 @@ def in_private_folder(work):
         spare = os.open(os.devnull, os.O_RDONLY)  # at the end there may be no other descriptor
         folder = tempfile.mkdtemp(prefix=f"cachesim-{tool.NAME}.")
         try:
-            heed_stops()
-            return work(folder)
+            try:
+                heed_stops()
+                return work(folder)
+            finally:
+                put_off_stops()  # the first one may come just now
         finally:
-            put_off_stops()
             os.close(spare)
             processes.end_orphans()  # a signal may have come as a run's were ended
             remove(folder)
