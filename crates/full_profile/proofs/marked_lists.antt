@@ -1,6 +1,5 @@
 pub mod Shifting
 pub mod RowBringing
-pub mod Parts
 pub mod ListsInRows
 pub mod SparseRowLemmas
 pub mod Emptying

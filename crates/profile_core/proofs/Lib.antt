@@ -5,3 +5,6 @@ pub mod LongListLemmas
 pub mod LongListBringing
 pub mod Places
 pub mod SparseRestLemmas
+pub mod RowParts
+pub mod RowsBySet
+pub mod Shifting

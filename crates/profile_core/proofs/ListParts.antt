@@ -10,7 +10,7 @@ use Rattle.deep_list.specs.Deep.{IsOnce}
 use Rattle.profile_core.specs.profile.RecencyList.{index_of, is_in, is_front, move_to_front}
 use Rattle.profile_core.specs.internal.set_lists.Moves.{is_second, standing_of}
 use Rattle.profile_core.specs.declared.set_lists.recency.Standing.TheVariants.{Behind, New}
-use Rattle.profile_core.proofs.rows.Shifting.{length-remove}
+use Rattle.profile_core.proofs.Shifting.{length-remove}
 
 -- a block in a list of two parts
 pub is_in-append : (x : ℕ) (xs ys : List ℕ) → is_in x (xs ++ ys) ≡ (is_in x xs || is_in x ys)

@@ -13,7 +13,7 @@ use Rattle.profile_core.specs.profile.RecencyList.{is_in, is_front, move_to_fron
 use Rattle.profile_core.specs.internal.set_lists.Moves.{is_second}
 use Rattle.profile_core.specs.internal.set_lists.Lists.{Lists, lists_after_bring}
 use Rattle.profile_core.proofs.Elements.{all_set, all_same}
-use Rattle.profile_core.proofs.rows.Shifting.{length-remove}
+use Rattle.profile_core.proofs.Shifting.{length-remove}
 use Rattle.profile_core.specs.internal.set_lists.LongLists.{whole_lists, nothing, rest_of}
 use Rattle.profile_core.specs.internal.set_lists.LongLists.{empty_deep, AreSplit}
 use Rattle.profile_core.proofs.ListParts.{near_moved, once_moved, index-lt}

@@ -15,9 +15,9 @@ use Rattle.profile_core.specs.internal.rests.SparseRests.{sparse_rest, IsSparse}
 use Rattle.profile_core.proofs.Elements.{all_same}
 use Rattle.profile_core.proofs.Places.{places_then, one_more, place_left, place_here}
 use Rattle.profile_core.proofs.Places.{place_other, places_taken}
-use Rattle.profile_core.proofs.rows.RowParts.{in_front, part_long, part_here, part_other, part_same}
-use Rattle.profile_core.proofs.rows.RowParts.{part_lent, part_back}
-use Rattle.profile_core.proofs.rows.RowsBySet.{HasRow, rows_kept, row_is, rows_blank, row_put}
+use Rattle.profile_core.proofs.RowParts.{in_front, part_long, part_here, part_other, part_same}
+use Rattle.profile_core.proofs.RowParts.{part_lent, part_back}
+use Rattle.profile_core.proofs.RowsBySet.{HasRow, rows_kept, row_is, rows_blank, row_put}
 
 at_first : (n : ℕ) (xs : List ℕ) → take n (drop (0 * n) xs) ≡ take n xs
 at_first n xs =

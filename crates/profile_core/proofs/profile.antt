@@ -7,5 +7,6 @@ pub mod Feeding
 pub mod Fed
 pub mod Fronts
 pub mod Batches
+pub mod FrontBatches
 pub mod Runs
 pub mod Later

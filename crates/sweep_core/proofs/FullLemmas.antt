@@ -1,26 +1,19 @@
 -- The profiles of a full sweep: references that wait, settled ones that are counted later, and
 -- events.
-use Rattle.std.proofs.Common.{◌≡◌, ℕ, ◌+◌, ◌-◌, ◌<◌, ◌≤◌, ◌/◌, ◌^◌, true, false, cond}
-use Rattle.std.proofs.Common.{List, [], ◌∷◌, ◌++◌, map, take, length, get_or, fold, refl, sym, ap}
-use Rattle.std.proofs.Common.{◌∙◌, subst, arith, length-append, Option, None, Some}
-use Rattle.std.specs.Prelude.{filter, min}
-use Rattle.std.specs.List.{flat_map, AllByRecursion as Each}
-use Rattle.std.proofs.Math.Nat.{div-div-eq-div-mul}
+use Rattle.std.proofs.Common.{◌≡◌, ℕ, ◌+◌, ◌-◌, ◌<◌, ◌≤◌, true, false, cond}
+use Rattle.std.proofs.Common.{List, [], ◌∷◌, ◌++◌, map, take, length, get_or, refl, sym, ap}
+use Rattle.std.proofs.Common.{◌∙◌, subst, arith, length-append}
+use Rattle.std.specs.List.{AllByRecursion as Each}
 use Rattle.std.proofs.lemmas.Bool.{ltb-true, eqb-true, and_parts}
 use Rattle.std.proofs.lemmas.List.{take_more, take_all}
 use Rattle.std.proofs.lemmas.List.Sums.{fold-append}
-use Rattle.std.proofs.lemmas.Nat.{pow-add}
 use Rattle.std.proofs.lemmas.Simd.{map-map}
 use Rattle.trace_core.specs.declared.events.Access.TheVariants.{Read}
-use Rattle.trace_core.specs.declared.events.Entry.{Entry}
-use Rattle.trace_core.specs.declared.events.Entry.TheVariants as entry
 use Rattle.trace_core.specs.declared.events.Event.{Event}
 use Rattle.trace_core.specs.declared.events.Event.TheVariants as event
-use Rattle.trace_core.specs.declared.events.Item.{Item}
 use Rattle.trace_core.specs.declared.events.Kind.{Kind}
 use Rattle.trace_core.specs.declared.events.Ref.{Ref}
-use Rattle.trace_core.specs.Events.{events_of, is_kept, references, at}
-use Rattle.trace_core.proofs.EntryEvents.{events_more, one_event, two_events}
+use Rattle.trace_core.specs.Events.{is_kept, at}
 use Rattle.cache_core.specs.Geometry.{GeometryValue, block_of}
 use Rattle.cache_core.proofs.Lists.{cases}
 use Rattle.profile_core.specs.profile.State.{fed_of}
@@ -36,6 +29,7 @@ use Rattle.full_profile.proofs.BatchLemmas.{settled_again, geometry_unless, as_e
 use Rattle.full_profile.proofs.laws.Later.{settled_none, caught_more, flush_settled, lags_new}
 use Rattle.sweep_core.specs.internal.Pass.{kept_events}
 use Rattle.sweep_core.proofs.Lists.{Each-weaker}
+use Rattle.sweep_core.proofs.Repeated.{finest-most, finest-each, same-block}
 use Rattle.sweep_core.specs.declared.full.profiles.FullPair.{FullPair}
 use Rattle.sweep_core.specs.internal.Full.{full_pair_fed, full_pairs_fed, full_pair_caught}
 use Rattle.sweep_core.specs.internal.Full.{full_pairs_caught}
@@ -76,45 +70,6 @@ after-append es fs (x ∷ xs) =
     ap (λ v. record x { profile = v } ∷ full_pairs_after (es ++ fs) xs)
     (fold-append after_full_event x.profile es fs)
     ∙ ap (λ l. full_pair_after fs (full_pair_after es x) ∷ l) (after-append es fs xs)
-
--- the references of an item that are kept, one after the other
-pub fed-both : (kind : Kind) (xs ys zs : List FullPair) {e : Entry} {item : Item} {both : Ref ×
-    Option Ref} {second : Ref}
-    → e ≡ entry.Item item → both ≡ references item → both.1 ≡ Some second
-    → ys ≡ full_pairs_after (kept_events kind (both.0 ∷ [])) xs →
-    zs ≡ full_pairs_after (kept_events kind (second ∷ [])) ys
-    → zs ≡ full_pairs_after (events_of kind e) xs
-fed-both kind xs ys zs {both = both} {second} is refs two first later =
-    later ∙ ap (full_pairs_after (kept_events kind (second ∷ []))) first
-    ∙ sym (after-append (kept_events kind (both.0 ∷ [])) (kept_events kind (second ∷ [])) xs)
-    ∙ ap (λ es. full_pairs_after es xs) (joined both.0 ∙ sym (two_events kind is refs two))
-  where
-    joined : (r : Ref) → kept_events kind (r ∷ []) ++ kept_events kind (second ∷ []) ≡ kept_events
-        kind (r ∷ second ∷ [])
-    joined r = elim (is_kept kind r.access) as (λ b. map (λ x. event.Reference x)
-        (cond b (r ∷ []) []) ++ kept_events kind (second ∷ [])
-        ≡ map (λ x. event.Reference x)
-        (cond b (r ∷ filter (λ x. is_kept kind x.access) (second ∷ []))
-        (filter (λ x. is_kept kind x.access) (second ∷ []))))
-        [ true ↦ refl | false ↦ refl ]
-
-pub fed-one : (kind : Kind) (xs ys : List FullPair) {e : Entry} {item : Item}
-    {both : Ref × Option Ref}
-    → e ≡ entry.Item item → both ≡ references item → both.1 ≡ None →
-    ys ≡ full_pairs_after (kept_events kind (both.0 ∷ [])) xs
-    → ys ≡ full_pairs_after (events_of kind e) xs
-fed-one kind xs ys is refs none fed = fed ∙ ap (λ es. full_pairs_after es xs)
-    (sym (one_event kind is refs none))
-
--- the profiles after some entries, and then one more
-pub fed-more : (kind : Kind) (old xs ys : List FullPair) (es : List Entry) (e : Entry)
-    → xs ≡ full_pairs_after (flat_map (events_of kind) es) old →
-    ys ≡ full_pairs_after (events_of kind e) xs
-    → ys ≡ full_pairs_after (flat_map (events_of kind) (es ++ e ∷ [])) old
-fed-more kind old xs ys es e so_far fed =
-    fed ∙ ap (full_pairs_after (events_of kind e)) so_far ∙
-    sym (after-append (flat_map (events_of kind) es) (events_of kind e) old)
-    ∙ ap (λ l. full_pairs_after l old) (sym (events_more kind es e))
 
 -- what is known of each profile, by what it was fed
 pub fed-each : (n : ℕ) (es : List Event) (refs : List Ref) (xs : List FullPair) →
@@ -227,33 +182,11 @@ pub no-finer-flushed : (bits : ℕ) (xs : List FullPair) → AreNoFinerFull bits
 no-finer-flushed bits [] h = tt
 no-finer-flushed bits (x ∷ xs) h = (h.0, no-finer-flushed bits xs h.1)
 
-finest-most : (bits : ℕ) (xs : List FullPair) →
-    fold (λ n x. min n x.profile.plain.geometry.b) bits xs ≤ bits
-finest-most bits [] = omega arith
-finest-most bits (x ∷ xs) = omega (arith, finest-most (min bits x.profile.plain.geometry.b) xs)
-
-finest-each : (bits : ℕ) (xs : List FullPair) →
-    AreNoFinerFull (fold (λ n x. min n x.profile.plain.geometry.b) bits xs) xs
-finest-each bits [] = tt
-finest-each bits (x ∷ xs) = (
-  omega (arith, finest-most (min bits x.profile.plain.geometry.b) xs),
-  finest-each (min bits x.profile.plain.geometry.b) xs,
-)
-
 pub finest-small : (xs : List FullPair) → finest_full_bits xs ≤ 20
-finest-small xs = finest-most 20 xs
+finest-small xs = finest-most (λ (x : FullPair). x.profile.plain.geometry.b) 20 xs
 
 pub finest-finer : (xs : List FullPair) → AreNoFinerFull (finest_full_bits xs) xs
-finest-finer xs = finest-each 20 xs
-
--- addresses in one block are in one larger block too
-same-block : (m n a c : ℕ) → m ≤ n → a / 2 ^ m ≡ c / 2 ^ m → a / 2 ^ n ≡ c / 2 ^ n
-same-block m n a c le same =
-    let wide : (k : ℕ) → k / 2 ^ n ≡ k / 2 ^ m / 2 ^ (n - m) =
-    λ k. ap (λ b. k / 2 ^ b) {x = n} {y = m + (n - m)} (omega (arith, le)) ∙
-    ap (λ p. k / p) (pow-add 2 m (n - m))
-    ∙ sym (div-div-eq-div-mul k (2 ^ m) (2 ^ (n - m))) in
-    wide a ∙ ap (λ k. k / 2 ^ (n - m)) same ∙ sym (wide c)
+finest-finer xs = finest-each (λ (x : FullPair). x.profile.plain.geometry.b) 20 xs
 
 -- the second of two references changes nothing if it repeats the first
 again : (n bits : ℕ) (es : List Event) (v : FullState) (a r : Ref) → IsLagging n es v →

@@ -31,44 +31,43 @@ all_after-append es fs (x ∷ xs) =
     ∙ ap (λ l. record x { profile = fold after_event (fold after_event x.profile es) fs } ∷ l)
     (all_after-append es fs xs)
 
--- the references of an item that are kept, one after the other
-pub fed-both : (kind : Kind) (xs ys zs : List PairProfile) {e : Entry} {item : Item} {both : Ref ×
-    Option Ref} {second : Ref}
-    → e ≡ entry.Item item → both ≡ references item → both.1 ≡ Some second
-    → ys ≡ profiles_after (kept_events kind (both.0 ∷ [])) xs →
-    zs ≡ profiles_after (kept_events kind (second ∷ [])) ys
-    → zs ≡ profiles_after (events_of kind e) xs
-fed-both kind xs ys zs {both = both} {second} is refs two first later =
-    later ∙ ap (profiles_after (kept_events kind (second ∷ []))) first
-    ∙ sym (all_after-append (kept_events kind (both.0 ∷ [])) (kept_events kind (second ∷ [])) xs)
-    ∙ ap (λ es. profiles_after es xs) (joined both.0 ∙ sym (two_events kind is refs two))
-  where
-    joined : (r : Ref) → kept_events kind (r ∷ []) ++ kept_events kind (second ∷ []) ≡ kept_events
-        kind (r ∷ second ∷ [])
-    joined r = elim (is_kept kind r.access) as (λ b. map (λ x. event.Reference x)
-        (cond b (r ∷ []) []) ++ kept_events kind (second ∷ [])
-        ≡ map (λ x. event.Reference x)
-        (cond b (r ∷ filter (λ x. is_kept kind x.access) (second ∷ []))
-        (filter (λ x. is_kept kind x.access) (second ∷ []))))
-        [ true ↦ refl | false ↦ refl ]
+-- Profiles of any kind, after events one after the other.
+module _ {X : Type 0} (after : List Event → List X → List X)
+    (append : (es fs : List Event) (xs : List X) → after (es ++ fs) xs ≡ after fs (after es xs))
+    (kind : Kind) where
+  -- the references of an item that are kept
+  pub fed-both : (xs ys zs : List X) {e : Entry} {item : Item} {both : Ref × Option Ref}
+      {second : Ref} → e ≡ entry.Item item → both ≡ references item → both.1 ≡ Some second →
+      ys ≡ after (kept_events kind (both.0 ∷ [])) xs →
+      zs ≡ after (kept_events kind (second ∷ [])) ys → zs ≡ after (events_of kind e) xs
+  fed-both xs ys zs {both = both} {second} is refs two first later =
+      later ∙ ap (after (kept_events kind (second ∷ []))) first
+      ∙ sym (append (kept_events kind (both.0 ∷ [])) (kept_events kind (second ∷ [])) xs)
+      ∙ ap (λ es. after es xs) (joined both.0 ∙ sym (two_events kind is refs two))
+    where
+      joined : (r : Ref) → kept_events kind (r ∷ []) ++ kept_events kind (second ∷ []) ≡
+          kept_events kind (r ∷ second ∷ [])
+      joined r = elim (is_kept kind r.access) as (λ b. map (λ x. event.Reference x)
+          (cond b (r ∷ []) []) ++ kept_events kind (second ∷ [])
+          ≡ map (λ x. event.Reference x)
+          (cond b (r ∷ filter (λ x. is_kept kind x.access) (second ∷ []))
+          (filter (λ x. is_kept kind x.access) (second ∷ []))))
+          [ true ↦ refl | false ↦ refl ]
 
-pub fed-one : (kind : Kind) (xs ys : List PairProfile) {e : Entry} {item : Item}
-    {both : Ref × Option Ref}
-    → e ≡ entry.Item item → both ≡ references item → both.1 ≡ None →
-    ys ≡ profiles_after (kept_events kind (both.0 ∷ [])) xs
-    → ys ≡ profiles_after (events_of kind e) xs
-fed-one kind xs ys is refs none fed = fed ∙ ap (λ es. profiles_after es xs)
-    (sym (one_event kind is refs none))
+  pub fed-one : (xs ys : List X) {e : Entry} {item : Item} {both : Ref × Option Ref} →
+      e ≡ entry.Item item → both ≡ references item → both.1 ≡ None →
+      ys ≡ after (kept_events kind (both.0 ∷ [])) xs → ys ≡ after (events_of kind e) xs
+  fed-one xs ys is refs none fed =
+      fed ∙ ap (λ es. after es xs) (sym (one_event kind is refs none))
 
--- the profiles after some entries, and then one more
-pub fed-more : (kind : Kind) (old xs ys : List PairProfile) (es : List Entry) (e : Entry)
-    → xs ≡ profiles_after (flat_map (events_of kind) es) old →
-    ys ≡ profiles_after (events_of kind e) xs
-    → ys ≡ profiles_after (flat_map (events_of kind) (es ++ e ∷ [])) old
-fed-more kind old xs ys es e so_far fed =
-    fed ∙ ap (profiles_after (events_of kind e)) so_far ∙
-    sym (all_after-append (flat_map (events_of kind) es) (events_of kind e) old)
-    ∙ ap (λ l. profiles_after l old) (sym (events_more kind es e))
+  -- the profiles after some entries, and then one more
+  pub fed-more : (old xs ys : List X) (es : List Entry) (e : Entry) →
+      xs ≡ after (flat_map (events_of kind) es) old → ys ≡ after (events_of kind e) xs →
+      ys ≡ after (flat_map (events_of kind) (es ++ e ∷ [])) old
+  fed-more old xs ys es e so_far fed =
+      fed ∙ ap (after (events_of kind e)) so_far ∙
+      sym (append (flat_map (events_of kind) es) (events_of kind e) old)
+      ∙ ap (λ l. after l old) (sym (events_more kind es e))
 
 -- a loop over profiles has not yet reached the one at its index
 pub unreached : {A : Type 0} (f : A → A) (xs : List A) (i : ℕ) (d : A) → i < length xs →

@@ -22,26 +22,23 @@ use Rattle.sweep_core.specs.internal.Waiting.{with_waiting}
 use Rattle.sweep_core.proofs.Lists.{Each-weaker, Each-map}
 use Rattle.sweep_core.proofs.Waiting.{fed-append, waiting-more}
 
--- the smallest block of some profiles is no larger than that of each
-finest-most : (bits : ℕ) (xs : List PairProfile) →
-    fold (λ n x. min n x.profile.geometry.b) bits xs ≤ bits
-finest-most bits [] = omega arith
-finest-most bits (x ∷ xs) =
-    omega (arith, finest-most (min bits x.profile.geometry.b) xs)
+-- the smallest of some numbers is no larger than each
+pub finest-most : {X : Type 0} (b : X → ℕ) (bits : ℕ) (xs : List X) →
+    fold (λ n x. min n (b x)) bits xs ≤ bits
+finest-most b bits [] = omega arith
+finest-most b bits (x ∷ xs) = omega (arith, finest-most b (min bits (b x)) xs)
 
-finest-each : (bits : ℕ) (xs : List PairProfile) →
-    AreNoFiner (fold (λ n x. min n x.profile.geometry.b) bits xs) xs
-finest-each bits [] = tt
-finest-each bits (x ∷ xs) = (
-  omega (arith, finest-most (min bits x.profile.geometry.b) xs),
-  finest-each (min bits x.profile.geometry.b) xs,
-)
+pub finest-each : {X : Type 0} (b : X → ℕ) (bits : ℕ) (xs : List X) →
+    Each (λ x. fold (λ n y. min n (b y)) bits xs ≤ b x) xs
+finest-each b bits [] = tt
+finest-each b bits (x ∷ xs) =
+    (omega (arith, finest-most b (min bits (b x)) xs), finest-each b (min bits (b x)) xs)
 
 pub finest-small : (xs : List PairProfile) → finest_bits xs ≤ 20
-finest-small xs = finest-most 20 xs
+finest-small xs = finest-most (λ (x : PairProfile). x.profile.geometry.b) 20 xs
 
 pub finest-finer : (xs : List PairProfile) → AreNoFiner (finest_bits xs) xs
-finest-finer xs = finest-each 20 xs
+finest-finer xs = finest-each (λ (x : PairProfile). x.profile.geometry.b) 20 xs
 
 -- no reference and no flush changes a block size
 geometry-unless : (b : Bool) (v : ProfileState) (x : ℕ) →
@@ -69,7 +66,7 @@ pub no-finer-flushed : (bits : ℕ) (xs : List PairProfile) → AreNoFiner bits 
 no-finer-flushed bits xs h = Each-map (λ y. bits ≤ y.profile.geometry.b) pair_after_flush xs h
 
 -- addresses in one block are in one larger block too
-same-block : (m n a c : ℕ) → m ≤ n → a / 2 ^ m ≡ c / 2 ^ m → a / 2 ^ n ≡ c / 2 ^ n
+pub same-block : (m n a c : ℕ) → m ≤ n → a / 2 ^ m ≡ c / 2 ^ m → a / 2 ^ n ≡ c / 2 ^ n
 same-block m n a c le same =
     let wide : (k : ℕ) → k / 2 ^ n ≡ k / 2 ^ m / 2 ^ (n - m) =
     λ k. ap (λ b. k / 2 ^ b) {x = n} {y = m + (n - m)} (omega (arith, le)) ∙

@@ -1,5 +1,5 @@
--- The rows of a sweep, written one after another.
-use Rattle.std.proofs.Common.{◌≡◌, List, [], ◌∷◌, ◌++◌, refl, sym, ap, ◌∙◌, append-nil}
+-- The rows of a sweep, written some after others.
+use Rattle.std.proofs.Common.{◌≡◌, ℕ, List, [], ◌∷◌, ◌++◌, refl, sym, ap, ◌∙◌, append-nil}
 use Rattle.std.proofs.Common.{append_assoc, subst}
 use Rattle.std.proofs.lemmas.List.Concat.{flat_map-append}
 use Rattle.trace_core.specs.declared.events.Event.{Event}
@@ -18,67 +18,48 @@ csv-counted es [] = refl
 csv-counted es (c ∷ cs) = ap (λ l. row_of c (row_counts es c) ++ l) (csv-counted es cs)
 
 -- the text of some rows, and then of more
-csv-append : (rows more : List (Config × Counts)) → csv_rows (rows ++ more) ≡ csv_rows rows ++
+pub csv-append : (rows more : List (Config × Counts)) → csv_rows (rows ++ more) ≡ csv_rows rows ++
     csv_rows more
 unfolding csv_rows
 csv-append rows more = flat_map-append (λ x. row_of x.0 x.1) rows more
 
--- the text of one row more
-csv-more : (rows left : List (Config × Counts)) (row : Config × Counts) →
-    csv_rows (rows ++ row ∷ left) ≡ csv_rows rows ++ (row_of row.0 row.1 ++ csv_rows left)
+-- the text of one row, and of none
+pub csv-one : (row : Config × Counts) → csv_rows (row ∷ []) ≡ row_of row.0 row.1
 unfolding csv_rows
-csv-more rows left row = flat_map-append (λ x. row_of x.0 x.1) rows (row ∷ left)
+csv-one row = append-nil (row_of row.0 row.1)
 
-csv-one : (rows : List (Config × Counts)) (row : Config × Counts) →
-    csv_rows (rows ++ row ∷ []) ≡ csv_rows rows ++ row_of row.0 row.1
+pub csv-none : csv_rows [] ≡ []
 unfolding csv_rows
-csv-one rows row = csv-more rows [] row ∙ ap (λ l. csv_rows rows ++ l)
-    (append-nil (row_of row.0 row.1))
+csv-none = refl
 
--- Of some rows those before some that are left were written.
-pub record WroteBefore (rows : List (Config × Counts)) (old new : SinkView)
-    (left : List (Config × Counts)) : Type 0 where
-  pub front : List (Config × Counts)
+-- Of some rows of any kind those before some that are left were written.
+pub record WroteBefore {R : Type 0} (text : List R → List ℕ) (rows : List R) (old new : SinkView)
+    (left : List R) : Type 0 where
+  pub front : List R
   pub whole : rows ≡ front ++ left
-  pub wrote : Wrote old new (csv_rows front)
+  pub wrote : Wrote old new (text front)
 
-pub rows-begin : (rows : List (Config × Counts)) (v : SinkView) → WroteBefore rows v v rows
-unfolding csv_rows
-rows-begin rows v = record { front = []; whole = refl; wrote = Wrote-none v }
+pub rows-begin : {R : Type 0} {text : List R → List ℕ} → text [] ≡ [] → (rows : List R) →
+    (v : SinkView) → WroteBefore text rows v v rows
+rows-begin none rows v =
+    record { front = []; whole = refl; wrote = subst (Wrote v v) (sym none) (Wrote-none v) }
 
-module _ {rows left rest : List (Config × Counts)} {row : Config × Counts} {a b d : SinkView}
-    (w : WroteBefore rows a b left) (is : left ≡ row ∷ rest) where
-  -- one more was written
-  pub rows-more : Wrote b d (row_of row.0 row.1) → WroteBefore rows a d rest
+module _ {R : Type 0} {text : List R → List ℕ}
+    (append : (rows more : List R) → text (rows ++ more) ≡ text rows ++ text more)
+    {rows left : List R} (some rest : List R) {a b d : SinkView}
+    (w : WroteBefore text rows a b left) (is : left ≡ some ++ rest) where
+  -- some more were written
+  pub rows-more : Wrote b d (text some) → WroteBefore text rows a d rest
   rows-more more = record {
-    front = w.front ++ row ∷ [];
-    whole = w.whole ∙ ap (λ l. w.front ++ l) is ∙ sym (append_assoc w.front (row ∷ []) rest);
-    wrote = subst (Wrote a d) (sym (csv-one w.front row)) (Wrote-more w.wrote more);
+    front = w.front ++ some;
+    whole = w.whole ∙ ap (λ l. w.front ++ l) is ∙ sym (append_assoc w.front some rest);
+    wrote = subst (Wrote a d) (sym (append w.front some)) (Wrote-more w.wrote more);
   }
 
-  -- the sink failed while it took it
-  pub rows-failed : WrotePart b d (row_of row.0 row.1) → WrotePart a d (csv_rows rows)
+  -- the sink failed while it took them
+  pub rows-failed : WrotePart b d (text some) → WrotePart a d (text rows)
   rows-failed part =
-      subst (WrotePart a d) (sym (ap csv_rows (w.whole ∙ ap (λ l. w.front ++ l) is) ∙
-      csv-more w.front rest row
-      ∙ sym (append_assoc (csv_rows w.front) (row_of row.0 row.1) (csv_rows rest))))
-      (WrotePart-more (csv_rows rest) (WrotePart-after w.wrote part))
-
--- some more at once
-module _ {rows left : List (Config × Counts)} (pair rest : List (Config × Counts))
-    {a b d : SinkView} (w : WroteBefore rows a b left)
-    (is : left ≡ pair ++ rest) where
-  pub pair-more : Wrote b d (csv_rows pair) → WroteBefore rows a d rest
-  pair-more more = record {
-    front = w.front ++ pair;
-    whole = w.whole ∙ ap (λ l. w.front ++ l) is ∙ sym (append_assoc w.front pair rest);
-    wrote = subst (Wrote a d) (sym (csv-append w.front pair)) (Wrote-more w.wrote more);
-  }
-
-  pub pair-failed : WrotePart b d (csv_rows pair) → WrotePart a d (csv_rows rows)
-  pair-failed part =
-      subst (WrotePart a d) (sym (ap csv_rows (w.whole ∙ ap (λ l. w.front ++ l) is) ∙
-      csv-append w.front (pair ++ rest)
-      ∙ ap (λ l. csv_rows w.front ++ l) (csv-append pair rest) ∙
-      sym (append_assoc (csv_rows w.front) (csv_rows pair) (csv_rows rest))))
-      (WrotePart-more (csv_rows rest) (WrotePart-after w.wrote part))
+      subst (WrotePart a d) (sym (ap text (w.whole ∙ ap (λ l. w.front ++ l) is) ∙
+      append w.front (some ++ rest) ∙ ap (λ l. text w.front ++ l) (append some rest) ∙
+      sym (append_assoc (text w.front) (text some) (text rest))))
+      (WrotePart-more (text rest) (WrotePart-after w.wrote part))

@@ -23,30 +23,6 @@ use Rattle.full_profile.proofs.laws.Waiting.{one_dirty, dirty_in, copyback_of}
 use Rattle.full_profile.proofs.laws.LookingBack.{with_ways, held_is, evict_is}
 use Rattle.full_profile.proofs.laws.Dirty.{KnowsDirty}
 
--- a sum of two, term by term
-pub sum_by_parts : {X : Type 0} (f g h : X → ℕ) (xs : List X) → ((x : X) → f x + g x ≡ h x) →
-    sum_by f xs + sum_by g xs ≡ sum_by h xs
-sum_by_parts f g h [] e = refl
-sum_by_parts f g h (x ∷ xs) e = omega (
-  arith,
-  sum_by-cons f x xs,
-  sum_by-cons g x xs,
-  sum_by-cons h x xs,
-  e x,
-  sum_by_parts f g h xs e,
-)
-
-pub sum_by_same : {X : Type 0} (f g : X → ℕ) (xs : List X) → ((x : X) → f x ≡ g x) →
-    sum_by f xs ≡ sum_by g xs
-sum_by_same f g [] e = refl
-sum_by_same f g (x ∷ xs) e = omega (
-  arith,
-  sum_by-cons f x xs,
-  sum_by-cons g x xs,
-  e x,
-  sum_by_same f g xs e,
-)
-
 -- sums over the numbers below n
 pub below_same : (f g : ℕ → ℕ) (n : ℕ) → ((k : ℕ) → k < n → f k ≡ g k) →
     sum_by f (range_with_len 0 n) ≡ sum_by g (range_with_len 0 n)

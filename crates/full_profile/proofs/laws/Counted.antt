@@ -23,6 +23,7 @@ use Rattle.full_profile.specs.State.{FullState, empty_full, cleans_of, kind_of, 
 use Rattle.full_profile.specs.State.{after_full_reference, after_full_flush, after_full_event}
 use Rattle.full_profile.specs.State.{after_end, full_after, full_counts_at, copied_at, kind_number}
 use Rattle.full_profile.specs.State.{empty_kind, clean_in_front}
+use Rattle.profile_core.proofs.profile.Counting.{sum_by_parts, sum_by_same}
 use Rattle.full_profile.proofs.laws.Copies.{one_within, counted_from}
 use Rattle.full_profile.proofs.laws.Copies.{evictions}
 use Rattle.full_profile.proofs.laws.Fit.{FullStandsFor, fed_event, fed_new, emptied}
@@ -32,8 +33,7 @@ use Rattle.full_profile.proofs.laws.MissesByKind.{IsKind, kind_more, fetch_kind,
 use Rattle.full_profile.proofs.laws.MissesByKind.{write_kind, is_miss}
 use Rattle.full_profile.proofs.laws.LookingBack.{with_ways, sum_after_push, hit_is}
 use Rattle.full_profile.proofs.laws.Dirty.{KnowsDirty, knows_reference, knows_flush, knows_new}
-use Rattle.full_profile.proofs.laws.Copybacks.{copyback_at, copybacks_at_flush, sum_by_parts}
-use Rattle.full_profile.proofs.laws.Copybacks.{sum_by_same}
+use Rattle.full_profile.proofs.laws.Copybacks.{copyback_at, copybacks_at_flush}
 
 -- where all blocks from an index on are counted for the cache of so many ways if they are dirty
 all_counted : (up_to : ℕ → ℕ) (ways index : ℕ) (cleans : List ℕ) →

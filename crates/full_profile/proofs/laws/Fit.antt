@@ -20,7 +20,7 @@ use Rattle.profile_core.specs.internal.profile.StackProfile.{IsFit}
 use Rattle.profile_core.specs.profile.ProfileStandsFor.{ProfileStandsFor}
 use Rattle.profile_core.proofs.profile.Fronts.{fit_of}
 use Rattle.profile_core.proofs.profile.Runs.{event_stands}
-use Rattle.profile_core.proofs.profile.Stands.{new_stands}
+use Rattle.profile_core.proofs.profile.Stands.{new_stands, length-either}
 use Rattle.full_profile.specs.State.{FullState, KindState, empty_kind, empty_full}
 use Rattle.full_profile.specs.State.{after_full_event, after_full_reference, full_after, cleans_of}
 use Rattle.full_profile.specs.State.{kind_of, kind_number, with_miss, after_reference_in_lists}
@@ -106,11 +106,6 @@ none_short zero k n = omega arith
 none_short (suc m) zero n = omega arith
 none_short (suc m) (suc k) n = none_short m k n
 
-length_either : (b : Bool) (xs ys : List ℕ) {n : ℕ} → length xs ≡ n → length ys ≡ n →
-    length (cond b xs ys) ≡ n
-length_either true xs ys p q = p
-length_either false xs ys p q = q
-
 fit_plain_reference : (v : ProfileState) (x : ℕ) → IsFit v → IsFit (after_reference v x)
 fit_plain_reference v x h =
     let xs : List ℕ = list_of v (set_of_block v.geometry x) in
@@ -119,9 +114,9 @@ fit_plain_reference v x h =
       set_count = length-set v.lists (set_of_block v.geometry x) _ ∙ h.set_count;
       short = set_short v.lists (set_of_block v.geometry x) v.geometry.e _
           (omega (arith, length-take v.geometry.e (move_to_front x xs))) h.short;
-      distance_count = length_either (is_in x xs) _ _
+      distance_count = length-either (is_in x xs) _ _
           (length-set v.distances (index_of x xs) _ ∙ h.distance_count) h.distance_count;
-      occupancy_count = length_either (is_in x xs) _ _ h.occupancy_count
+      occupancy_count = length-either (is_in x xs) _ _ h.occupancy_count
           (length-set v.misses_by_occupancy (length xs) _ ∙ h.occupancy_count);
     }
 

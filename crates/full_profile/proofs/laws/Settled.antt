@@ -24,6 +24,7 @@ use Rattle.profile_core.specs.profile.Fronts.{is_front_of, after_fronts, is_refi
 use Rattle.profile_core.specs.internal.profile.CountedFronts.{Leads}
 use Rattle.profile_core.proofs.profile.Feeding.{found_front}
 use Rattle.profile_core.proofs.profile.Fronts.{front_reference, IsFiner, finer_of, leads_after}
+use Rattle.profile_core.proofs.profile.Fronts.{no_front}
 use Rattle.full_profile.specs.State.{FullState, cleans_of, kind_of, kind_number}
 use Rattle.full_profile.specs.State.{with_miss, clean_in_front, after_copies, after_evictions}
 use Rattle.full_profile.specs.State.{after_full_reference, after_reference_in_lists, full_after}
@@ -227,12 +228,6 @@ dirty_reference v w fit fit' finer fronts leads r = λ a front dirty.
     ∙ leads a (sym (front_other v r fit a apart) ∙ front)
     (sym (ap (λ cs. get_or cs 0 0) (clean_other v r fit a apart)) ∙ dirty))
     (cases_eq (set_of g r.addr) (set_of g a))
-
--- where all lists are empty there is no front
-no_front : (n k x : ℕ) → is_front x (get_or (replicate n []) k []) ≡ false
-no_front zero k x = refl
-no_front (suc n) zero x = refl
-no_front (suc n) (suc k) x = no_front n k x
 
 dirty_empty : (v w : FullState) → v.plain.lists ≡ replicate (2 ^ v.plain.geometry.s) [] →
     LeadsDirty v w

@@ -8,9 +8,9 @@ use Rattle.profile_core.specs.profile.RecencyList.{index_of, is_in, move_to_fron
 use Rattle.profile_core.proofs.ListParts.{is_in-append, index-append_left, index-append_right}
 use Rattle.full_profile.specs.declared.marked_lists.row.Shifted.TheVariants.{Found, Out}
 use Rattle.full_profile.specs.internal.Rows.{marked_shift_of}
-use Rattle.full_profile.proofs.marked_lists.Shifting.{remove_end, is_found}
-use Rattle.full_profile.proofs.marked_lists.Shifting.{is_absent}
-use Rattle.full_profile.proofs.marked_lists.RowBringing.{here, nowhere}
+use Rattle.profile_core.proofs.Shifting.{remove_end, is_found}
+use Rattle.profile_core.proofs.Shifting.{is_absent}
+use Rattle.full_profile.proofs.marked_lists.RowBringing.{IsHere, IsNowhere, here, nowhere}
 use Rattle.full_profile.proofs.marked_lists.TwoParts.{near_out, far_out, read_left, read_right}
 
 -- the last number of a list in two parts, with another one in front
@@ -87,28 +87,28 @@ module _ (block clean : ℕ) {n : ℕ} {near far near_cleans far_cleans blocks c
   -- where the block is among the first
   module _ (place found_clean : ℕ)
       (found : Found place found_clean ≡ marked_shift_of block block near clean near_cleans) where
+    h : IsHere place found_clean block near near_cleans
+    h = here block clean found
+
     at : index_of block blocks ≡ index_of block near
-    at = let h = here place found_clean block block clean near near_cleans found in
-        ap (index_of block) (sym two.parts) ∙ index-append_left block near far h.inside
+    at = ap (index_of block) (sym two.parts) ∙ index-append_left block near far h.inside
 
     inside : is_in block blocks ≡ true
-    inside = let h = here place found_clean block block clean near near_cleans found in
-        ap (is_in block) (sym two.parts) ∙ is_in-append block near far
+    inside = ap (is_in block) (sym two.parts) ∙ is_in-append block near far
         ∙ ap (λ b. b || is_in block far) h.inside
 
     near_lt : index_of block near < length near
-    near_lt = (here place found_clean block block clean near near_cleans found).within
+    near_lt = h.within
 
     read : found_clean ≡ get_or cleans (index_of block blocks) 0
-    read = (here place found_clean block block clean near near_cleans found).clean_is
+    read = h.clean_is
         ∙ sym (read_left near_cleans far_cleans (index_of block near)
         (omega (arith, near_lt, two.size, two.cleans_size)))
         ∙ ap (λ l. get_or l (index_of block near) 0) two.cleans_parts
         ∙ ap (λ i. get_or cleans i 0) (sym at)
 
     pub near_shifted : Found place found_clean ≡ marked_shift_of block block blocks clean cleans
-    near_shifted = let h = here place found_clean block block clean near near_cleans found in
-        grind (arith, inside, h.distance_is, at, read)
+    near_shifted = grind (arith, inside, h.distance_is, at, read)
 
     -- the blocks, or their clean depths
     near_kept : (y i : ℕ) (xs ys all now : List ℕ) → xs ++ ys ≡ all → i < length xs →
@@ -135,28 +135,27 @@ module _ (block clean : ℕ) {n : ℕ} {near far near_cleans far_cleans blocks c
   -- where it is not
   module _ (last last_clean : ℕ)
       (out : Out last last_clean ≡ marked_shift_of block block near clean near_cleans) where
-    absent : is_in block near ≡ false
-    absent = (nowhere last last_clean block block clean near near_cleans out).outside
+    gone : IsNowhere last last_clean block block clean near near_cleans
+    gone = nowhere out
 
     near_end : n ≡ index_of block near
-    near_end = sym two.size
-        ∙ (nowhere last last_clean block block clean near near_cleans out).index_is
+    near_end = sym two.size ∙ gone.index_is
 
     behind : index_of block blocks ≡ n + index_of block far
-    behind = ap (index_of block) (sym two.parts) ∙ index-append_right block near far absent
+    behind = ap (index_of block) (sym two.parts) ∙ index-append_right block near far gone.outside
         ∙ ap (λ m. m + index_of block far) two.size
 
     there : is_in block blocks ≡ is_in block far
     there = ap (is_in block) (sym two.parts) ∙ is_in-append block near far
-        ∙ ap (λ b. b || is_in block far) absent
+        ∙ ap (λ b. b || is_in block far) gone.outside
 
     last_is : last ≡ get_or near (n - 1) 0
-    last_is = (nowhere last last_clean block block clean near near_cleans out).last_is
+    last_is = gone.last_is
         ∙ ap (λ i. get_or (block ∷ near) i 0) {x = index_of block near} {y = suc (n - 1)}
         (omega (arith, near_end, two.some))
 
     last_clean_is : last_clean ≡ get_or near_cleans (n - 1) 0
-    last_clean_is = (nowhere last last_clean block block clean near near_cleans out).clean_is
+    last_clean_is = gone.clean_is
         ∙ ap (λ i. get_or (clean ∷ near_cleans) i 0) {x = index_of block near} {y = suc (n - 1)}
         (omega (arith, near_end, two.some))
 
@@ -190,7 +189,7 @@ module _ (block clean : ℕ) {n : ℕ} {near far near_cleans far_cleans blocks c
         Found place found_clean ≡ marked_shift_of block last far last_clean far_cleans →
         Found (n + place) found_clean ≡ marked_shift_of block block blocks clean cleans
     far_found place found_clean found =
-        let h = here place found_clean block last last_clean far far_cleans found in
+        let h : IsHere place found_clean block far far_cleans = here last last_clean found in
         let inside_all : is_in block blocks ≡ true = there ∙ h.inside in
         let place_is : n + place ≡ index_of block blocks =
         ap (λ i. n + i) h.distance_is ∙ sym behind in
@@ -208,16 +207,16 @@ module _ (block clean : ℕ) {n : ℕ} {near far near_cleans far_cleans blocks c
     end_is y z xs ys all whole full z_is =
         ends y z xs ys n full two.some z_is ∙ ap (λ l. get_or (y ∷ l) (length l) 0) whole
 
-    pub far_gone : (gone gone_clean : ℕ) →
-        Out gone gone_clean ≡ marked_shift_of block last far last_clean far_cleans →
-        Out gone gone_clean ≡ marked_shift_of block block blocks clean cleans
-    far_gone gone gone_clean gone_is =
-        let h = nowhere gone gone_clean block last last_clean far far_cleans gone_is in
+    pub far_gone : (end end_clean : ℕ) →
+        Out end end_clean ≡ marked_shift_of block last far last_clean far_cleans →
+        Out end end_clean ≡ marked_shift_of block block blocks clean cleans
+    far_gone end end_clean out_is =
+        let h : IsNowhere end end_clean block last last_clean far far_cleans = nowhere out_is in
         let outside_all : is_in block blocks ≡ false = there ∙ h.outside in
-        let first : gone ≡ get_or (block ∷ blocks) (length blocks) 0 =
+        let first : end ≡ get_or (block ∷ blocks) (length blocks) 0 =
         h.last_is ∙ ap (λ i. get_or (last ∷ far) i 0) (sym h.index_is)
         ∙ end_is block last near far blocks two.parts two.size last_is in
-        let second : gone_clean ≡ get_or (clean ∷ cleans) (length blocks) 0 =
+        let second : end_clean ≡ get_or (clean ∷ cleans) (length blocks) 0 =
         h.clean_is ∙ ap (λ i. get_or (last_clean ∷ far_cleans) i 0)
         {x = index_of block far} {y = length far_cleans}
         (omega (arith, h.index_is, far_beside))

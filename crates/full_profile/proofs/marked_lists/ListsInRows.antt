@@ -14,9 +14,9 @@ use borrow.Rule.Slice.PartMut.{put_mid}
 use Rattle.profile_core.specs.internal.rows.Rows.{rows_by_set}
 use Rattle.full_profile.specs.internal.Marked.{Marked, blocks_in, cleans_in}
 use Rattle.full_profile.specs.internal.Rows.{AreRows, listed, all_listed}
-use Rattle.full_profile.proofs.marked_lists.Parts.{in_front, part_long, part_read, part_first}
-use Rattle.full_profile.proofs.marked_lists.Parts.{part_here, part_other, part_kept, length-rows}
-use Rattle.full_profile.proofs.marked_lists.Parts.{rows_at, rows_put, rows_same}
+use Rattle.profile_core.proofs.RowParts.{in_front, part_long, part_read, part_first, part_here}
+use Rattle.profile_core.proofs.RowParts.{part_other, part_kept}
+use Rattle.profile_core.proofs.RowsBySet.{length-rows_by_set, rows_at, rows_put, rows_same}
 
 -- what is known where the list of set k is asked for
 pub record HasList (d k : ℕ) (blocks cleans lens : List ℕ) (m : Marked) : Type 0 where
@@ -43,7 +43,7 @@ pub set_count : (d : ℕ) (blocks cleans lens : List ℕ) {m : Marked} → recor
   cleans = all_listed d cleans lens;
 } ≡ m → length lens ≡ length m.blocks
 set_count d blocks cleans lens seen =
-    sym (length-rows (length lens) (listed d blocks lens)) ∙ ap (λ v. length v.blocks) seen
+    sym (length-rows_by_set (length lens) (listed d blocks lens)) ∙ ap (λ v. length v.blocks) seen
 
 -- the front of a list, or 0
 front_of : (len d : ℕ) (row : List ℕ) → 1 ≤ d → (len ≡ 0 → get_or row 0 0 ≡ 0) →
@@ -145,7 +145,7 @@ listed_put d k numbers lens row new len lt ends long is =
     ∙ rows_put (length lens) k (listed d numbers lens) (listed d written (set lens k len)) new lt
     (ap (λ n. take n (take d (drop (k * d) written))) (get_or-set_same lens k len 0 lt)
     ∙ ap (take len) (part_here (k * d) d numbers ends row long) ∙ is)
-    (λ j other. ap (λ n. take n (take d (drop (j * d) written)))
+    (λ j _ other. ap (λ n. take n (take d (drop (j * d) written)))
     (get_or-set_other lens k j len 0 other)
     ∙ ap (take (get_or lens j 0)) (part_other k j d numbers row (omega (arith, ends)) long other))
 
@@ -157,7 +157,7 @@ listed_cut d k numbers lens lt =
     (length-set lens k 0)
     ∙ rows_put (length lens) k (listed d numbers lens) (listed d numbers (set lens k 0)) [] lt
     (ap (λ n. take n (take d (drop (k * d) numbers))) (get_or-set_same lens k 0 0 lt))
-    (λ j other. ap (λ n. take n (take d (drop (j * d) numbers)))
+    (λ j _ other. ap (λ n. take n (take d (drop (j * d) numbers)))
     (get_or-set_other lens k j 0 0 other))
 
 -- all lists are empty

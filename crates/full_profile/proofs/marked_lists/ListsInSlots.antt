@@ -23,7 +23,7 @@ use Rattle.full_profile.proofs.marked_lists.Emptying.{blank_of}
 use Rattle.full_profile.specs.internal.Slotted.{IsInSlots, AreSlotted, blocks_behind, cleans_behind}
 use Rattle.full_profile.specs.internal.Slotted.{listed_blocks, listed_cleans, no_list, list_in}
 use Rattle.full_profile.specs.internal.Slotted.{all_blocks, all_cleans}
-use Rattle.full_profile.proofs.marked_lists.Parts.{length-rows, rows_at, rows_put, rows_same}
+use Rattle.profile_core.proofs.RowsBySet.{length-rows_by_set, rows_at, rows_put, rows_same}
 
 -- how many there are behind the front
 pub blocks_behind_long : {l : ListSlots} → IsInSlots l → length (blocks_behind l) ≡ 16
@@ -73,7 +73,8 @@ pub set_count : (d : ℕ) (fronts cleans : List ℕ) (lists : List ListSlots) {m
   cleans = all_cleans cleans lists;
 } ≡ m → length lists ≡ length m.blocks
 set_count d fronts cleans lists seen =
-    sym (length-rows (length lists) (λ i. listed_blocks (get_or fronts i 0) (list_in lists i)))
+    sym (length-rows_by_set (length lists)
+    (λ i. listed_blocks (get_or fronts i 0) (list_in lists i)))
     ∙ ap (λ v. length v.blocks) seen
 
 -- the first of a list that is not empty, or 0
@@ -189,7 +190,7 @@ module _ {d k : ℕ} {fronts cleans : List ℕ} {lists : List ListSlots} {m : Ma
       (ap (λ c. listed_cleans c l) (get_or-set_same cleans k x 0 clean_within)
       ∙ first_set l.len (get_or cleans k 0) x (cleans_behind l)
       ∙ ap (λ ls. set ls 0 x) (sym cleans_are))
-      (λ j other. ap (λ c. listed_cleans c (list_in lists j))
+      (λ j _ other. ap (λ c. listed_cleans c (list_in lists j))
       (get_or-set_other cleans k j x 0 other)))
       ∙ ap (λ (v : Marked). record v { cleans = set v.cleans k (set (cleans_in m k) 0 x) }) h.seen
 
@@ -237,7 +238,7 @@ module _ {d k : ℕ} {fronts cleans : List ℕ} {lists : List ListSlots} {m : Ma
         (ap (λ f. listed_blocks f (list_in (set lists k l) k))
         (get_or-set_same fronts k front 0 front_within)
         ∙ ap (listed_blocks front) there ∙ is)
-        (λ j other. ap (λ f. listed_blocks f (list_in (set lists k l) j))
+        (λ j _ other. ap (λ f. listed_blocks f (list_in (set lists k l) j))
         (get_or-set_other fronts k j front 0 other)
         ∙ ap (listed_blocks (get_or fronts j 0)) (elsewhere j other)))
         (ap (λ n. rows_by_set n (clean_row (set cleans k clean) (set lists k l)))
@@ -247,7 +248,7 @@ module _ {d k : ℕ} {fronts cleans : List ℕ} {lists : List ListSlots} {m : Ma
         (ap (λ c. listed_cleans c (list_in (set lists k l) k))
         (get_or-set_same cleans k clean 0 clean_within)
         ∙ ap (listed_cleans clean) there ∙ clean_is)
-        (λ j other. ap (λ c. listed_cleans c (list_in (set lists k l) j))
+        (λ j _ other. ap (λ c. listed_cleans c (list_in (set lists k l) j))
         (get_or-set_other cleans k j clean 0 other)
         ∙ ap (listed_cleans (get_or cleans j 0)) (elsewhere j other)))
 

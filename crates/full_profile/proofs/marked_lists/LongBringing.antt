@@ -27,7 +27,7 @@ use Rattle.full_profile.specs.internal.Marked.{after_access, after_mark_in_front
 use Rattle.full_profile.specs.internal.LongMarked.{rest_touch_of, front_clean_of}
 use Rattle.full_profile.specs.internal.LongMarked.{IsWithin}
 use Rattle.full_profile.specs.internal.Sound.{plain_lists}
-use Rattle.full_profile.proofs.marked_lists.Touching.{same_size, unequal}
+use Rattle.full_profile.proofs.marked_lists.Touching.{same_size, unequal, full_parts}
 use Rattle.full_profile.proofs.marked_lists.TwoParts.{near_out, room_out, far_out, read_left}
 use Rattle.full_profile.proofs.marked_lists.TwoParts.{read_right, first_read, first_set}
 use Rattle.full_profile.proofs.marked_lists.LongLists.{HasMarked, IsWritten, plain, row, rest}
@@ -100,13 +100,6 @@ settled_parts : (b e : Bool) (touch : MarkedTouch) (p q r n : ℕ) →
 settled_parts true e touch p q r n is other = inl refl
 settled_parts false true touch p q r n is other = absurd (other r is)
 settled_parts false false touch p q r n is other = inr (refl, refl)
-
-full_parts : (b e : Bool) (c p q r n : ℕ) →
-    Full c ≡ cond b (Behind p q) (cond e (Full r) (New n)) →
-    (b ≡ false) × (e ≡ true) × (c ≡ r)
-full_parts true e c p q r n is = absurd (cc)
-full_parts false true c p q r n is = (refl, refl, cc)
-full_parts false false c p q r n is = absurd (cc)
 
 module _ {near : Marked} {beyond : ℕ} {far : List (Deep ℕ)} {k : ℕ} {m : Marked}
     (h : HasMarked near beyond far k m) (x : ℕ) where

@@ -16,31 +16,31 @@ use Rattle.full_profile.specs.declared.marked_lists.row.Shifted.TheVariants.{Fou
 use Rattle.full_profile.specs.declared.marked_lists.MarkedTouch.TheVariants.{Full}
 use Rattle.full_profile.specs.internal.Marked.{marked_touch_of}
 use Rattle.full_profile.specs.internal.Rows.{marked_shift_of}
-use Rattle.full_profile.proofs.marked_lists.Shifting.{length-remove, remove_end, index-le}
+use Rattle.profile_core.proofs.Shifting.{length-remove, remove_end, index-le}
 
 -- the list is as long as before
-pub row_kept : (y n d i : ℕ) (xs rest now : List ℕ) → length xs ≡ n → i < n → n ≤ d →
+pub row_kept : (y : ℕ) (xs rest : List ℕ) {n d i : ℕ} {now : List ℕ} → length xs ≡ n → i < n → n ≤ d →
     now ≡ take (length xs) (y ∷ remove xs i) → take n (now ++ rest) ≡ take d (y ∷ remove xs i)
-row_kept y n d i xs rest now size lt le is =
+row_kept y xs rest {n} {d} {i} {now} size lt le is =
     let long : length (y ∷ remove xs i) ≡ n = omega (arith, length-remove xs i, size, lt) in
     let all : now ≡ y ∷ remove xs i =
     is ∙ take_all (length xs) (y ∷ remove xs i) (omega (arith, long, size)) in
     take_at now rest n (ap length all ∙ long) ∙ all ∙
     sym (take_all d (y ∷ remove xs i) (omega (arith, long, le)))
 
-pub row_full : (y n i : ℕ) (xs rest now : List ℕ) → length xs ≡ n → length xs ≡ i →
+pub row_full : (y : ℕ) (xs rest : List ℕ) {n i : ℕ} {now : List ℕ} → length xs ≡ n → length xs ≡ i →
     now ≡ take (length xs) (y ∷ remove xs i) → take n (now ++ rest) ≡ take n (y ∷ remove xs i)
-row_full y n i xs rest now size at is =
+row_full y xs rest {n} {i} {now} size at is =
     let whole : remove xs i ≡ xs = remove_end xs i (omega (arith, at)) in
     let long : length now ≡ n = ap length is ∙
     length-take-le (length xs) (y ∷ remove xs i) (omega (arith, ap length whole)) ∙ size in
     take_at now rest n long ∙ is ∙ ap (λ j. take j (y ∷ remove xs i)) size
 
 -- the front of the list is written anew
-pub row_first : (y m n d i : ℕ) (xs rest now : List ℕ) → length xs ≡ n → i < n → n ≤ d →
+pub row_first : (y m : ℕ) (xs rest : List ℕ) {n d i : ℕ} {now : List ℕ} → length xs ≡ n → i < n → n ≤ d →
     now ≡ take (length xs) (y ∷ remove xs i) →
     take n (set (now ++ rest) 0 m) ≡ take d (m ∷ remove xs i)
-row_first y m n d i xs rest now size lt le is =
+row_first y m xs rest {n} {d} {i} {now} size lt le is =
     let long : length (y ∷ remove xs i) ≡ n = omega (arith, length-remove xs i, size, lt) in
     let all : now ≡ y ∷ remove xs i =
     is ∙ take_all (length xs) (y ∷ remove xs i) (omega (arith, long, size)) in
@@ -56,12 +56,12 @@ put_last y n [] lt = absurd (omega arith)
 put_last y zero (x ∷ xs) lt = refl
 put_last y (suc n) (x ∷ xs) lt = ap (λ zs. y ∷ zs) (put_last x n xs (omega arith))
 
-pub row_grown : (y n i last : ℕ) (row now : List ℕ) → n < length row →
+pub row_grown : (y : ℕ) (row : List ℕ) {n i last : ℕ} {now : List ℕ} → n < length row →
     length (take n row) ≡ i → now ≡ take (length (take n row)) (y ∷ remove (take n row) i) →
     last ≡ get_or (y ∷ take n row) i 0 →
     take (n + 1) (set (now ++ drop n row) n last)
     ≡ take (length row) (y ∷ remove (take n row) i)
-row_grown y n i last row now lt at is last_is =
+row_grown y row {n} {i} {last} {now} lt at is last_is =
     let size : length (take n row) ≡ n = length-take-le n row (omega (arith, lt)) in
     let whole : remove (take n row) i ≡ take n row = remove_end (take n row) i (omega (arith, at))
     in
@@ -94,10 +94,10 @@ pub record IsHere (distance clean block : ℕ) (blocks cleans : List ℕ) : Type
   pub clean_is : clean ≡ get_or cleans (index_of block blocks) 0
   pub within : index_of block blocks < length blocks
 
-pub here : (distance clean block front first : ℕ) (blocks cleans : List ℕ) →
+pub here : (front first : ℕ) {distance clean block : ℕ} {blocks cleans : List ℕ} →
     Found distance clean ≡ marked_shift_of block front blocks first cleans →
     IsHere distance clean block blocks cleans
-here distance clean block front first blocks cleans found =
+here front first {distance} {clean} {block} {blocks} {cleans} found =
     let parts = found_parts (is_in block blocks) distance clean (index_of block blocks)
     (get_or cleans (index_of block blocks) 0) (get_or (front ∷ blocks) (length blocks) 0)
     (get_or (first ∷ cleans) (length blocks) 0) found in
@@ -118,10 +118,10 @@ pub record IsNowhere (last clean block front first : ℕ) (blocks cleans : List 
 absent_at : (b : Bool) (p n : ℕ) → b ≡ false → b ≡ ltb p n → p ≤ n → n ≡ p
 absent_at b p n out e le = grind (arith, nat_tests)
 
-pub nowhere : (last clean block front first : ℕ) (blocks cleans : List ℕ) →
+pub nowhere : {last clean block front first : ℕ} {blocks cleans : List ℕ} →
     Out last clean ≡ marked_shift_of block front blocks first cleans →
     IsNowhere last clean block front first blocks cleans
-nowhere last clean block front first blocks cleans out =
+nowhere {last} {clean} {block} {front} {first} {blocks} {cleans} out =
     let parts = out_parts (is_in block blocks) last clean (index_of block blocks)
     (get_or cleans (index_of block blocks) 0) (get_or (front ∷ blocks) (length blocks) 0)
     (get_or (first ∷ cleans) (length blocks) 0) out in
@@ -140,21 +140,21 @@ pub clean_written : (d block : ℕ) (access : Access) (blocks cleans : List ℕ)
     is_write access ≡ true → 0 ≡ clean_in_front d access block blocks cleans
 clean_written d block access blocks cleans written = grind arith
 
-pub clean_read : (d block distance clean : ℕ) (access : Access) (blocks cleans : List ℕ) →
+pub clean_read : (d : ℕ) (access : Access) {block distance clean : ℕ} {blocks cleans : List ℕ} →
     is_write access ≡ false → IsHere distance clean block blocks cleans →
     max clean distance ≡ clean_in_front d access block blocks cleans
-clean_read d block distance clean access blocks cleans read h = grind (arith, h.inside)
+clean_read d access read h = grind (arith, h.inside)
 
-pub clean_new : (d block first : ℕ) (access : Access) (blocks cleans : List ℕ) →
+pub clean_new : (d block : ℕ) (access : Access) (blocks cleans : List ℕ) {first : ℕ} →
     is_in block blocks ≡ false → first ≡ cond (is_write access) 0 d →
     first ≡ clean_in_front d access block blocks cleans
-clean_new d block first access blocks cleans out is = grind arith
+clean_new d block access blocks cleans out is = grind arith
 
 -- the row is full
-pub touch_full : (d block clean front first last : ℕ) (blocks cleans : List ℕ) → 1 ≤ d →
+pub touch_full : {d block clean front first last : ℕ} {blocks cleans : List ℕ} → 1 ≤ d →
     length blocks ≡ d → IsNowhere last clean block front first blocks cleans →
     Full clean ≡ marked_touch_of d block blocks cleans
-touch_full d block clean front first last blocks cleans some full h =
+touch_full {d} {block} {first = first} {blocks = blocks} {cleans} some full h =
     let behind : get_or (first ∷ cleans) (index_of block blocks) 0 ≡ get_or cleans (d - 1) 0 =
     ap (λ j. get_or (first ∷ cleans) j 0) {x = index_of block blocks} {y = suc (d - 1)}
     (omega (arith, h.index_is, full, some)) in

@@ -1,72 +1,15 @@
 -- Lists that are shifted by one index, with a number in front, until a block is found.
-use Rattle.std.proofs.Common.{◌≡◌, ℕ, ◌+◌, ◌<◌, ◌≤◌, true, false, eqb, List, [], ◌∷◌, ◌++◌}
-use Rattle.std.proofs.Common.{length, take, drop, get_or, set, refl, sym, ◌∙◌, ap, arith, add-one}
-use Rattle.std.proofs.Common.{below_more, append-nil}
+use Rattle.std.proofs.Common.{◌≡◌, ℕ, ◌+◌, ◌<◌, ◌≤◌, true, false, eqb, List, ◌∷◌, ◌++◌, length}
+use Rattle.std.proofs.Common.{take, drop, get_or, set, sym, ◌∙◌, ap, arith, add-one, below_more}
+use Rattle.std.proofs.Common.{append-nil}
 use Rattle.std.specs.List.{remove}
 use Rattle.std.proofs.lemmas.Bool.{eqb-true}
 use Rattle.std.proofs.lemmas.List.{take_all, drop_all}
 use Rattle.profile_core.specs.profile.RecencyList.{index_of}
-use Rattle.std.proofs.lemmas.Bool.{lt-ltb, le-ltb}
-use Rattle.std.proofs.lemmas.List.Sums.{position_or_len_is, prefix_len-le-length}
-use Rattle.std.proofs.Common.{not, length-append, length-take, length-drop, eq-eqb, zero, suc}
-use Rattle.cache_core.proofs.Lists.{list_any_is}
-use Rattle.profile_core.specs.profile.RecencyList.{is_in}
+use Rattle.profile_core.proofs.Shifting.{passed_at, passed_more, index_found, index_end}
+use Rattle.profile_core.proofs.Shifting.{is_found, is_absent, length-remove, remove_end}
 use Rattle.full_profile.specs.declared.marked_lists.row.Shifted.TheVariants.{Found, Out}
 use Rattle.full_profile.specs.internal.Rows.{marked_shift_of}
-
--- a list as it stands when i numbers of xs were passed, with y in front: the number at i, and a
--- step
-passed_at : (y : ℕ) (xs : List ℕ) (i : ℕ) → i < length xs →
-    get_or (take i (y ∷ xs) ++ drop i xs) i 0 ≡ get_or xs i 0
-passed_at y [] i lt = absurd (omega arith)
-passed_at y (x ∷ xs) zero lt = refl
-passed_at y (x ∷ xs) (suc i) lt = passed_at x xs i (omega arith)
-
-passed_suc : (y : ℕ) (xs : List ℕ) (i : ℕ) → i < length xs
-    → set (take i (y ∷ xs) ++ drop i xs) i (get_or (y ∷ xs) i 0) ≡ take (suc i) (y ∷ xs) ++
-    drop (suc i) xs
-passed_suc y [] i lt = absurd (omega arith)
-passed_suc y (x ∷ xs) zero lt = refl
-passed_suc y (x ∷ xs) (suc i) lt = ap (λ zs. y ∷ zs) (passed_suc x xs i (omega arith))
-
-passed_more : (y : ℕ) (xs : List ℕ) (i : ℕ) → i < length xs
-    → set (take i (y ∷ xs) ++ drop i xs) i (get_or (y ∷ xs) i 0) ≡ take (i + 1) (y ∷ xs) ++
-    drop (i + 1) xs
-passed_more y xs i lt = passed_suc y xs i lt ∙ ap (λ j. take j (y ∷ xs) ++ drop j xs)
-    (sym (add-one i))
-
--- the index of a block, found or not
-pub index_found : (x i : ℕ) (xs : List ℕ) → i < length xs →
-    ((k : ℕ) → k < i → eqb (get_or xs k 0) x ≡ false) → get_or xs i 0 ≡ x → index_of x xs ≡ i
-index_found x i xs lt others at = position_or_len_is (λ y. eqb y x) xs i 0 (omega arith) others
-    (λ _. eq-eqb (get_or xs i 0) x at)
-
-pub index_end : (x : ℕ) (xs : List ℕ) → ((k : ℕ) → k < length xs → eqb (get_or xs k 0) x ≡ false) →
-    index_of x xs ≡ length xs
-index_end x xs others = position_or_len_is (λ y. eqb y x) xs (length xs) 0 (omega arith) others
-    (λ h. absurd (omega arith))
-
-pub index-le : (x : ℕ) (xs : List ℕ) → index_of x xs ≤ length xs
-index-le x xs = prefix_len-le-length (λ y. not (eqb y x)) xs
-
-pub is_found : (x i : ℕ) (xs : List ℕ) → index_of x xs ≡ i → i < length xs → is_in x xs ≡ true
-is_found x i xs at lt = list_any_is (λ y. eqb y x) xs ∙ lt-ltb (index_of x xs) (length xs)
-    (omega arith)
-
-pub is_absent : (x : ℕ) (xs : List ℕ) → index_of x xs ≡ length xs → is_in x xs ≡ false
-is_absent x xs at = list_any_is (λ y. eqb y x) xs ∙ le-ltb (index_of x xs) (length xs) (omega arith)
-
-pub length-remove : (xs : List ℕ) (i : ℕ) → i < length xs → suc (length (remove xs i)) ≡ length xs
-length-remove xs i lt = omega (
-  arith,
-  length-append (take i xs) (drop (suc i) xs),
-  length-take i xs,
-  length-drop (suc i) xs,
-)
-
-pub remove_end : (xs : List ℕ) (n : ℕ) → length xs ≤ n → remove xs n ≡ xs
-remove_end xs n le = ap (λ ys. ys ++ drop (suc n) xs) (take_all n xs le) ∙
-    ap (λ ys. xs ++ ys) (drop_all (suc n) xs (omega arith)) ∙ append-nil xs
 
 -- after i numbers of a list were passed: each moved by one index, with y in front
 pub record IsCarried (y i carried : ℕ) (xs now : List ℕ) : Type 0 where

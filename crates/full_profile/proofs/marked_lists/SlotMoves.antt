@@ -1,8 +1,8 @@
 -- A list whose front is apart, and whose other blocks are in slots: where a block is found in it,
 -- and what the list is once the block is in front.
 use Rattle.std.proofs.Common.{◌≡◌, ℕ, zero, suc, ◌+◌, ◌-◌, ◌<◌, ◌≤◌, true, false, cond, eqb}
-use Rattle.std.proofs.Common.{max, min, List, [], ◌∷◌, length, take, get_or, refl, sym, ◌∙◌, ap}
-use Rattle.std.proofs.Common.{arith, eq-eqb, get_or-take, not, one-add}
+use Rattle.std.proofs.Common.{max, min, List, ◌∷◌, length, take, get_or, sym, ◌∙◌, ap}
+use Rattle.std.proofs.Common.{arith, eq-eqb, get_or-take}
 use Rattle.std.specs.List.{remove}
 use Rattle.std.proofs.lemmas.Bool.{false≢true, ne_eqb}
 use Rattle.std.proofs.lemmas.List.{take_all, take-take, length-take-le}
@@ -15,27 +15,8 @@ use Rattle.profile_core.proofs.profile.Feeding.{FoundAt, FoundNowhere, found_beh
 use Rattle.full_profile.specs.State.{clean_in_front}
 use Rattle.full_profile.specs.declared.marked_lists.MarkedTouch.TheVariants.{Behind, New, Full}
 use Rattle.full_profile.specs.internal.Marked.{marked_touch_of}
-use Rattle.full_profile.proofs.marked_lists.Shifting.{is_found, is_absent, length-remove}
-use Rattle.full_profile.proofs.marked_lists.Shifting.{remove_end}
-
-removed_take : (h p : ℕ) (xs : List ℕ) → p ≤ h →
-    take h (remove xs p) ≡ remove (take (suc h) xs) p
-removed_take zero zero [] le = refl
-removed_take (suc h) zero [] le = refl
-removed_take zero (suc p) [] le = absurd (omega arith)
-removed_take (suc h) (suc p) [] le = refl
-removed_take h zero (x ∷ xs) le = refl
-removed_take zero (suc p) (x ∷ xs) le = absurd (omega arith)
-removed_take (suc h) (suc p) (x ∷ xs) le = ap (λ ys. x ∷ ys) (removed_take h p xs (omega arith))
-
-kept_take : (q : ℕ) (xs : List ℕ) → take q (remove xs q) ≡ take q xs
-kept_take zero xs = refl
-kept_take (suc q) [] = refl
-kept_take (suc q) (x ∷ xs) = ap (λ ys. x ∷ ys) (kept_take q xs)
-
-index_behind : (x y : ℕ) (ys : List ℕ) → (y ≡ x → ⊥) → index_of x (y ∷ ys) ≡ suc (index_of x ys)
-index_behind x y ys ne = ap (λ b. cond (not b) (1 + index_of x ys) 0) (ne_eqb y x ne) ∙
-    one-add (index_of x ys)
+use Rattle.profile_core.proofs.Shifting.{is_found, is_absent, length-remove, remove_end}
+use Rattle.profile_core.proofs.Shifting.{index_behind, removed_take, kept_take}
 
 -- Blocks or clean depths: `f` in front, and `zs` in sixteen slots. `f` goes to a slot, which comes
 -- to the front of the others, and `y` takes its place.
@@ -82,9 +63,17 @@ front_apart (suc n) f zs some =
     let e : n ≡ suc n - 1 = omega arith in
     ap (λ j. f ∷ take j zs) e
 
--- A list of n blocks, at most d, of which block x is not the front.
-module _ (x f fc n d : ℕ) (xs ms : List ℕ) (all : length xs ≡ 16) (some : 1 ≤ n) (fits : n ≤ d)
-    (most : d ≤ 16) (two : 2 ≤ d) (other : eqb f x ≡ false) where
+-- A list of n blocks, at most d, of which block x is not the front, f: this and its clean depth fc
+-- stand apart, and the others and theirs begin xs and ms.
+pub record IsApart (x f fc n d : ℕ) (xs ms : List ℕ) : Type 0 where
+  pub all : length xs ≡ 16
+  pub some : 1 ≤ n
+  pub fits : n ≤ d
+  pub most : d ≤ 16
+  pub two : 2 ≤ d
+  pub other : eqb f x ≡ false
+
+module _ {x f fc n d : ℕ} {xs ms : List ℕ} (l : IsApart x f fc n d xs ms) where
   abbrev blocks : List ℕ
   blocks = take n (f ∷ xs)
 
@@ -95,19 +84,19 @@ module _ (x f fc n d : ℕ) (xs ms : List ℕ) (all : length xs ≡ 16) (some : 
   behind = take (n - 1) xs
 
   behind_long : length behind ≡ n - 1
-  behind_long = length-take-le (n - 1) xs (omega (arith, all))
+  behind_long = length-take-le (n - 1) xs (omega (arith, l.all))
 
   pub blocks_long : length blocks ≡ n
-  blocks_long = ap length (front_apart n f xs some) ∙ omega (arith, behind_long)
+  blocks_long = ap length (front_apart n f xs l.some) ∙ omega (arith, behind_long)
 
   not_front : f ≡ x → ⊥
-  not_front e = absurd (false≢true (sym other ∙ eq-eqb f x e))
+  not_front e = absurd (false≢true (sym l.other ∙ eq-eqb f x e))
 
   index_is : index_of x blocks ≡ suc (index_of x behind)
-  index_is = ap (index_of x) (front_apart n f xs some) ∙ index_behind x f behind not_front
+  index_is = ap (index_of x) (front_apart n f xs l.some) ∙ index_behind x f behind not_front
 
   -- found behind the front
-  module _ (p : ℕ) (at : standing.Behind p ≡ standing_of x behind) where
+  module _ {p : ℕ} (at : standing.Behind p ≡ standing_of x behind) where
     found : FoundAt x p behind
     found = found_behind x p behind at
 
@@ -123,9 +112,9 @@ module _ (x f fc n d : ℕ) (xs ms : List ℕ) (all : length xs ≡ 16) (some : 
     found_clean : get_or cleans (suc p) 0 ≡ get_or ms p 0
     found_clean = get_or-take n (fc ∷ ms) (suc p) 0 place_lt
 
-    pub found_touch : (clean : ℕ) → clean ≡ get_or ms p 0 →
+    pub found_touch : {clean : ℕ} → clean ≡ get_or ms p 0 →
         Behind (p + 1) clean ≡ marked_touch_of d x blocks cleans
-    found_touch clean is =
+    found_touch {clean} is =
         let next : p + 1 ≡ suc p = omega arith in
         ap (λ j. Behind j clean) next ∙ ap (Behind (suc p)) (is ∙ sym found_clean)
         ∙ ap (λ j. Behind j (get_or cleans j 0)) (sym found_index)
@@ -136,12 +125,12 @@ module _ (x f fc n d : ℕ) (xs ms : List ℕ) (all : length xs ≡ 16) (some : 
     pub found_moved : (y g : ℕ) (zs : List ℕ) → length zs ≡ 16 →
         take n (y ∷ g ∷ remove zs p) ≡ take d (y ∷ remove (take n (g ∷ zs)) (index_of x blocks))
     found_moved y g zs long =
-        moved_found y g zs long n d p fits (omega (arith, fits, most)) place_lt
+        moved_found y g zs long n d p l.fits (omega (arith, l.fits, l.most)) place_lt
         ∙ ap (λ j. take d (y ∷ remove (take n (g ∷ zs)) j)) (sym found_index)
 
-    pub found_in_front : (access : Access) (clean : ℕ) → clean ≡ get_or ms p 0 →
+    pub found_in_front : (access : Access) {clean : ℕ} → clean ≡ get_or ms p 0 →
         cond (is_write access) 0 (max clean (p + 1)) ≡ clean_in_front d access x blocks cleans
-    found_in_front access clean is =
+    found_in_front access {clean} is =
         let next : p + 1 ≡ suc p = omega arith in
         ap (λ j. cond (is_write access) 0 (max clean j)) next
         ∙ ap (λ c. cond (is_write access) 0 (max c (suc p))) (is ∙ sym found_clean)
@@ -150,21 +139,21 @@ module _ (x f fc n d : ℕ) (xs ms : List ℕ) (all : length xs ≡ 16) (some : 
         (max (get_or cleans (index_of x blocks) 0) (index_of x blocks)) d)) found_inside)
 
   -- not found
-  module _ (h : ℕ) (at : standing.New h ≡ standing_of x behind) where
+  module _ {h : ℕ} (at : standing.New h ≡ standing_of x behind) where
     nowhere : FoundNowhere x h behind
     nowhere = found_nowhere x h behind at
 
     pub new_held : suc h ≡ n
-    new_held = omega (arith, nowhere.len_is, behind_long, some)
+    new_held = omega (arith, nowhere.len_is, behind_long, l.some)
 
     new_index : index_of x blocks ≡ n
-    new_index = index_is ∙ omega (arith, nowhere.index_is, behind_long, some)
+    new_index = index_is ∙ omega (arith, nowhere.index_is, behind_long, l.some)
 
     pub new_outside : is_in x blocks ≡ false
     new_outside = is_absent x blocks (new_index ∙ sym blocks_long)
 
     pub place_small : min h (d - 2) < 16
-    place_small = omega (arith, most, two)
+    place_small = omega (arith, l.most, l.two)
 
     pub new_in_front : (access : Access) →
         cond (is_write access) 0 d ≡ clean_in_front d access x blocks cleans
@@ -192,7 +181,7 @@ module _ (x f fc n d : ℕ) (xs ms : List ℕ) (all : length xs ≡ 16) (some : 
           let more : n + 1 ≡ suc (suc h) = omega (arith, new_held) in
           ap (λ j. take j (y ∷ g ∷ remove zs (min h (d - 2)))) more
           ∙ ap (λ j. take (suc (suc h)) (y ∷ g ∷ remove zs j)) place
-          ∙ moved_grown y g zs long h d (omega (arith, new_held)) (omega (arith, new_held, most))
+          ∙ moved_grown y g zs long h d (omega (arith, new_held)) (omega (arith, new_held, l.most))
           ∙ ap (λ j. take d (y ∷ remove (take j (g ∷ zs)) j)) new_held
           ∙ ap (λ j. take d (y ∷ remove (take n (g ∷ zs)) j)) (sym new_index)
 
@@ -200,28 +189,28 @@ module _ (x f fc n d : ℕ) (xs ms : List ℕ) (all : length xs ≡ 16) (some : 
     module _ (full : d ≤ n) where
       last_at : (clean : ℕ) → clean ≡ get_or ms (min h (d - 2)) 0 → clean ≡ get_or cleans (d - 1) 0
       last_at clean is =
-          let e : d - 1 ≡ suc (min h (d - 2)) = omega (arith, new_held, fits, two) in
-          is ∙ sym (get_or-take n (fc ∷ ms) (suc (min h (d - 2))) 0 (omega (arith, e, full, two)))
+          let e : d - 1 ≡ suc (min h (d - 2)) = omega (arith, new_held, l.fits, l.two) in
+          is ∙ sym (get_or-take n (fc ∷ ms) (suc (min h (d - 2))) 0 (omega (arith, e, full, l.two)))
           ∙ ap (λ j. get_or cleans j 0) (sym e)
 
-      pub full_touch : (clean : ℕ) → clean ≡ get_or ms (min h (d - 2)) 0 →
+      pub full_touch : {clean : ℕ} → clean ≡ get_or ms (min h (d - 2)) 0 →
           Full clean ≡ marked_touch_of d x blocks cleans
-      full_touch clean is = ap Full (last_at clean is)
+      full_touch {clean} is = ap Full (last_at clean is)
           ∙ sym (touch_is ∙ ap (λ b. cond b (Full (get_or cleans (d - 1) 0)) (New n))
-          (eq-eqb n d (omega (arith, fits, full))))
+          (eq-eqb n d (omega (arith, l.fits, full))))
 
       pub full_moved : (y g : ℕ) (zs : List ℕ) → length zs ≡ 16 →
           take n (y ∷ g ∷ remove zs (min h (d - 2))) ≡
           take d (y ∷ remove (take n (g ∷ zs)) (index_of x blocks))
       full_moved y g zs long =
           let place : ℕ = min h (d - 2) in
-          let size : n ≡ suc (suc place) = omega (arith, new_held, fits, full, two) in
+          let size : n ≡ suc (suc place) = omega (arith, new_held, l.fits, full, l.two) in
           ap (λ j. take j (y ∷ g ∷ remove zs place)) size
-          ∙ moved_full y g zs long place (omega (arith, most, two))
+          ∙ moved_full y g zs long place (omega (arith, l.most, l.two))
           ∙ ap (λ j. take j (y ∷ remove (take j (g ∷ zs)) j)) (sym size)
           ∙ ap (λ j. take n (y ∷ remove (take n (g ∷ zs)) j)) (sym new_index)
           ∙ ap (λ j. take j (y ∷ remove (take n (g ∷ zs)) (index_of x blocks)))
-          (omega (arith, fits, full))
+          (omega (arith, l.fits, full))
 
 -- a list that is put together of what was written
 pub brought : {n n' y y' f f' : ℕ} (p : ℕ) (zs : List ℕ) {zs' : List ℕ} → n' ≡ n → y' ≡ y →

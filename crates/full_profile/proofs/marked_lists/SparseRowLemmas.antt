@@ -15,9 +15,9 @@ use Rattle.profile_core.specs.internal.rests.Places.{taken_count}
 use Rattle.profile_core.specs.internal.rests.SparseRests.{sparse_rest, IsSparse}
 use Rattle.full_profile.specs.internal.Marked.{Marked, blocks_in, cleans_in}
 use Rattle.full_profile.specs.internal.SparseRows.{AreSparse, sparse_list, all_sparse}
-use Rattle.full_profile.proofs.marked_lists.Parts.{part_read, part_first, part_here, part_other}
-use Rattle.full_profile.proofs.marked_lists.Parts.{part_kept, length-rows, rows_at, rows_put}
-use Rattle.full_profile.proofs.marked_lists.Parts.{rows_same}
+use Rattle.profile_core.proofs.RowParts.{part_read, part_first, part_here, part_other}
+use Rattle.profile_core.proofs.RowParts.{part_kept}
+use Rattle.profile_core.proofs.RowsBySet.{length-rows_by_set, rows_at, rows_put, rows_same}
 
 -- what is known where the list of set k is asked for
 pub record HasSparse (d k : ℕ) (places blocks cleans lens : List ℕ) (room clean_room : ℕ)
@@ -45,7 +45,7 @@ pub set_count : (d : ℕ) (places blocks cleans lens : List ℕ) {m : Marked} �
   cleans = all_sparse d places cleans lens;
 } ≡ m → length lens ≡ length m.blocks
 set_count d places blocks cleans lens seen =
-    sym (length-rows (length lens) (sparse_list d places blocks lens))
+    sym (length-rows_by_set (length lens) (sparse_list d places blocks lens))
     ∙ ap (λ v. length v.blocks) seen
 
 -- the array of all rows is not long
@@ -180,7 +180,7 @@ module _ {d room : ℕ} {places numbers : List ℕ} (a : IsSparse d places numbe
       (sparse_list d places written (set lens k len)) new lt
       (ap (λ n. take n (sparse_rest d places written k)) (get_or-set_same lens k len 0 lt)
       ∙ ap (take len) written_here ∙ is)
-      (λ j other. ap (λ n. take n (sparse_rest d places written j))
+      (λ j _ other. ap (λ n. take n (sparse_rest d places written j))
       (get_or-set_other lens k j len 0 other)
       ∙ ap (take (get_or lens j 0)) (written_other j other))
 
@@ -192,7 +192,7 @@ listed_cut d k places numbers lens lt =
     ∙ rows_put (length lens) k (sparse_list d places numbers lens)
     (sparse_list d places numbers (set lens k 0)) [] lt
     (ap (λ n. take n (sparse_rest d places numbers k)) (get_or-set_same lens k 0 0 lt))
-    (λ j other. ap (λ n. take n (sparse_rest d places numbers j))
+    (λ j _ other. ap (λ n. take n (sparse_rest d places numbers j))
     (get_or-set_other lens k j 0 0 other))
 
 -- all lists are empty
@@ -228,7 +228,7 @@ ready {d} {places = places} {blocks = blocks} {cleans = cleans} {lens = lens} {l
     all_sparse d places' numbers' lens ≡ all_sparse d places numbers lens =
     λ numbers numbers' are. rows_same (length lens) (sparse_list d places' numbers' lens)
     (all_sparse d places numbers lens)
-    (length-rows (length lens) (sparse_list d places numbers lens))
+    (length-rows_by_set (length lens) (sparse_list d places numbers lens))
     (λ j lt. ap (take (get_or lens j 0)) (rest_same numbers numbers' are j)
     ∙ sym (rows_at (length lens) j (sparse_list d places numbers lens) lt)) in
     record {

@@ -22,7 +22,7 @@ use Rattle.full_profile.specs.declared.marked_lists.MarkedTouch.{MarkedTouch}
 use Rattle.full_profile.specs.declared.marked_lists.MarkedTouch.TheVariants.{Behind, New, Full}
 use Rattle.full_profile.specs.internal.Marked.{Marked, AreAlike, AreTouched, blocks_in, cleans_in}
 use Rattle.full_profile.specs.internal.Marked.{marked_touch_of, after_access, cleans_after}
-use Rattle.full_profile.proofs.marked_lists.Shifting.{length-remove, remove_end, index-le}
+use Rattle.profile_core.proofs.Shifting.{length-remove, remove_end, index-le}
 use Rattle.full_profile.proofs.marked_lists.Emptying.{lengths_set, length-lengths, length_at}
 
 -- the length of a list with a block in front depends on its length alone
@@ -71,7 +71,15 @@ size_new d x xs out = omega (
   ap length (remove_end xs (index_of x xs) (omega (arith, index_absent x xs out))),
 )
 
-new_parts : (b e : Bool) (h p q r n : ℕ) →
+-- what tells where an access found its block
+pub full_parts : (b e : Bool) (c p q r n : ℕ) →
+    Full c ≡ cond b (Behind p q) (cond e (Full r) (New n)) →
+    (b ≡ false) × (e ≡ true) × (c ≡ r)
+full_parts true e c p q r n is = absurd (cc)
+full_parts false true c p q r n is = (refl, refl, cc)
+full_parts false false c p q r n is = absurd (cc)
+
+pub new_parts : (b e : Bool) (h p q r n : ℕ) →
     New h ≡ cond b (Behind p q) (cond e (Full r) (New n)) →
     (b ≡ false) × (e ≡ false) × (h ≡ n)
 new_parts true e h p q r n is = absurd (cc)

@@ -8,7 +8,7 @@ use Rattle.std.proofs.Math.Seq.{take-append-add}
 use Rattle.std.proofs.lemmas.List.{take_all, take_at, length-take-le, take_more, append_assoc}
 use Rattle.std.proofs.lemmas.List.Edits.{remove-append_left, remove-append_right}
 use Rattle.profile_core.proofs.ListParts.{remove_past}
-use Rattle.full_profile.proofs.marked_lists.Shifting.{length-remove}
+use Rattle.profile_core.proofs.Shifting.{length-remove}
 
 pub set_twice : {A : Type 0} (xs : List A) (k : ℕ) (x y : A) → set (set xs k x) k y ≡ set xs k y
 set_twice [] k x y = refl

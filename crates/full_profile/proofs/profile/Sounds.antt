@@ -34,7 +34,8 @@ use Rattle.full_profile.specs.internal.Marked.{after_access}
 use Rattle.full_profile.specs.internal.Marked.{cleans_after, emptied, empty_marked}
 use Rattle.full_profile.specs.internal.Sound.{IsFullSound, IsFullFit, full_state_of, plain_lists}
 use Rattle.full_profile.proofs.copies.Order.{ends_few}
-use Rattle.full_profile.proofs.marked_lists.Touching.{inside_lt, index_absent}
+use Rattle.full_profile.proofs.marked_lists.Touching.{inside_lt, index_absent, full_parts}
+use Rattle.full_profile.proofs.marked_lists.Touching.{new_parts}
 use Rattle.full_profile.proofs.profile.Fit.{ordered, fit_after, fit_settled, kind_within}
 use Rattle.full_profile.proofs.profile.Fit.{fit_emptied, fit_empty}
 use Rattle.full_profile.proofs.profile.Steps.{state_same, reference_is, copies_after}
@@ -47,20 +48,6 @@ behind_parts : (b e : Bool) (h c p q r n : ℕ) →
 behind_parts true e h c p q r n is = (refl, cc, cc)
 behind_parts false true h c p q r n is = absurd (cc)
 behind_parts false false h c p q r n is = absurd (cc)
-
-full_parts : (b e : Bool) (c p q r n : ℕ) →
-    Full c ≡ cond b (Behind p q) (cond e (Full r) (New n)) →
-    (b ≡ false) × (e ≡ true) × (c ≡ r)
-full_parts true e c p q r n is = absurd (cc)
-full_parts false true c p q r n is = (refl, refl, cc)
-full_parts false false c p q r n is = absurd (cc)
-
-new_parts : (b e : Bool) (h p q r n : ℕ) →
-    New h ≡ cond b (Behind p q) (cond e (Full r) (New n)) →
-    (b ≡ false) × (e ≡ false) × (h ≡ n)
-new_parts true e h p q r n is = absurd (cc)
-new_parts false true h p q r n is = absurd (cc)
-new_parts false false h p q r n is = (refl, refl, cc)
 
 -- settled references, counted
 counted : (behind : List ℕ) (p q n : ℕ) → q ≤ p → set behind 0 (p + n - q) ≡ set
@@ -132,219 +119,229 @@ module _ {g : GeometryValue} {m : Marked} {behind missed : List ℕ} {probes : �
     fit = subst IsFullFit (sym (settled_is n)) (fit_settled h.fit n);
   }
 
-  -- a reference to block x of set k, which is not its front; the lists are m' then
-  module _ (m' : Marked) (k x : ℕ) (access : Access) (next : IsNext state.plain k x)
-      (moved : m' ≡ after_access m k x access) where
-    abbrev xs : List ℕ
-    xs = blocks_in m k
+-- a reference to block x of set k, which is not its front; the lists are m' then
+pub record IsAccessed (g : GeometryValue) (m m' : Marked) (behind missed : List ℕ) (probes : ℕ)
+    (kinds : List KindState) (copies : CopiesValue) (k x : ℕ) (access : Access) : Type 0 where
+  pub sound : IsFullSound g m behind missed probes kinds copies
+  pub next : IsNext (full_state_of g m behind missed probes kinds copies).plain k x
+  pub moved : m' ≡ after_access m k x access
 
-    abbrev ms : List ℕ
-    ms = cleans_in m k
+module _ {g : GeometryValue} {m m' : Marked} {behind missed : List ℕ} {probes : ℕ}
+    {kinds : List KindState} {copies : CopiesValue} {k x : ℕ} {access : Access}
+    (a : IsAccessed g m m' behind missed probes kinds copies k x access) where
+  abbrev was : FullState
+  was = full_state_of g m behind missed probes kinds copies
 
-    pub is_moved : IsMoved g (plain_lists m) (plain_lists m') behind missed probes x k state.plain
-    is_moved = record {
-      sound = h.plain;
-      view_is = refl;
-      next = next;
-      moved = ap plain_lists moved;
-    }
+  abbrev xs : List ℕ
+  xs = blocks_in m k
 
-    -- what the reference gives, if plain part, kinds and copybacks are as they should be
-    step_is : (behind' missed' : List ℕ) (probes' : ℕ) (kinds' : List KindState)
-        (copies' : CopiesValue) → (full_state_of g m' behind' missed' probes' kinds' copies').plain
-        ≡ after_reference state.plain x →
-        kinds' ≡ set kinds (kind_number access) (with_miss x xs (kind_of state access)) →
-        copies' ≡ copies_after g.e x xs ms copies →
-        full_state_of g m' behind' missed' probes' kinds' copies'
-        ≡ after_reference_in_lists state access x xs ms
-    step_is behind' missed' probes' kinds' copies' plain_is kinds_are copies_are =
-        let after = full_state_of g m' behind' missed' probes' kinds' copies' in
-        let cleans_are : m'.cleans ≡ set m.cleans (set_of_block g x)
-        (cleans_after g.e access x xs ms) =
-        ap (λ l. l.cleans) moved
-        ∙ ap (λ d. set m.cleans k (cleans_after d access x xs ms)) h.plain.depth
-        ∙ ap (λ j. set m.cleans j (cleans_after g.e access x xs ms)) next.of_set in
-        let other : kinds' ≡ cond (is_front x xs) kinds (set kinds (kind_number access)
-        (with_miss x xs (kind_of state access))) =
-        kinds_are ∙ sym (ap (λ b. cond b kinds (set kinds (kind_number access)
-        (with_miss x xs (kind_of state access)))) next.behind) in
-        state_same after _ plain_is cleans_are other copies_are
-        ∙ sym (reference_is state access x xs ms)
+  abbrev ms : List ℕ
+  ms = cleans_in m k
 
-    step_fit : (behind' missed' : List ℕ) (probes' : ℕ) (kinds' : List KindState)
-        (copies' : CopiesValue) → full_state_of g m' behind' missed' probes' kinds' copies'
-        ≡ after_reference_in_lists state access x xs ms →
-        IsFullFit (full_state_of g m' behind' missed' probes' kinds' copies')
-    step_fit behind' missed' probes' kinds' copies' is = subst IsFullFit (sym is)
-        (subst (λ j. IsFullFit (after_reference_in_lists state access x (blocks_in m j)
-        (cleans_in m j))) (sym next.of_set) (fit_after h.fit plain_fit access x))
+  pub is_moved : IsMoved g (plain_lists m) (plain_lists m') behind missed probes x k was.plain
+  is_moved = record {
+    sound = a.sound.plain;
+    view_is = refl;
+    next = a.next;
+    moved = ap plain_lists a.moved;
+  }
 
-    -- one more miss of its kind
-    pub kind_read : {s : KindState} → s ≡ get_or kinds (kind_number access) s →
-        s ≡ kind_of state access
-    kind_read {s} read = get_or_read kinds (kind_number access) s
-        (omega (arith, kind_within access, h.fit.kind_count)) read (empty_kind g)
+  -- what the reference gives, if plain part, kinds and copybacks are as they should be
+  step_is : (behind' missed' : List ℕ) (probes' : ℕ) (kinds' : List KindState)
+      (copies' : CopiesValue) → (full_state_of g m' behind' missed' probes' kinds' copies').plain
+      ≡ after_reference was.plain x →
+      kinds' ≡ set kinds (kind_number access) (with_miss x xs (kind_of was access)) →
+      copies' ≡ copies_after g.e x xs ms copies →
+      full_state_of g m' behind' missed' probes' kinds' copies'
+      ≡ after_reference_in_lists was access x xs ms
+  step_is behind' missed' probes' kinds' copies' plain_is kinds_are copies_are =
+      let after = full_state_of g m' behind' missed' probes' kinds' copies' in
+      let cleans_are : m'.cleans ≡ set m.cleans (set_of_block g x)
+      (cleans_after g.e access x xs ms) =
+      ap (λ l. l.cleans) a.moved
+      ∙ ap (λ d. set m.cleans k (cleans_after d access x xs ms)) a.sound.plain.depth
+      ∙ ap (λ j. set m.cleans j (cleans_after g.e access x xs ms)) a.next.of_set in
+      let other : kinds' ≡ cond (is_front x xs) kinds (set kinds (kind_number access)
+      (with_miss x xs (kind_of was access))) =
+      kinds_are ∙ sym (ap (λ b. cond b kinds (set kinds (kind_number access)
+      (with_miss x xs (kind_of was access)))) a.next.behind) in
+      state_same after _ plain_is cleans_are other copies_are
+      ∙ sym (reference_is was access x xs ms)
 
-    module _ {distance clean : ℕ} (found : Behind distance clean ≡ marked_touch_of m.depth x xs ms)
-      where
-        parts : (is_in x xs ≡ true) × (distance ≡ index_of x xs) ×
-            (clean ≡ get_or ms (index_of x xs) 0)
-        parts = behind_parts (is_in x xs) (eqb (length xs) m.depth) distance clean (index_of x xs)
-            (get_or ms (index_of x xs) 0) (get_or ms (m.depth - 1) 0) (length xs) found
+  step_fit : (behind' missed' : List ℕ) (probes' : ℕ) (kinds' : List KindState)
+      (copies' : CopiesValue) → full_state_of g m' behind' missed' probes' kinds' copies'
+      ≡ after_reference_in_lists was access x xs ms →
+      IsFullFit (full_state_of g m' behind' missed' probes' kinds' copies')
+  step_fit behind' missed' probes' kinds' copies' is = subst IsFullFit (sym is)
+      (subst (λ j. IsFullFit (after_reference_in_lists was access x (blocks_in m j)
+      (cleans_in m j))) (sym a.next.of_set) (fit_after a.sound.fit (plain_fit a.sound) access x))
 
-        pub found_at : FoundAt x distance xs
-        found_at = record {
-          inside = parts.0;
-          distance_is = sym parts.1;
-          within = omega (arith, parts.1, inside_lt x xs parts.0);
-        }
+  -- one more miss of its kind
+  kind_read : {i : ℕ} {s : KindState} → i ≡ kind_number access → s ≡ get_or kinds i s →
+      s ≡ kind_of was access
+  kind_read {i} {s} is read = get_or_read kinds (kind_number access) s
+      (omega (arith, kind_within access, a.sound.fit.kind_count))
+      (read ∙ ap (λ j. get_or kinds j s) is) (empty_kind g)
 
-        pub found_within : distance < g.e
-        found_within = omega (arith, found_at.within, h.plain.short k)
-
-        module _ {n probes' : ℕ} {s t : KindState} {kinds' : List KindState} {copies' : CopiesValue}
-            (read : n ≡ get_or behind distance n) (more : probes' ≡ probes + (distance + 1))
-            (kind : s ≡ get_or kinds (kind_number access) s)
-            (miss : t ≡ record s { behind = one_more_at s.behind distance })
-            (put : kinds' ≡ set kinds (kind_number access) t)
-            (copied : copies' ≡ with_copy clean distance copies) where
-          kinds_found : kinds' ≡ set kinds (kind_number access)
-              (with_miss x xs (kind_of state access))
-          kinds_found = put ∙ ap (set kinds (kind_number access)) (miss
-              ∙ ap (λ (u : KindState). record u { behind = one_more_at u.behind distance })
-              (kind_read kind)
-              ∙ ap (λ i. record (kind_of state access) {
-                behind = one_more_at (kind_of state access).behind i;
-              }) parts.1
-              ∙ sym (ap (λ b. cond b (record (kind_of state access) {
-                behind = one_more_at (kind_of state access).behind (index_of x xs);
-              }) (record (kind_of state access) {
-                missed = (kind_of state access).missed + 1;
-              })) parts.0))
-
-          copies_found : copies' ≡ copies_after g.e x xs ms copies
-          copies_found = copied ∙ ap (λ c. with_copy c distance copies) parts.2
-              ∙ ap (λ u. with_copy (get_or ms (index_of x xs) 0) u copies) parts.1
-              ∙ sym (ap (λ b. cond b (with_copy (get_or ms (index_of x xs) 0) (index_of x xs)
-              copies)
-              (cond (eqb (length xs) g.e) (with_copy (get_or ms (g.e - 1) 0) g.e copies) copies))
-              parts.0)
-
-          pub behind_after : full_state_of g m' (set behind distance (n + 1)) missed probes' kinds'
-              copies' ≡ after_reference_in_lists state access x xs ms
-          behind_after = step_is (set behind distance (n + 1)) missed probes' kinds' copies'
-              (found_after is_moved found_at read more) kinds_found copies_found
-
-          pub behind_sound : IsFullSound g m' (set behind distance (n + 1)) missed probes' kinds'
-              copies'
-          behind_sound = record {
-            limits = h.limits;
-            plain = found_sound is_moved found_at read more;
-            fit = step_fit (set behind distance (n + 1)) missed probes' kinds' copies' behind_after;
-          }
-
-    -- not found
-    -- where it is new in a list with room, and where the list is full
-    pub new_len : {held : ℕ} → New held ≡ marked_touch_of m.depth x xs ms → held ≡ length xs
-    new_len {held} found = (new_parts (is_in x xs) (eqb (length xs) m.depth) held (index_of x xs)
-        (get_or ms (index_of x xs) 0) (get_or ms (m.depth - 1) 0) (length xs) found).2
-
-    pub new_outside : {held : ℕ} → New held ≡ marked_touch_of m.depth x xs ms → is_in x xs ≡ false
-    new_outside {held} found = (new_parts (is_in x xs) (eqb (length xs) m.depth) held (index_of x
-        xs)
-        (get_or ms (index_of x xs) 0) (get_or ms (m.depth - 1) 0) (length xs) found).0
-
-    pub new_copied : {held : ℕ} → New held ≡ marked_touch_of m.depth x xs ms →
-        copies ≡ cond (eqb (length xs) g.e) (with_copy (get_or ms (g.e - 1) 0) g.e copies) copies
-    new_copied {held} found = sym (ap (λ d. cond (eqb (length xs) d)
-        (with_copy (get_or ms (g.e - 1) 0) g.e copies) copies) (sym h.plain.depth)
-        ∙ ap (λ b. cond b (with_copy (get_or ms (g.e - 1) 0) g.e copies) copies)
-        (new_parts (is_in x xs) (eqb (length xs) m.depth) held (index_of x xs)
-        (get_or ms (index_of x xs) 0) (get_or ms (m.depth - 1) 0) (length xs) found).1)
-
-    pub new_within : {held : ℕ} → New held ≡ marked_touch_of m.depth x xs ms → held ≤ g.e
-    new_within {held} found = omega (arith, new_len found, h.plain.short k)
-
-    module _ {clean : ℕ} (found : Full clean ≡ marked_touch_of m.depth x xs ms) where
-      parts_full : (is_in x xs ≡ false) × (eqb (length xs) m.depth ≡ true) ×
-          (clean ≡ get_or ms (m.depth - 1) 0)
-      parts_full = full_parts (is_in x xs) (eqb (length xs) m.depth) clean (index_of x xs)
+  module _ {distance clean : ℕ} (found : Behind distance clean ≡ marked_touch_of m.depth x xs ms)
+    where
+      parts : (is_in x xs ≡ true) × (distance ≡ index_of x xs) ×
+          (clean ≡ get_or ms (index_of x xs) 0)
+      parts = behind_parts (is_in x xs) (eqb (length xs) m.depth) distance clean (index_of x xs)
           (get_or ms (index_of x xs) 0) (get_or ms (m.depth - 1) 0) (length xs) found
 
-      pub full_outside : is_in x xs ≡ false
-      full_outside = parts_full.0
+      pub found_at : FoundAt x distance xs
+      found_at = record {
+        inside = parts.0;
+        distance_is = sym parts.1;
+        within = omega (arith, parts.1, inside_lt x xs parts.0);
+      }
 
-      pub full_len : g.e ≡ length xs
-      full_len = sym (eqb-true (length xs) m.depth parts_full.1 ∙ h.plain.depth)
+      pub found_within : distance < g.e
+      found_within = omega (arith, found_at.within, a.sound.plain.short k)
 
-      pub full_copied : {len : ℕ} {copies' : CopiesValue} → len ≡ g.e →
-          copies' ≡ with_copy clean len copies →
-          copies' ≡ cond (eqb (length xs) g.e) (with_copy (get_or ms (g.e - 1) 0) g.e copies) copies
-      full_copied {len} {copies'} len_is copied = copied
-          ∙ ap (λ n. with_copy clean n copies) len_is
-          ∙ ap (λ c. with_copy c g.e copies) (parts_full.2
-          ∙ ap (λ d. get_or ms (d - 1) 0) h.plain.depth)
-          ∙ sym (ap (λ d. cond (eqb (length xs) d)
-          (with_copy (get_or ms (g.e - 1) 0) g.e copies) copies) (sym h.plain.depth)
-          ∙ ap (λ b. cond b (with_copy (get_or ms (g.e - 1) 0) g.e copies) copies) parts_full.1)
+      module _ {n i : ℕ} {s t : KindState} {copies' : CopiesValue}
+          (read : n ≡ get_or behind distance n) (is : i ≡ kind_number access)
+          (kind : s ≡ get_or kinds i s)
+          (miss : t ≡ record s { behind = one_more_at s.behind distance })
+          (copied : copies' ≡ with_copy clean distance copies) where
+        kinds_found : set kinds i t ≡ set kinds (kind_number access)
+            (with_miss x xs (kind_of was access))
+        kinds_found = ap (λ j. set kinds j t) is ∙ ap (set kinds (kind_number access)) (miss
+            ∙ ap (λ (u : KindState). record u { behind = one_more_at u.behind distance })
+            (kind_read is kind)
+            ∙ ap (λ i. record (kind_of was access) {
+              behind = one_more_at (kind_of was access).behind i;
+            }) parts.1
+            ∙ sym (ap (λ b. cond b (record (kind_of was access) {
+              behind = one_more_at (kind_of was access).behind (index_of x xs);
+            }) (record (kind_of was access) {
+              missed = (kind_of was access).missed + 1;
+            })) parts.0))
 
-    -- the kind that is counted
-    pub kind_long : {s : KindState} → s ≡ get_or kinds (kind_number access) s →
-        length s.behind ≡ g.e
-    kind_long {s} read = ap (λ u. length u.behind) (kind_read read) ∙ h.fit.kinds_long access
+        copies_found : copies' ≡ copies_after g.e x xs ms copies
+        copies_found = copied ∙ ap (λ c. with_copy c distance copies) parts.2
+            ∙ ap (λ u. with_copy (get_or ms (index_of x xs) 0) u copies) parts.1
+            ∙ sym (ap (λ b. cond b (with_copy (get_or ms (index_of x xs) 0) (index_of x xs)
+            copies)
+            (cond (eqb (length xs) g.e) (with_copy (get_or ms (g.e - 1) 0) g.e copies) copies))
+            parts.0)
 
-    pub kind_small : {s : KindState} → s ≡ get_or kinds (kind_number access) s →
-        sum s.behind + s.missed ≤ 2 ^ 41
-    kind_small {s} read = omega (
-      arith,
-      ap (λ u. sum u.behind + u.missed) (kind_read read),
-      kind_few access,
-    )
+        pub behind_after : full_state_of g m' (set behind distance (n + 1)) missed
+            (probes + (distance + 1)) (set kinds i t) copies'
+            ≡ after_reference_in_lists was access x xs ms
+        behind_after = step_is (set behind distance (n + 1)) missed (probes + (distance + 1))
+            (set kinds i t) copies' (found_after is_moved found_at read refl) kinds_found
+            copies_found
 
-    module _ {len : ℕ} (len_is : len ≡ length xs) (outside : is_in x xs ≡ false) {n probes' : ℕ}
-        {s t : KindState}
-        {kinds' : List KindState} {copies' : CopiesValue}
-        (read : n ≡ get_or missed len n) (more : probes' ≡ probes + len)
-        (kind : s ≡ get_or kinds (kind_number access) s)
-        (miss : t ≡ record s { missed = s.missed + 1 })
-        (put : kinds' ≡ set kinds (kind_number access) t)
-        (copied : copies' ≡ cond (eqb (length xs) g.e)
-        (with_copy (get_or ms (g.e - 1) 0) g.e copies) copies) where
-      nowhere : FoundNowhere x len xs
-      nowhere = record {
+        pub behind_sound : IsFullSound g m' (set behind distance (n + 1)) missed
+            (probes + (distance + 1)) (set kinds i t) copies'
+        behind_sound = record {
+          limits = a.sound.limits;
+          plain = found_sound is_moved found_at read refl;
+          fit = step_fit (set behind distance (n + 1)) missed (probes + (distance + 1))
+              (set kinds i t) copies' behind_after;
+        }
+
+  -- not found, in a list that has room
+  new_len : {held : ℕ} → New held ≡ marked_touch_of m.depth x xs ms → held ≡ length xs
+  new_len {held} found = (new_parts (is_in x xs) (eqb (length xs) m.depth) held (index_of x xs)
+      (get_or ms (index_of x xs) 0) (get_or ms (m.depth - 1) 0) (length xs) found).2
+
+  pub new_absent : {held : ℕ} → New held ≡ marked_touch_of m.depth x xs ms → FoundNowhere x held xs
+  new_absent {held} found =
+      let outside : is_in x xs ≡ false = (new_parts (is_in x xs) (eqb (length xs) m.depth) held
+      (index_of x xs) (get_or ms (index_of x xs) 0) (get_or ms (m.depth - 1) 0) (length xs)
+      found).0 in
+      record {
         outside = outside;
         index_is = index_absent x xs outside;
-        len_is = len_is;
+        len_is = new_len found;
       }
 
-      kinds_missed : kinds' ≡ set kinds (kind_number access)
-          (with_miss x xs (kind_of state access))
-      kinds_missed = put ∙ ap (set kinds (kind_number access)) (miss
-          ∙ ap (λ (u : KindState). record u { missed = u.missed + 1 }) (kind_read kind)
-          ∙ sym (ap (λ b. cond b (record (kind_of state access) {
-            behind = one_more_at (kind_of state access).behind (index_of x xs);
-          }) (record (kind_of state access) {
-            missed = (kind_of state access).missed + 1;
-          })) outside))
+  pub new_copied : {held : ℕ} → New held ≡ marked_touch_of m.depth x xs ms →
+      copies ≡ cond (eqb (length xs) g.e) (with_copy (get_or ms (g.e - 1) 0) g.e copies) copies
+  new_copied {held} found = sym (ap (λ d. cond (eqb (length xs) d)
+      (with_copy (get_or ms (g.e - 1) 0) g.e copies) copies) (sym a.sound.plain.depth)
+      ∙ ap (λ b. cond b (with_copy (get_or ms (g.e - 1) 0) g.e copies) copies)
+      (new_parts (is_in x xs) (eqb (length xs) m.depth) held (index_of x xs)
+      (get_or ms (index_of x xs) 0) (get_or ms (m.depth - 1) 0) (length xs) found).1)
 
-      copies_missed : copies' ≡ copies_after g.e x xs ms copies
-      copies_missed = copied
-          ∙ sym (ap (λ b. cond b (with_copy (get_or ms (index_of x xs) 0) (index_of x xs) copies)
-          (cond (eqb (length xs) g.e) (with_copy (get_or ms (g.e - 1) 0) g.e copies) copies))
-          outside)
+  pub new_within : {held : ℕ} → New held ≡ marked_touch_of m.depth x xs ms → held ≤ g.e
+  new_within {held} found = omega (arith, new_len found, a.sound.plain.short k)
 
-      pub missed_after : full_state_of g m' behind (set missed len (n + 1)) probes' kinds'
-          copies' ≡ after_reference_in_lists state access x xs ms
-      missed_after = step_is behind (set missed len (n + 1)) probes' kinds' copies'
-          (nowhere_after is_moved nowhere read more) kinds_missed copies_missed
+  -- or in a full one
+  module _ {clean : ℕ} (found : Full clean ≡ marked_touch_of m.depth x xs ms) where
+    parts_full : (is_in x xs ≡ false) × (eqb (length xs) m.depth ≡ true) ×
+        (clean ≡ get_or ms (m.depth - 1) 0)
+    parts_full = full_parts (is_in x xs) (eqb (length xs) m.depth) clean (index_of x xs)
+        (get_or ms (index_of x xs) 0) (get_or ms (m.depth - 1) 0) (length xs) found
 
-      pub missed_sound : IsFullSound g m' behind (set missed len (n + 1)) probes' kinds'
-          copies'
-      missed_sound = record {
-        limits = h.limits;
-        plain = nowhere_sound is_moved nowhere read more;
-        fit = step_fit behind (set missed len (n + 1)) probes' kinds' copies' missed_after;
-      }
+    pub full_absent : {len : ℕ} → len ≡ g.e → FoundNowhere x len xs
+    full_absent {len} is = record {
+      outside = parts_full.0;
+      index_is = index_absent x xs parts_full.0;
+      len_is = is ∙ sym (eqb-true (length xs) m.depth parts_full.1 ∙ a.sound.plain.depth);
+    }
+
+    pub full_copied : {len : ℕ} {copies' : CopiesValue} → len ≡ g.e →
+        copies' ≡ with_copy clean len copies →
+        copies' ≡ cond (eqb (length xs) g.e) (with_copy (get_or ms (g.e - 1) 0) g.e copies) copies
+    full_copied {len} {copies'} len_is copied = copied
+        ∙ ap (λ n. with_copy clean n copies) len_is
+        ∙ ap (λ c. with_copy c g.e copies) (parts_full.2
+        ∙ ap (λ d. get_or ms (d - 1) 0) a.sound.plain.depth)
+        ∙ sym (ap (λ d. cond (eqb (length xs) d)
+        (with_copy (get_or ms (g.e - 1) 0) g.e copies) copies) (sym a.sound.plain.depth)
+        ∙ ap (λ b. cond b (with_copy (get_or ms (g.e - 1) 0) g.e copies) copies) parts_full.1)
+
+  -- the kind that is counted
+  pub kind_long : {i : ℕ} {s : KindState} → i ≡ kind_number access → s ≡ get_or kinds i s →
+      length s.behind ≡ g.e
+  kind_long is read = ap (λ u. length u.behind) (kind_read is read) ∙ a.sound.fit.kinds_long access
+
+  pub kind_small : {i : ℕ} {s : KindState} → i ≡ kind_number access → s ≡ get_or kinds i s →
+      sum s.behind + s.missed ≤ 2 ^ 41
+  kind_small is read = omega (
+    arith,
+    ap (λ u. sum u.behind + u.missed) (kind_read is read),
+    kind_few a.sound access,
+  )
+
+  module _ {len : ℕ} (absent : FoundNowhere x len xs) {n i : ℕ} {s t : KindState}
+      {copies' : CopiesValue} (read : n ≡ get_or missed len n) (is : i ≡ kind_number access)
+      (kind : s ≡ get_or kinds i s) (miss : t ≡ record s { missed = s.missed + 1 })
+      (copied : copies' ≡ cond (eqb (length xs) g.e)
+      (with_copy (get_or ms (g.e - 1) 0) g.e copies) copies) where
+    kinds_missed : set kinds i t ≡ set kinds (kind_number access)
+        (with_miss x xs (kind_of was access))
+    kinds_missed = ap (λ j. set kinds j t) is ∙ ap (set kinds (kind_number access)) (miss
+        ∙ ap (λ (u : KindState). record u { missed = u.missed + 1 }) (kind_read is kind)
+        ∙ sym (ap (λ b. cond b (record (kind_of was access) {
+          behind = one_more_at (kind_of was access).behind (index_of x xs);
+        }) (record (kind_of was access) {
+          missed = (kind_of was access).missed + 1;
+        })) absent.outside))
+
+    copies_missed : copies' ≡ copies_after g.e x xs ms copies
+    copies_missed = copied
+        ∙ sym (ap (λ b. cond b (with_copy (get_or ms (index_of x xs) 0) (index_of x xs) copies)
+        (cond (eqb (length xs) g.e) (with_copy (get_or ms (g.e - 1) 0) g.e copies) copies))
+        absent.outside)
+
+    pub missed_after : full_state_of g m' behind (set missed len (n + 1)) (probes + len)
+        (set kinds i t) copies' ≡ after_reference_in_lists was access x xs ms
+    missed_after = step_is behind (set missed len (n + 1)) (probes + len) (set kinds i t) copies'
+        (nowhere_after is_moved absent read refl) kinds_missed copies_missed
+
+    pub missed_sound : IsFullSound g m' behind (set missed len (n + 1)) (probes + len)
+        (set kinds i t) copies'
+    missed_sound = record {
+      limits = a.sound.limits;
+      plain = nowhere_sound is_moved absent read refl;
+      fit = step_fit behind (set missed len (n + 1)) (probes + len) (set kinds i t) copies'
+          missed_after;
+    }
 
 -- lists that are emptied
 module _ {g : GeometryValue} {m : Marked} {behind missed : List ℕ} {probes : ℕ}

@@ -20,7 +20,7 @@ use Rattle.profile_core.proofs.profile.Sums.{sum-counts}
 use Rattle.profile_core.proofs.profile.Steps.{Finds, finds}
 
 -- a sum of two, term by term
-sum_by_parts : {X : Type 0} (f g h : X → ℕ) (xs : List X) → ((x : X) → f x + g x ≡ h x) →
+pub sum_by_parts : {X : Type 0} (f g h : X → ℕ) (xs : List X) → ((x : X) → f x + g x ≡ h x) →
     sum_by f xs + sum_by g xs ≡ sum_by h xs
 sum_by_parts f g h [] e = refl
 sum_by_parts f g h (x ∷ xs) e = omega (
@@ -32,7 +32,7 @@ sum_by_parts f g h (x ∷ xs) e = omega (
   sum_by_parts f g h xs e,
 )
 
-sum_by_same : {X : Type 0} (f g : X → ℕ) (xs : List X) → ((x : X) → f x ≡ g x) →
+pub sum_by_same : {X : Type 0} (f g : X → ℕ) (xs : List X) → ((x : X) → f x ≡ g x) →
     sum_by f xs ≡ sum_by g xs
 sum_by_same f g [] e = refl
 sum_by_same f g (x ∷ xs) e = omega (

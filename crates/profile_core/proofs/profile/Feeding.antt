@@ -20,7 +20,7 @@ use Rattle.profile_core.specs.internal.profile.StackProfile.{IsSound, weighed, c
 use Rattle.profile_core.specs.internal.profile.StackProfile.{distances_of}
 use Rattle.profile_core.proofs.Elements.{all_same}
 use Rattle.profile_core.proofs.rows.Bringing.{absent_at}
-use Rattle.profile_core.proofs.rows.Shifting.{other_front, index_behind, index-le}
+use Rattle.profile_core.proofs.Shifting.{other_front, index_behind, index-le}
 use Rattle.profile_core.proofs.profile.Weighing.{weighed-zeros, sum-zeros}
 
 behind_at : (b : Bool) (distance p n : ℕ) → Behind distance ≡ cond b (Behind p) (New n) →

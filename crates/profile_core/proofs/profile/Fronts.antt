@@ -289,7 +289,7 @@ leads_reference v w fit fit' finer leads y = λ a front.
     (cases_eq (set_of g y) (set_of g a))
 
 -- where all lists are empty there is no front
-no_front : (n k x : ℕ) → is_front x (get_or (replicate n []) k []) ≡ false
+pub no_front : (n k x : ℕ) → is_front x (get_or (replicate n []) k []) ≡ false
 no_front zero k x = refl
 no_front (suc n) zero x = refl
 no_front (suc n) (suc k) x = no_front n k x

@@ -63,7 +63,7 @@ lists_step es v r xs h e k lt =
 length-raise : (ns : List ℕ) (i : ℕ) → length (one_more_at ns i) ≡ length ns
 length-raise ns i = length-set ns i _
 
-length-either : (b : Bool) (xs ys : List ℕ) {n : ℕ} → length xs ≡ n → length ys ≡ n →
+pub length-either : (b : Bool) (xs ys : List ℕ) {n : ℕ} → length xs ≡ n → length ys ≡ n →
     length (cond b xs ys) ≡ n
 length-either true xs ys p q = p
 length-either false xs ys p q = q

@@ -7,7 +7,7 @@ use Rattle.profile_core.specs.profile.RecencyList.{index_of}
 use Rattle.profile_core.specs.internal.set_lists.Moves.{shifted_of}
 use Rattle.profile_core.proofs.rows.Bringing.{IsShifted, shifted_index, shifted_last, row_found}
 use Rattle.profile_core.proofs.rows.Bringing.{row_grown, size}
-use Rattle.profile_core.proofs.rows.Shifting.{index_behind, other_front}
+use Rattle.profile_core.proofs.Shifting.{index_behind, other_front}
 
 -- lists with one block in front, without it
 without_front : (x h n : ℕ) (zs ws : List ℕ) → take (suc h) (x ∷ zs) ≡ take (n + 1) (x ∷ ws) →

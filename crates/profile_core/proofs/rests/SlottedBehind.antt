@@ -1,6 +1,6 @@
 -- A block that comes to the front of a list whose blocks behind the second are in slots.
-use Rattle.std.proofs.Common.{◌≡◌, ℕ, zero, suc, ◌+◌, ◌-◌, ◌<◌, ◌≤◌, inl, inr, List, [], ◌∷◌}
-use Rattle.std.proofs.Common.{length, take, min, refl, sym, ◌∙◌, ap, subst, arith}
+use Rattle.std.proofs.Common.{◌≡◌, ℕ, suc, ◌+◌, ◌-◌, ◌<◌, ◌≤◌, inl, inr, List, ◌∷◌, length}
+use Rattle.std.proofs.Common.{take, min, sym, ◌∙◌, ap, subst, arith}
 use Rattle.std.specs.List.{remove}
 use Rattle.std.proofs.lemmas.Bool.{cases_lt}
 use Rattle.std.proofs.lemmas.List.{take_all, take-take, length-take-le}
@@ -10,24 +10,9 @@ use Rattle.profile_core.specs.profile.RecencyList.{index_of}
 use Rattle.profile_core.specs.internal.set_lists.Moves.{standing_of}
 use Rattle.profile_core.specs.Slots.{ordered_numbers}
 use Rattle.profile_core.proofs.profile.Feeding.{FoundAt, FoundNowhere, found_behind, found_nowhere}
-use Rattle.profile_core.proofs.rows.Shifting.{length-remove, remove_end}
+use Rattle.profile_core.proofs.Shifting.{length-remove, remove_end, removed_take, kept_take}
 use Rattle.profile_core.proofs.slots.SlotLemmas.{length-ordered_numbers, ordered_numbers_take}
 use Rattle.profile_core.proofs.rests.SlottedRestLemmas.{AreOrdered}
-
-pub removed_take : (h p : ℕ) (xs : List ℕ) → p ≤ h →
-    take h (remove xs p) ≡ remove (take (suc h) xs) p
-removed_take zero zero [] le = refl
-removed_take (suc h) zero [] le = refl
-removed_take zero (suc p) [] le = absurd (omega arith)
-removed_take (suc h) (suc p) [] le = refl
-removed_take h zero (x ∷ xs) le = refl
-removed_take zero (suc p) (x ∷ xs) le = absurd (omega arith)
-removed_take (suc h) (suc p) (x ∷ xs) le = ap (λ ys. x ∷ ys) (removed_take h p xs (omega arith))
-
-pub kept_take : (q : ℕ) (xs : List ℕ) → take q (remove xs q) ≡ take q xs
-kept_take zero xs = refl
-kept_take (suc q) [] = refl
-kept_take (suc q) (x ∷ xs) = ap (λ ys. x ∷ ys) (kept_take q xs)
 
 -- The numbers behind the second of a list: `whole` are all in slots, of which the list has the
 -- first `h`, and then one more came in front, in the slot of a place.

@@ -17,7 +17,7 @@ use Rattle.profile_core.specs.internal.rests.SlottedRests.{ArePlaced, IsSlotted}
 use Rattle.profile_core.proofs.Elements.{all_set, all_same}
 use Rattle.profile_core.proofs.Places.{places_then, one_more, place_left, place_here}
 use Rattle.profile_core.proofs.Places.{place_other, places_taken, taken_none, none_taken}
-use Rattle.profile_core.proofs.rows.RowsBySet.{HasRow, rows_kept, row_is, rows_blank, row_put}
+use Rattle.profile_core.proofs.RowsBySet.{HasRow, rows_kept, row_is, rows_blank, row_put}
 use Rattle.profile_core.proofs.slots.SlotLemmas.{ordered_numbers_take, blank_order}
 
 -- slots that have an order

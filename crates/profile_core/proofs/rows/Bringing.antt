@@ -14,8 +14,8 @@ use Rattle.profile_core.specs.declared.rows.row.Shifted.TheVariants.{Found, Out}
 use Rattle.profile_core.specs.profile.RecencyList.{index_of, is_front, move_to_front}
 use Rattle.profile_core.specs.internal.set_lists.Moves.{is_second, shifted_of}
 use Rattle.profile_core.specs.internal.set_lists.Lists.{IsBroughtInRow}
-use Rattle.profile_core.proofs.rows.Shifting.{other_front, index_behind, index-le, length-remove}
-use Rattle.profile_core.proofs.rows.Shifting.{remove_end}
+use Rattle.profile_core.proofs.Shifting.{other_front, index_behind, index-le, length-remove}
+use Rattle.profile_core.proofs.Shifting.{remove_end}
 
 -- the result of a pass: the distance of x, or, if x is not there, the last block
 found_at : (b : Bool) (distance p last : ℕ) → Found distance ≡ cond b (Found p) (Out last) →

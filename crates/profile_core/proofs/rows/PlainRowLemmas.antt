@@ -8,10 +8,10 @@ use Rattle.std.specs.Vec.{with_items}
 use borrow.Rule.Slice.PartMut.{put_mid, same_len_mid}
 use Rattle.profile_core.specs.internal.rows.Rows.{RowsValue, rows_by_set, row_for, with_row}
 use Rattle.profile_core.specs.internal.rows.PlainRows.{plain_row, IsPlain}
-use Rattle.profile_core.proofs.rows.RowParts.{in_front, part_long, part_read, part_first, part_here}
-use Rattle.profile_core.proofs.rows.RowParts.{part_other, part_lent, part_back}
-use Rattle.profile_core.proofs.rows.RowsBySet.{HasRow, known_row, rows_blank, within, row_is}
-use Rattle.profile_core.proofs.rows.RowsBySet.{row_put}
+use Rattle.profile_core.proofs.RowParts.{in_front, part_long, part_read, part_first, part_here}
+use Rattle.profile_core.proofs.RowParts.{part_other, part_lent, part_back}
+use Rattle.profile_core.proofs.RowsBySet.{HasRow, known_row, rows_blank, within, row_is}
+use Rattle.profile_core.proofs.RowsBySet.{row_put}
 
 -- rows of zeros
 pub blank_rows_in : (n m : ℕ) {numbers : List ℕ} → numbers ≡ replicate (m * n) 0 →

@@ -14,9 +14,9 @@ use Rattle.profile_core.specs.internal.rows.Rows.{blank_rows, list_in_row}
 use Rattle.profile_core.specs.internal.set_lists.Lists.{IsBroughtInRow}
 use Rattle.profile_core.specs.internal.rows.SplitRows.{split_row, split_rows, AreSplitRows}
 use Rattle.profile_core.proofs.Elements.{all_set, all_same}
-use Rattle.profile_core.proofs.rows.RowsBySet.{HasRow, known_row, rows_blank, within, row_is}
-use Rattle.profile_core.proofs.rows.RowsBySet.{row_put}
-use Rattle.profile_core.proofs.rows.Shifting.{index_behind, other_front}
+use Rattle.profile_core.proofs.RowsBySet.{HasRow, known_row, rows_blank, within, row_is}
+use Rattle.profile_core.proofs.RowsBySet.{row_put}
+use Rattle.profile_core.proofs.Shifting.{index_behind, other_front}
 
 -- where a block stands behind the first two, neither of which it is
 behind_two : (x y z : ℕ) (ys : List ℕ) → (y ≡ x → ⊥) → (z ≡ x → ⊥) →

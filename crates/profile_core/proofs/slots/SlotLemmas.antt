@@ -19,8 +19,8 @@ use Rattle.profile_core.specs.profile.RecencyList.{index_of, is_in}
 use Rattle.profile_core.specs.internal.set_lists.Moves.{standing_of}
 use Rattle.profile_core.specs.Slots.{mark_of, ordered_numbers, IsOrder}
 use Rattle.profile_core.proofs.Elements.{all_same}
-use Rattle.profile_core.proofs.rows.Shifting.{index_found, index_end, is_found, is_absent}
-use Rattle.profile_core.proofs.rows.Shifting.{length-remove}
+use Rattle.profile_core.proofs.Shifting.{index_found, index_end, is_found, is_absent}
+use Rattle.profile_core.proofs.Shifting.{length-remove}
 
 -- the length of a list, and its block at an index
 pub length-ordered_numbers : (order numbers : List ℕ) (len : ℕ) → len ≤ length order →

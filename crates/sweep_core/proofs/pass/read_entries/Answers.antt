@@ -8,7 +8,7 @@ use Rattle.trace_core.proofs.WholeTraces.{reads-none}
 use Rattle.sweep_core.specs.internal.Pass.{profiles_after, pair_after_flush}
 use Rattle.sweep_core.specs.internal.Feeding.{profiles_with_fronts, FedAtMost, profiles_after_batch}
 use Rattle.sweep_core.specs.internal.Waiting.{AreWaiting, AreNoFiner}
-use Rattle.sweep_core.proofs.Passes.{all_after-nil, fed-both, fed-more, fed-one}
+use Rattle.sweep_core.proofs.Passes.{all_after-nil, all_after-append, fed-both, fed-more, fed-one}
 use Rattle.sweep_core.proofs.Catching.{fresh-few, caught-none, caught-flush, few-flush}
 use Rattle.sweep_core.proofs.Waiting.{fed-nil, waiting-none, waiting-behind, waiting-few}
 use Rattle.sweep_core.proofs.Waiting.{waiting-led}
@@ -45,10 +45,12 @@ loop-entry-preserved-in-Some-second g c =
     let new = profiles_with_fronts c.feed_kept-in-Some-second.new.fed
     (profiles_after_batch c.feed_kept-in-Some-second.new.batch
     c.feed_kept-in-Some-second.new.profiles) in
-    let fed = fed-both c.args.kind old mid new c.in-Item.is c.refs_of-second.ensures
+    let fed = fed-both profiles_after all_after-append c.args.kind old mid new c.in-Item.is
+    c.refs_of-second.ensures
     c.in-Some-second.is first.caught second.caught in (
       reads-more so_far c.next.ensures.reached c.next.ensures.entry c.in_ok-entry.was c.in-Some.is (
-        fed-more c.args.kind c.args.profiles.now old new es c.in-Some.entry so_far.holds.0 fed,
+        fed-more profiles_after all_after-append c.args.kind c.args.profiles.now old new es
+            c.in-Some.entry so_far.holds.0 fed,
         second.waiting,
         omega (
           arith,
@@ -71,10 +73,12 @@ loop-entry-preserved-in_default-second g c =
     (profiles_after_batch c.loop-entry.batch c.loop-entry.profiles) in
     let new = profiles_with_fronts c.feed_kept.new.fed
     (profiles_after_batch c.feed_kept.new.batch c.feed_kept.new.profiles) in
-    let fed = fed-one c.args.kind old new c.in-Item.is c.refs_of-second.ensures
+    let fed = fed-one profiles_after all_after-append c.args.kind old new c.in-Item.is
+    c.refs_of-second.ensures
     c.in_default-second.is one.caught in (
       reads-more so_far c.next.ensures.reached c.next.ensures.entry c.in_ok-entry.was c.in-Some.is (
-        fed-more c.args.kind c.args.profiles.now old new es c.in-Some.entry so_far.holds.0 fed,
+        fed-more profiles_after all_after-append c.args.kind c.args.profiles.now old new es
+            c.in-Some.entry so_far.holds.0 fed,
         one.waiting,
         omega (arith, so_far.holds.2, one.more, length-append es (c.in-Some.entry ∷ [])),
       ),
@@ -118,7 +122,7 @@ loop-entry-preserved g c =
     ≡ profiles_after (events_of c.args.kind c.in-Some.entry) old =
     ap (profiles_with_fronts n) flushed ∙ caught-flush n xs
     ∙ ap (λ e. profiles_after (events_of c.args.kind e) old) (sym c.in-Flush.is) in
-    let caught = fed-more c.args.kind c.args.profiles.now old
+    let caught = fed-more profiles_after all_after-append c.args.kind c.args.profiles.now old
     (profiles_with_fronts n c.flush.new.profiles) es c.in-Some.entry so_far.holds.0 fed in
     let few = subst (FedAtMost n) (sym flushed) (few-flush n xs
     (waiting-behind n c.loop-entry.batch c.loop-entry.profiles so_far.holds.1).fed) in (

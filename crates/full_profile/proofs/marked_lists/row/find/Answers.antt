@@ -1,6 +1,6 @@
 -- The first block that is the one that is looked for, or none.
 use Rattle.std.proofs.Common.{arith, sym}
-use Rattle.full_profile.proofs.marked_lists.Shifting.{index_found, index_end}
+use Rattle.profile_core.proofs.Shifting.{index_found, index_end}
 use Rattle.full_profile.proofs.marked_lists.row.find.Goals as goal
 
 pub returns-then-blocks-index : goal.returns-then-blocks-index

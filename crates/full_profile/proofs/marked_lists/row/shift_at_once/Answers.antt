@@ -1,7 +1,7 @@
 -- The block is taken out where it was found, or else the last one.
 use Rattle.std.proofs.Common.{◌≡◌, ◌-◌, ◌∷◌, ◌∙◌, length, take, sym, ap, arith}
 use Rattle.std.specs.List.{remove}
-use Rattle.full_profile.proofs.marked_lists.Shifting.{index-le}
+use Rattle.profile_core.proofs.Shifting.{index-le}
 use Rattle.full_profile.proofs.marked_lists.FarShifting.{found_shifted, gone_shifted, last_gone}
 use Rattle.full_profile.proofs.marked_lists.row.shift_at_once.Goals as goal
 

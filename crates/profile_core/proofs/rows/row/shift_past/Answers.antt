@@ -1,9 +1,8 @@
 -- The pass over a list: each block goes one index on, until the block that is looked for is found.
 use Rattle.std.proofs.Common.{◌≡◌, ◌+◌, ◌<◌, false, eqb, get_or, length, set, sym, arith}
-use Rattle.profile_core.proofs.rows.Shifting.{IsPassed, passed_long, passed_next, found_shifted}
-use Rattle.profile_core.proofs.rows.Shifting.{found_moved, nowhere_shifted, nowhere_moved}
+use Rattle.profile_core.proofs.Shifting.{IsPassed, passed_long, passed_next, found_shifted}
+use Rattle.profile_core.proofs.Shifting.{found_moved, nowhere_shifted, nowhere_moved}
 use Rattle.profile_core.proofs.rows.row.shift_past.Goals as goal
-use Rattle.profile_core.proofs.rows.row.shift_past.Goals.{After-pass-found}
 use Rattle.profile_core.proofs.rows.row.shift_past.Goals.{After-pass-found-in-loop-compared}
 use Rattle.profile_core.proofs.rows.row.shift_past.Goals.{After-pass-found-2}
 

@@ -1,5 +1,5 @@
 use Rattle.std.proofs.Common.{◌-◌, length}
-use Rattle.profile_core.proofs.rows.Shifting.{IsPassed}
+use Rattle.profile_core.proofs.Shifting.{IsPassed}
 use Rattle.profile_core.proofs.rows.row.shift_past.Given as goal
 
 abbrev pub invariant-loop-compared : goal.invariant-loop-compared

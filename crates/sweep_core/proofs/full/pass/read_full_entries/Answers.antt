@@ -6,7 +6,8 @@ use Rattle.trace_core.proofs.WholeTraces.{holds-less, reads-end, reads-fault, re
 use Rattle.trace_core.proofs.WholeTraces.{reads-none}
 use Rattle.sweep_core.specs.internal.Full.{full_pairs_after, full_pairs_caught, full_pairs_fed}
 use Rattle.sweep_core.specs.internal.Full.{FullWaiting, AreNoFinerFull, full_pair_flushed}
-use Rattle.sweep_core.proofs.FullLemmas.{after-nil, fed-both, fed-more, fed-one, caught-none}
+use Rattle.sweep_core.proofs.Passes.{fed-both, fed-more, fed-one}
+use Rattle.sweep_core.proofs.FullLemmas.{after-nil, after-append, caught-none}
 use Rattle.sweep_core.proofs.FullLemmas.{caught-flush, fed-nil, waiting-start, waiting-few}
 use Rattle.sweep_core.proofs.FullLemmas.{waiting-alike, waiting-fed, waiting-flushed, finest-small}
 use Rattle.sweep_core.proofs.FullLemmas.{finest-finer, no-finer-fed, no-finer-flushed}
@@ -42,10 +43,12 @@ loop-entry-preserved-in-Some-second g c =
     let new = full_pairs_caught c.feed_full_kept-in-Some-second.new.fed
     (full_pairs_fed c.feed_full_kept-in-Some-second.new.batch
     c.feed_full_kept-in-Some-second.new.profiles) in
-    let fed = fed-both c.args.kind old mid new c.in-Item.is c.refs_of-second.ensures
+    let fed = fed-both full_pairs_after after-append c.args.kind old mid new c.in-Item.is
+    c.refs_of-second.ensures
     c.in-Some-second.is first.caught second.caught in (
       reads-more so_far c.next.ensures.reached c.next.ensures.entry c.in_ok-entry.was c.in-Some.is (
-        fed-more c.args.kind c.args.profiles.now old new es c.in-Some.entry so_far.holds.0 fed,
+        fed-more full_pairs_after after-append c.args.kind c.args.profiles.now old new es
+            c.in-Some.entry so_far.holds.0 fed,
         second.waiting,
         omega (
           arith,
@@ -68,10 +71,12 @@ loop-entry-preserved-in_default-second g c =
     (full_pairs_fed c.loop-entry.batch c.loop-entry.profiles) in
     let new = full_pairs_caught c.feed_full_kept.new.fed
     (full_pairs_fed c.feed_full_kept.new.batch c.feed_full_kept.new.profiles) in
-    let fed = fed-one c.args.kind old new c.in-Item.is c.refs_of-second.ensures
+    let fed = fed-one full_pairs_after after-append c.args.kind old new c.in-Item.is
+    c.refs_of-second.ensures
     c.in_default-second.is one.caught in (
       reads-more so_far c.next.ensures.reached c.next.ensures.entry c.in_ok-entry.was c.in-Some.is (
-        fed-more c.args.kind c.args.profiles.now old new es c.in-Some.entry so_far.holds.0 fed,
+        fed-more full_pairs_after after-append c.args.kind c.args.profiles.now old new es
+            c.in-Some.entry so_far.holds.0 fed,
         one.waiting,
         omega (arith, so_far.holds.2, one.more, length-append es (c.in-Some.entry ∷ [])),
       ),
@@ -115,7 +120,7 @@ loop-entry-preserved g c =
     ≡ full_pairs_after (events_of c.args.kind c.in-Some.entry) old =
     ap (full_pairs_caught n) flushed ∙ caught-flush n xs
     ∙ ap (λ e. full_pairs_after (events_of c.args.kind e) old) (sym c.in-Flush.is) in
-    let caught = fed-more c.args.kind c.args.profiles.now old
+    let caught = fed-more full_pairs_after after-append c.args.kind c.args.profiles.now old
     (full_pairs_caught n c.flush_full.new.profiles) es c.in-Some.entry so_far.holds.0 fed in (
       reads-more so_far c.next.ensures.reached c.next.ensures.entry c.in_ok-entry.was c.in-Some.is (
         ap (λ l. full_pairs_caught n (full_pairs_fed l c.flush_full.new.profiles))

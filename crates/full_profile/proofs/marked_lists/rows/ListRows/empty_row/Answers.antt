@@ -4,7 +4,7 @@ use Rattle.std.proofs.Common.{arith, sym}
 use Rattle.std.proofs.lemmas.List.{get_or_read, take-take}
 use Rattle.full_profile.specs.internal.Marked.{cleans_in}
 use Rattle.full_profile.specs.internal.Copies.{with_copies_of, up_to_of}
-use Rattle.full_profile.proofs.marked_lists.Parts.{part_lent}
+use Rattle.profile_core.proofs.RowParts.{part_lent}
 use Rattle.full_profile.proofs.marked_lists.ListsInRows.{known, within, blocks_end}
 use Rattle.full_profile.proofs.marked_lists.ListsInRows.{cleans_end, cleans_are, emptied_sound}
 use Rattle.full_profile.proofs.marked_lists.ListsInRows.{list_emptied}

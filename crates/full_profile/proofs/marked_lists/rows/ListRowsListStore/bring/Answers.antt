@@ -9,7 +9,7 @@ use Rattle.full_profile.specs.internal.Marked.{Marked, blocks_in, cleans_in, mar
 use Rattle.full_profile.specs.internal.Marked.{cleans_after}
 use Rattle.std.proofs.Common.{set}
 use Rattle.full_profile.specs.internal.Rows.{AreRows}
-use Rattle.full_profile.proofs.marked_lists.Parts.{part_lent, part_long, part_back, part_kept}
+use Rattle.profile_core.proofs.RowParts.{part_lent, part_long, part_back, part_kept}
 use Rattle.full_profile.proofs.marked_lists.ListsInRows.{HasList, known, within, depth_is}
 use Rattle.full_profile.proofs.marked_lists.ListsInRows.{blocks_end, cleans_end, blocks_are}
 use Rattle.full_profile.proofs.marked_lists.ListsInRows.{cleans_are, rows_sound, lists_put}

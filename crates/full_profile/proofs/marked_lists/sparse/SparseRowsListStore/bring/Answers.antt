@@ -10,7 +10,7 @@ use Rattle.profile_core.proofs.SparseRestLemmas.{rest_long}
 use Rattle.full_profile.specs.internal.Marked.{Marked, blocks_in, cleans_in, marked_touch_of}
 use Rattle.full_profile.specs.internal.Marked.{cleans_after}
 use Rattle.full_profile.specs.internal.SparseRows.{AreSparse, all_sparse}
-use Rattle.full_profile.proofs.marked_lists.Parts.{part_lent, part_back}
+use Rattle.profile_core.proofs.RowParts.{part_lent, part_back}
 use Rattle.full_profile.proofs.marked_lists.SparseRowLemmas.{HasSparse, known, place_within}
 use Rattle.full_profile.proofs.marked_lists.SparseRowLemmas.{ready, within, len_read, depth_is}
 use Rattle.full_profile.proofs.marked_lists.SparseRowLemmas.{blocks_end, cleans_end, blocks_are}

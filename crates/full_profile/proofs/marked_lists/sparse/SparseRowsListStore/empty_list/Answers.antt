@@ -6,7 +6,7 @@ use Rattle.std.proofs.lemmas.List.{take-take, nil_from_length}
 use Rattle.full_profile.specs.internal.Marked.{cleans_in}
 use Rattle.full_profile.specs.internal.Copies.{with_copies_of, up_to_of}
 use Rattle.full_profile.specs.internal.SparseRows.{AreSparse, all_sparse}
-use Rattle.full_profile.proofs.marked_lists.Parts.{part_lent}
+use Rattle.profile_core.proofs.RowParts.{part_lent}
 use Rattle.full_profile.proofs.marked_lists.SparseRowLemmas.{HasSparse, known, within}
 use Rattle.full_profile.proofs.marked_lists.SparseRowLemmas.{place_within, place_read, len_read}
 use Rattle.full_profile.proofs.marked_lists.SparseRowLemmas.{cleans_end, depth_is}

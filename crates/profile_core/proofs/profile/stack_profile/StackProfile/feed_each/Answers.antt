@@ -1,7 +1,7 @@
 -- Each reference is fed, or left out if it finds its block in front.
 use Rattle.std.proofs.Common.{◌<◌, ◌+◌, ◌∙◌, cond, sym, ap, length, arith}
 use Rattle.profile_core.specs.profile.State.{fed_of}
-use Rattle.profile_core.proofs.profile.Batches.{fed_front, fed_behind}
+use Rattle.profile_core.proofs.profile.Batches.{fed_passed, fed_left}
 use Rattle.profile_core.proofs.profile.stack_profile.StackProfile.feed_each.Goals as goal
 use Rattle.profile_core.proofs.profile.stack_profile.StackProfile.feed_each.Goals.{
   then-not-feed_unless_front,
@@ -21,10 +21,10 @@ loop-at-preserved g c =
     elim c.if-not-feed_unless_front.branch [
       | then-not-feed_unless_front w ↦
           let left = w.if-not-feed_unless_front.true in
-          rw (w.addrs-is, w.fed-is) (fed_behind so_far inside _ fed.step (sym fed.front ∙ left)
+          rw (w.addrs-is, w.fed-is) (fed_left so_far inside _ _ fed.step (sym fed.front ∙ left)
           (fed.more ∙ ap (λ b. fed_of c.loop-at.self + cond b 0 1) left))
       | else-not-feed_unless_front w ↦
           let found = w.if-not-feed_unless_front.false in
-          rw (w.addrs-is, w.fed-is) (fed_front so_far inside _ fed.step (sym fed.front ∙ found)
+          rw (w.addrs-is, w.fed-is) (fed_passed so_far inside _ _ fed.step (sym fed.front ∙ found)
           (fed.more ∙ ap (λ b. fed_of c.loop-at.self + cond b 0 1) found))
     ]

@@ -1,7 +1,7 @@
 -- Each reference is fed to the first, to both, or to none.
 use Rattle.std.proofs.Common.{◌<◌, ◌+◌, ◌∙◌, cond, sym, ap, length, arith}
 use Rattle.profile_core.specs.profile.State.{fed_of}
-use Rattle.profile_core.proofs.profile.Batches.{both_front, next_front, both_behind}
+use Rattle.profile_core.proofs.profile.Batches.{both_passed, next_passed, both_left}
 use Rattle.profile_core.proofs.profile.stack_profile.StackProfile.feed_each_to_two.Goals as goal
 use Rattle.profile_core.proofs.profile.stack_profile.StackProfile.feed_each_to_two.Goals.{
   else-not-feed_unless_front,
@@ -24,7 +24,7 @@ loop-at-preserved g c =
           let second = w.feed_unless_front-then-not-feed_unless_front.ensures in
           let left = w.if-not-feed_unless_front.true in
           let left' = w.if-not-feed_unless_front-2.true in
-          rw (w.addrs-is, w.left-is, w.next-is) (both_behind so_far inside _ fed.step
+          rw (w.addrs-is, w.left-is, w.next-is) (both_left so_far inside _ _ fed.step
           (sym fed.front ∙ left) (fed.more ∙ ap (λ b. fed_of c.loop-at.self + cond b 0 1) left) _
           second.step (sym second.front ∙ left')
           (second.more ∙ ap (λ b. fed_of c.loop-at.next + cond b 0 1) left'))
@@ -32,12 +32,12 @@ loop-at-preserved g c =
           let second = w.feed_unless_front-then-not-feed_unless_front.ensures in
           let left = w.if-not-feed_unless_front.true in
           let found = w.if-not-feed_unless_front-2.false in
-          rw (w.addrs-is, w.left-is, w.next-is) (next_front so_far inside _ fed.step
+          rw (w.addrs-is, w.left-is, w.next-is) (next_passed so_far inside _ _ fed.step
           (sym fed.front ∙ left) (fed.more ∙ ap (λ b. fed_of c.loop-at.self + cond b 0 1) left) _
           second.step (sym second.front ∙ found)
           (second.more ∙ ap (λ b. fed_of c.loop-at.next + cond b 0 1) found))
       | else-not-feed_unless_front w ↦
           let found = w.if-not-feed_unless_front.false in
-          rw (w.addrs-is, w.left-is, w.next-is) (both_front so_far inside _ fed.step
+          rw (w.addrs-is, w.left-is, w.next-is) (both_passed so_far inside _ _ fed.step
           (sym fed.front ∙ found) (fed.more ∙ ap (λ b. fed_of c.loop-at.self + cond b 0 1) found))
     ]

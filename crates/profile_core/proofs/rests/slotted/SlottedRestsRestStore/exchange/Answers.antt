@@ -7,7 +7,7 @@ use Rattle.profile_core.specs.profile.RecencyList.{index_of}
 use Rattle.profile_core.specs.internal.set_lists.Moves.{rest_standing_of}
 use Rattle.profile_core.specs.internal.rows.Rows.{row_for}
 use Rattle.profile_core.specs.internal.rests.SlottedRests.{IsSlotted}
-use Rattle.profile_core.proofs.rows.RowsBySet.{known_row, within, stride_is, put_is, put_others}
+use Rattle.profile_core.proofs.RowsBySet.{known_row, within, stride_is, put_is, put_others}
 use Rattle.profile_core.proofs.slots.SlotLemmas.{length-ordered_numbers, ordered_numbers_take}
 use Rattle.profile_core.proofs.rests.SlottedRestLemmas.{own_of, own_listed, own_back}
 use Rattle.profile_core.proofs.rests.SlottedRestLemmas.{written_placed}

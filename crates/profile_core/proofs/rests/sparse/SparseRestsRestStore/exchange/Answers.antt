@@ -5,7 +5,7 @@ use Rattle.std.proofs.lemmas.List.{with_items_is}
 use Rattle.profile_core.specs.profile.RecencyList.{index_of}
 use Rattle.profile_core.specs.internal.set_lists.Moves.{rest_standing_of}
 use Rattle.profile_core.specs.internal.rows.Rows.{row_for}
-use Rattle.profile_core.proofs.rows.RowsBySet.{known_row, within, stride_is, put_is, put_others}
+use Rattle.profile_core.proofs.RowsBySet.{known_row, within, stride_is, put_is, put_others}
 use Rattle.profile_core.proofs.SparseRestLemmas.{own_of, own_ends, own_lent, own_long}
 use Rattle.profile_core.proofs.SparseRestLemmas.{own_back}
 use Rattle.profile_core.proofs.rests.sparse.SparseRestsRestStore.exchange.Goals as goal

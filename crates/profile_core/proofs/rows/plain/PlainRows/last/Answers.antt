@@ -2,7 +2,7 @@
 use Rattle.std.proofs.Common.{◌-◌, ◌∙◌, get_or, ap, arith}
 use Rattle.profile_core.specs.internal.rows.Rows.{row_for}
 use Rattle.profile_core.proofs.rows.PlainRowLemmas.{known, ends, numbers_small, entry_read}
-use Rattle.profile_core.proofs.rows.RowsBySet.{stride_is}
+use Rattle.profile_core.proofs.RowsBySet.{stride_is}
 use Rattle.profile_core.proofs.rows.plain.PlainRows.last.Goals as goal
 
 pub overflow_mul-set : goal.overflow_mul-set

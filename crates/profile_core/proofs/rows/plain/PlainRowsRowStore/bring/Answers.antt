@@ -6,7 +6,7 @@ use Rattle.profile_core.specs.internal.set_lists.Lists.{IsRow, IsBroughtInRow}
 use Rattle.profile_core.specs.internal.rows.Rows.{list_in_row}
 use Rattle.profile_core.proofs.rows.PlainRowLemmas.{known, ends, numbers_small, lent, row_size}
 use Rattle.profile_core.proofs.rows.PlainRowLemmas.{put_back}
-use Rattle.profile_core.proofs.rows.RowsBySet.{stride_is, put_is, put_others}
+use Rattle.profile_core.proofs.RowsBySet.{stride_is, put_is, put_others}
 use Rattle.profile_core.proofs.rows.plain.PlainRowsRowStore.bring.Goals as goal
 
 pub overflow_mul-start : goal.overflow_mul-start

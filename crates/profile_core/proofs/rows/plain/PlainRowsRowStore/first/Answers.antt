@@ -1,7 +1,7 @@
 -- The first number of a row.
 use Rattle.std.proofs.Common.{arith}
 use Rattle.profile_core.proofs.rows.PlainRowLemmas.{known, ends, numbers_small, entry_read}
-use Rattle.profile_core.proofs.rows.RowsBySet.{stride_is}
+use Rattle.profile_core.proofs.RowsBySet.{stride_is}
 use Rattle.profile_core.proofs.rows.plain.PlainRowsRowStore.first.Goals as goal
 
 pub overflow_mul-set : goal.overflow_mul-set

@@ -1,7 +1,7 @@
 -- The first number of a row, written.
 use Rattle.std.proofs.Common.{arith}
 use Rattle.profile_core.proofs.rows.PlainRowLemmas.{known, ends, numbers_small, first_put}
-use Rattle.profile_core.proofs.rows.RowsBySet.{stride_is}
+use Rattle.profile_core.proofs.RowsBySet.{stride_is}
 use Rattle.profile_core.proofs.rows.plain.PlainRowsRowStore.put_first.Goals as goal
 
 pub overflow_mul-set : goal.overflow_mul-set

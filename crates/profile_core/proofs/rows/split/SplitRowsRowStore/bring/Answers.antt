@@ -2,7 +2,7 @@
 use Rattle.std.proofs.Common.{◌≡◌, ◌∙◌, ◌<◌, ◌≤◌, ℕ, length, get_or, ap, arith}
 use Rattle.std.proofs.lemmas.List.{get_or_read}
 use Rattle.profile_core.specs.internal.rows.Rows.{row_for}
-use Rattle.profile_core.proofs.rows.RowsBySet.{row_is, stride_is, put_is, put_others}
+use Rattle.profile_core.proofs.RowsBySet.{row_is, stride_is, put_is, put_others}
 use Rattle.profile_core.proofs.rows.SplitRowLemmas.{known, is_first, is_rest, rest_long}
 use Rattle.profile_core.proofs.rows.SplitRowLemmas.{first_written, one_brought, brought_as}
 use Rattle.profile_core.proofs.rows.SplitRowLemmas.{written_rows, second_apart}

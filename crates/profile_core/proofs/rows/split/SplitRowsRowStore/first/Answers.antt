@@ -1,7 +1,7 @@
 -- The first number of a row.
 use Rattle.std.proofs.Common.{◌∙◌, get_or, ap, arith, sym}
 use Rattle.std.proofs.lemmas.List.{get_or_read}
-use Rattle.profile_core.proofs.rows.RowsBySet.{row_is}
+use Rattle.profile_core.proofs.RowsBySet.{row_is}
 use Rattle.profile_core.proofs.rows.SplitRowLemmas.{known, is_first}
 use Rattle.profile_core.proofs.rows.split.SplitRowsRowStore.first.Goals as goal
 

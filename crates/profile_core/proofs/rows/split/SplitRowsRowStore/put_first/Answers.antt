@@ -1,7 +1,7 @@
 -- The first number of a row, written.
 use Rattle.std.proofs.Common.{◌∙◌, ap, arith, refl, set, sym}
 use Rattle.profile_core.specs.internal.rows.Rows.{with_row}
-use Rattle.profile_core.proofs.rows.RowsBySet.{row_is}
+use Rattle.profile_core.proofs.RowsBySet.{row_is}
 use Rattle.profile_core.proofs.rows.SplitRowLemmas.{known, is_first, first_written}
 use Rattle.profile_core.proofs.rows.split.SplitRowsRowStore.put_first.Goals as goal
 

@@ -71,6 +71,22 @@ length-remove xs i lt = omega (
   length-drop (suc i) xs,
 )
 
+-- the beginning of a list that lacks a number
+pub removed_take : (h p : ℕ) (xs : List ℕ) → p ≤ h →
+    take h (remove xs p) ≡ remove (take (suc h) xs) p
+removed_take zero zero [] le = refl
+removed_take (suc h) zero [] le = refl
+removed_take zero (suc p) [] le = absurd (omega arith)
+removed_take (suc h) (suc p) [] le = refl
+removed_take h zero (x ∷ xs) le = refl
+removed_take zero (suc p) (x ∷ xs) le = absurd (omega arith)
+removed_take (suc h) (suc p) (x ∷ xs) le = ap (λ ys. x ∷ ys) (removed_take h p xs (omega arith))
+
+pub kept_take : (q : ℕ) (xs : List ℕ) → take q (remove xs q) ≡ take q xs
+kept_take zero xs = refl
+kept_take (suc q) [] = refl
+kept_take (suc q) (x ∷ xs) = ap (λ ys. x ∷ ys) (kept_take q xs)
+
 pub moved_found : (x y i : ℕ) (xs : List ℕ) → index_of x xs ≡ i → i < length xs
     → take (i + 1) (y ∷ xs) ++ drop (i + 1) xs ≡ take (length xs) (y ∷ remove xs (index_of x xs))
 moved_found x y i xs at lt = grind (arith, add-one, take_all, length-remove)

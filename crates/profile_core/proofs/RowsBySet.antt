@@ -29,6 +29,21 @@ rows_blank m n row each = rows_same m row (replicate m (replicate n 0))
     (length-replicate m (replicate n 0))
     (λ k lt. each k lt ∙ sym (get_or-replicate m k (replicate n 0) [] lt))
 
+-- one of them written anew
+pub rows_put : (m k : ℕ) (row row' : ℕ → List ℕ) (new : List ℕ) → k < m → row' k ≡ new →
+    ((j : ℕ) → j < m → (j ≡ k → ⊥) → row' j ≡ row j) →
+    rows_by_set m row' ≡ set (rows_by_set m row) k new
+rows_put m k row row' new lt here others =
+    let old = rows_by_set m row in
+    rows_same m row' (set old k new) (length-set old k new ∙ length-rows_by_set m row)
+    (λ j in_range. elim (cases_eq j k) [
+      | inl same ↦ ap row' same ∙ here
+          ∙ sym (ap (λ i. get_or (set old k new) i []) same
+          ∙ get_or-set_same old k new [] (omega (arith, lt, length-rows_by_set m row)))
+      | inr other ↦ others j in_range other
+          ∙ sym (get_or-set_other old k j new [] other ∙ rows_at m j row in_range)
+    ])
+
 -- what is known where the row of set k is asked for
 pub record HasRow (n m k : ℕ) (row : ℕ → List ℕ) (rows : RowsValue) : Type 0 where
   pub seen : record { stride = n; rows = rows_by_set m row } ≡ rows
@@ -65,16 +80,7 @@ module _ {n m k : ℕ} {row : ℕ → List ℕ} {rows : RowsValue} (r : HasRow n
       ((j : ℕ) → j < m → (j ≡ k → ⊥) → row' j ≡ row j) →
       record { stride = n; rows = rows_by_set m row' } ≡ with_row rows k new
   row_put row' new here others =
-      let old = rows_by_set m row in
-      ap (λ rs. record { stride = n; rows = rs }) (rows_same m row' (set old k new)
-      (length-set old k new ∙ length-rows_by_set m row)
-      (λ j lt. elim (cases_eq j k) [
-        | inl same ↦ ap row' same ∙ here
-            ∙ sym (ap (λ i. get_or (set old k new) i []) same
-            ∙ get_or-set_same old k new [] (omega (arith, within, length-rows_by_set m row)))
-        | inr other ↦ others j lt other
-            ∙ sym (get_or-set_other old k j new [] other ∙ rows_at m j row lt)
-      ]))
+      ap (λ rs. record { stride = n; rows = rs }) (rows_put m k row row' new within here others)
       ∙ ap (λ v. with_row v k new) r.seen
 
 -- the row of set k is `new` then

@@ -42,6 +42,9 @@ module _ (b n : ℕ) (xs : List ℕ) (ends : b + n ≤ length xs) where
   pub part_here : (new : List ℕ) → length new ≡ n → take n (drop b (put_mid b n xs new)) ≡ new
   part_here new long = grind (arith, drop_at, length-take-le, take_at)
 
+  pub part_kept : (new : List ℕ) → length new ≡ n → length (put_mid b n xs new) ≡ length xs
+  part_kept new long = same_len_mid b n xs new (long ∙ sym part_long)
+
 -- the row at place p written anew, and that at another place
 pub part_other : (p q n : ℕ) (xs new : List ℕ) → p * n ≤ length xs → length new ≡ n →
     (q ≡ p → ⊥) →
