@@ -1,5 +1,6 @@
 pub mod Shifting
 pub mod RowBringing
+pub mod RowLists
 pub mod ListsInRows
 pub mod SparseRowLemmas
 pub mod Emptying

@@ -3,20 +3,20 @@ use Rattle.std.proofs.Common.{◌≡◌, ℕ, zero, suc, ◌+◌, ◌*◌, ◌-�
 use Rattle.std.proofs.Common.{length}
 use Rattle.std.proofs.Common.{take}
 use Rattle.std.proofs.Common.{drop, get_or, set, refl, sym, ◌∙◌, ap, subst, arith, length-set}
-use Rattle.std.proofs.Common.{get_or-set_same, get_or-set_other, get_or-take}
+use Rattle.std.proofs.Common.{get_or-set_same, get_or-take}
 use Rattle.std.proofs.Math.Nat.{mul-le-mul_right}
 use Rattle.std.proofs.Common.{get_or-drop}
-use Rattle.std.specs.Prelude.{replicate}
-use Rattle.std.proofs.lemmas.List.{length-take-le, get_or_read, set-get_or, length-replicate}
-use Rattle.std.proofs.lemmas.List.{get_or-replicate, take_all}
-use Rattle.profile_core.proofs.Elements.{all_set, all_same}
+use Rattle.std.proofs.lemmas.List.{length-take-le, get_or_read, set-get_or}
+use Rattle.std.proofs.lemmas.List.{take_all}
+use Rattle.profile_core.proofs.Elements.{all_set}
 use borrow.Rule.Slice.PartMut.{put_mid}
-use Rattle.profile_core.specs.internal.rows.Rows.{rows_by_set}
 use Rattle.full_profile.specs.internal.Marked.{Marked, blocks_in, cleans_in}
 use Rattle.full_profile.specs.internal.Rows.{AreRows, listed, all_listed}
 use Rattle.profile_core.proofs.RowParts.{in_front, part_long, part_read, part_first, part_here}
 use Rattle.profile_core.proofs.RowParts.{part_other, part_kept}
-use Rattle.profile_core.proofs.RowsBySet.{length-rows_by_set, rows_at, rows_put, rows_same}
+use Rattle.profile_core.proofs.RowsBySet.{length-rows_by_set, rows_at}
+use Rattle.profile_core.specs.internal.rows.PlainRows.{plain_row}
+use Rattle.full_profile.proofs.marked_lists.RowLists.{listed_put, listed_cut, lists_written}
 
 -- what is known where the list of set k is asked for
 pub record HasList (d k : ℕ) (blocks cleans lens : List ℕ) (m : Marked) : Type 0 where
@@ -134,70 +134,17 @@ module _ {d k : ℕ} {blocks cleans lens : List ℕ} {m : Marked}
       ∙ ap (λ n. get_or (blocks_in m k) (n - 1) 0) depth_is
 
 -- one row written anew, and the length of its list
-pub listed_put : (d k : ℕ) (numbers lens row new : List ℕ) (len : ℕ) → k < length lens →
+row_put : (d k : ℕ) (numbers lens row new : List ℕ) (len : ℕ) → k < length lens →
     k * d + d ≤ length numbers → length row ≡ d → take len row ≡ new →
     all_listed d (put_mid (k * d) d numbers row) (set lens k len)
     ≡ set (all_listed d numbers lens) k new
-listed_put d k numbers lens row new len lt ends long is =
-    let written = put_mid (k * d) d numbers row in
-    ap (λ n. rows_by_set n (listed d written (set lens k len)))
-    (length-set lens k len)
-    ∙ rows_put (length lens) k (listed d numbers lens) (listed d written (set lens k len)) new lt
-    (ap (λ n. take n (take d (drop (k * d) written))) (get_or-set_same lens k len 0 lt)
-    ∙ ap (take len) (part_here (k * d) d numbers ends row long) ∙ is)
-    (λ j _ other. ap (λ n. take n (take d (drop (j * d) written)))
-    (get_or-set_other lens k j len 0 other)
-    ∙ ap (take (get_or lens j 0)) (part_other k j d numbers row (omega (arith, ends)) long other))
-
--- only the length of a list written
-pub listed_cut : (d k : ℕ) (numbers lens : List ℕ) → k < length lens →
-    all_listed d numbers (set lens k 0) ≡ set (all_listed d numbers lens) k []
-listed_cut d k numbers lens lt =
-    ap (λ n. rows_by_set n (listed d numbers (set lens k 0)))
-    (length-set lens k 0)
-    ∙ rows_put (length lens) k (listed d numbers lens) (listed d numbers (set lens k 0)) [] lt
-    (ap (λ n. take n (take d (drop (k * d) numbers))) (get_or-set_same lens k 0 0 lt))
-    (λ j _ other. ap (λ n. take n (take d (drop (j * d) numbers)))
-    (get_or-set_other lens k j 0 0 other))
-
--- all lists are empty
-pub none_listed : (d m : ℕ) (numbers : List ℕ) {lens : List ℕ} → lens ≡ replicate m 0 →
-    all_listed d numbers lens ≡ replicate m []
-none_listed d m numbers {lens} none =
-    let count : length lens ≡ m = ap length none ∙ length-replicate m 0 in
-    rows_same (length lens) (listed d numbers lens) (replicate m [])
-    (length-replicate m [] ∙ sym count)
-    (λ k lt. ap (λ ns. take (get_or ns k 0) (take d (drop (k * d) numbers))) none
-    ∙ ap (λ n. take n (take d (drop (k * d) numbers))) (all_same m k 0)
-    ∙ sym (get_or-replicate m k [] [] (omega (arith, lt, count))))
+row_put d k numbers lens row new len lt ends long is =
+    listed_put (plain_row d numbers) (plain_row d (put_mid (k * d) d numbers row)) k lens new len lt
+    (ap (take len) (part_here (k * d) d numbers ends row long) ∙ is)
+    (λ j other. part_other k j d numbers row (omega (arith, ends)) long other)
 
 module _ {d k : ℕ} {blocks cleans lens : List ℕ} {m : Marked}
     (h : HasList d k blocks cleans lens m) where
-  -- the lists as new arrays have them
-  lists_written : (blocks' cleans' lens' new clean_new : List ℕ) →
-      all_listed d blocks' lens' ≡ set (all_listed d blocks lens) k new →
-      all_listed d cleans' lens' ≡ set (all_listed d cleans lens) k clean_new →
-      record {
-        depth = d;
-        blocks = all_listed d blocks' lens';
-        cleans = all_listed d cleans' lens';
-      } ≡ record m { blocks = set m.blocks k new; cleans = set m.cleans k clean_new }
-  lists_written blocks' cleans' lens' new clean_new b c =
-      ap (λ ls. record {
-        depth = d;
-        blocks = ls;
-        cleans = all_listed d cleans' lens';
-      }) b
-      ∙ ap (λ ls. record {
-        depth = d;
-        blocks = set (all_listed d blocks lens) k new;
-        cleans = ls;
-      }) c
-      ∙ ap (λ (v : Marked). record v {
-        blocks = set v.blocks k new;
-        cleans = set v.cleans k clean_new;
-      }) h.seen
-
   -- the front's clean depth
   front_put : (x : ℕ) → 0 < length (blocks_in m k) →
       all_listed d (set cleans (k * d) x) lens
@@ -210,7 +157,7 @@ module _ {d k : ℕ} {blocks cleans lens : List ℕ} {m : Marked}
       ap (λ ns. all_listed d ns lens)
       (part_first (k * d) d cleans (cleans_end h) x h.sound.some)
       ∙ ap (all_listed d (put_mid (k * d) d cleans (set row 0 x))) (sym (set-get_or lens k 0))
-      ∙ listed_put d k cleans lens (set row 0 x) (set (take len row) 0 x) len (within h)
+      ∙ row_put d k cleans lens (set row 0 x) (set (take len row) 0 x) len (within h)
       (cleans_end h) long (first_set len row x (omega (arith, some, blocks_size h)))
       ∙ ap (λ l. set (all_listed d cleans lens) k (set l 0 x)) (sym (cleans_are h))
 
@@ -273,11 +220,11 @@ module _ {d k : ℕ} {blocks cleans lens : List ℕ} {m : Marked}
           cleans = all_listed d cleans' (set lens k len);
         } ≡ record m { blocks = set m.blocks k new; cleans = set m.cleans k clean_new }
     lists_put clean_row cleans' new clean_new clean_put clean_long is clean_is =
-        lists_written blocks' cleans' (set lens k len) new clean_new
+        lists_written k new clean_new h.seen
         (ap (λ ns. all_listed d ns (set lens k len)) put
-        ∙ listed_put d k blocks lens row new len (within h) (blocks_end h) long is)
+        ∙ row_put d k blocks lens row new len (within h) (blocks_end h) long is)
         (ap (λ ns. all_listed d ns (set lens k len)) clean_put
-        ∙ listed_put d k cleans lens clean_row clean_new len (within h) (cleans_end h) clean_long
+        ∙ row_put d k cleans lens clean_row clean_new len (within h) (cleans_end h) clean_long
         clean_is)
 
   -- a list that is emptied
@@ -302,7 +249,7 @@ module _ {d k : ℕ} {blocks cleans lens : List ℕ} {m : Marked}
     blocks = all_listed d (set blocks (k * d) 0) (set lens k 0);
     cleans = all_listed d cleans (set lens k 0);
   } ≡ record m { blocks = set m.blocks k []; cleans = set m.cleans k [] }
-  list_emptied = lists_written (set blocks (k * d) 0) cleans (set lens k 0) [] []
+  list_emptied = lists_written k [] [] h.seen
       (ap (λ ns. all_listed d ns (set lens k 0)) blank_put
-      ∙ listed_put d k blocks lens blank_row [] 0 (within h) (blocks_end h) blank_long refl)
-      (listed_cut d k cleans lens (within h))
+      ∙ row_put d k blocks lens blank_row [] 0 (within h) (blocks_end h) blank_long refl)
+      (listed_cut (plain_row d cleans) k lens (within h))

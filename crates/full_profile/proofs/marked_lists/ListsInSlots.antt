@@ -24,6 +24,7 @@ use Rattle.full_profile.specs.internal.Slotted.{IsInSlots, AreSlotted, blocks_be
 use Rattle.full_profile.specs.internal.Slotted.{listed_blocks, listed_cleans, no_list, list_in}
 use Rattle.full_profile.specs.internal.Slotted.{all_blocks, all_cleans}
 use Rattle.profile_core.proofs.RowsBySet.{length-rows_by_set, rows_at, rows_put, rows_same}
+use Rattle.full_profile.proofs.marked_lists.RowLists.{lists_written}
 
 -- how many there are behind the front
 pub blocks_behind_long : {l : ListSlots} → IsInSlots l → length (blocks_behind l) ≡ 16
@@ -154,27 +155,6 @@ module _ {d k : ℕ} {fronts cleans : List ℕ} {lists : List ListSlots} {m : Ma
       (cleans_behind (list_in lists k)) (λ none. absurd (omega (arith, none, some, blocks_size)))
       ∙ ap (λ l. get_or l 0 0) (sym cleans_are)
 
-  -- the lists as new arrays have them
-  lists_written : (fronts' cleans' : List ℕ) (lists' : List ListSlots) (new clean_new : List ℕ) →
-      all_blocks fronts' lists' ≡ set (all_blocks fronts lists) k new →
-      all_cleans cleans' lists' ≡ set (all_cleans cleans lists) k clean_new →
-      record {
-        depth = d;
-        blocks = all_blocks fronts' lists';
-        cleans = all_cleans cleans' lists';
-      } ≡ record m { blocks = set m.blocks k new; cleans = set m.cleans k clean_new }
-  lists_written fronts' cleans' lists' new clean_new b c =
-      ap (λ ls. record { depth = d; blocks = ls; cleans = all_cleans cleans' lists' }) b
-      ∙ ap (λ ls. record {
-        depth = d;
-        blocks = set (all_blocks fronts lists) k new;
-        cleans = ls;
-      }) c
-      ∙ ap (λ (v : Marked). record v {
-        blocks = set v.blocks k new;
-        cleans = set v.cleans k clean_new;
-      }) h.seen
-
   -- the front's clean depth written
   pub clean_written : (x : ℕ) → record {
     depth = d;
@@ -231,7 +211,7 @@ module _ {d k : ℕ} {fronts cleans : List ℕ} {lists : List ListSlots} {m : Ma
         let there : list_in (set lists k l) k ≡ l = get_or-set_same lists k l no_list within in
         let elsewhere : (j : ℕ) → (j ≡ k → ⊥) → list_in (set lists k l) j ≡ list_in lists j =
         λ j other. get_or-set_other lists k j l no_list other in
-        lists_written (set fronts k front) (set cleans k clean) (set lists k l) new clean_new
+        lists_written k new clean_new h.seen
         (ap (λ n. rows_by_set n (row (set fronts k front) (set lists k l))) (length-set lists k l)
         ∙ rows_put (length lists) k (row fronts lists) (row (set fronts k front) (set lists k l))
         new within

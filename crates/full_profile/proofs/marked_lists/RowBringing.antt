@@ -19,7 +19,8 @@ use Rattle.full_profile.specs.internal.Rows.{marked_shift_of}
 use Rattle.profile_core.proofs.Shifting.{length-remove, remove_end, index-le}
 
 -- the list is as long as before
-pub row_kept : (y : ℕ) (xs rest : List ℕ) {n d i : ℕ} {now : List ℕ} → length xs ≡ n → i < n → n ≤ d →
+pub row_kept : (y : ℕ) (xs rest : List ℕ) {n d i : ℕ} {now : List ℕ} → length xs ≡ n → i < n →
+    n ≤ d →
     now ≡ take (length xs) (y ∷ remove xs i) → take n (now ++ rest) ≡ take d (y ∷ remove xs i)
 row_kept y xs rest {n} {d} {i} {now} size lt le is =
     let long : length (y ∷ remove xs i) ≡ n = omega (arith, length-remove xs i, size, lt) in
@@ -37,7 +38,8 @@ row_full y xs rest {n} {i} {now} size at is =
     take_at now rest n long ∙ is ∙ ap (λ j. take j (y ∷ remove xs i)) size
 
 -- the front of the list is written anew
-pub row_first : (y m : ℕ) (xs rest : List ℕ) {n d i : ℕ} {now : List ℕ} → length xs ≡ n → i < n → n ≤ d →
+pub row_first : (y m : ℕ) (xs rest : List ℕ) {n d i : ℕ} {now : List ℕ} → length xs ≡ n → i < n →
+    n ≤ d →
     now ≡ take (length xs) (y ∷ remove xs i) →
     take n (set (now ++ rest) 0 m) ≡ take d (m ∷ remove xs i)
 row_first y m xs rest {n} {d} {i} {now} size lt le is =

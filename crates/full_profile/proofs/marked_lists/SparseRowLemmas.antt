@@ -1,23 +1,21 @@
 -- Lists that sparse rows begin with: what is read of one, and one of them written anew.
 use Rattle.std.proofs.Common.{◌≡◌, ℕ, zero, suc, ◌+◌, ◌*◌, ◌<◌, ◌≤◌, ◌^◌, List, [], ◌∷◌}
 use Rattle.std.proofs.Common.{length, take, get_or, set, refl, sym, ◌∙◌, ap, subst, arith}
-use Rattle.std.proofs.Common.{length-set, get_or-set_same, get_or-set_other}
+use Rattle.std.proofs.Common.{length-set, get_or-set_same}
 use Rattle.std.proofs.Math.Nat.{mul-le-mul_right}
-use Rattle.std.specs.Prelude.{replicate}
-use Rattle.std.proofs.lemmas.List.{length-take-le, get_or_read, set-get_or, length-replicate}
-use Rattle.std.proofs.lemmas.List.{get_or-replicate}
+use Rattle.std.proofs.lemmas.List.{length-take-le, get_or_read, set-get_or}
 use borrow.Rule.Slice.PartMut.{put_mid}
-use Rattle.profile_core.proofs.Elements.{all_set, all_same}
+use Rattle.profile_core.proofs.Elements.{all_set}
 use Rattle.profile_core.proofs.Places.{taken_few}
 use Rattle.profile_core.proofs.SparseRestLemmas.{rest_ends, rest_long}
-use Rattle.profile_core.specs.internal.rows.Rows.{rows_by_set}
 use Rattle.profile_core.specs.internal.rests.Places.{taken_count}
 use Rattle.profile_core.specs.internal.rests.SparseRests.{sparse_rest, IsSparse}
 use Rattle.full_profile.specs.internal.Marked.{Marked, blocks_in, cleans_in}
 use Rattle.full_profile.specs.internal.SparseRows.{AreSparse, sparse_list, all_sparse}
 use Rattle.profile_core.proofs.RowParts.{part_read, part_first, part_here, part_other}
 use Rattle.profile_core.proofs.RowParts.{part_kept}
-use Rattle.profile_core.proofs.RowsBySet.{length-rows_by_set, rows_at, rows_put, rows_same}
+use Rattle.profile_core.proofs.RowsBySet.{length-rows_by_set, rows_at, rows_same}
+use Rattle.full_profile.proofs.marked_lists.RowLists.{listed_put, listed_cut, lists_written}
 
 -- what is known where the list of set k is asked for
 pub record HasSparse (d k : ℕ) (places blocks cleans lens : List ℕ) (room clean_room : ℕ)
@@ -171,40 +169,11 @@ module _ {d room : ℕ} {places numbers : List ℕ} (a : IsSparse d places numbe
   pub written_kept : length written ≡ length numbers
   written_kept = part_kept (get_or places k 0 * d) d numbers (rest_ends a k) row long
 
-  pub listed_put : (lens new : List ℕ) (len : ℕ) → k < length lens → take len row ≡ new →
+  row_put : (lens new : List ℕ) (len : ℕ) → k < length lens → take len row ≡ new →
       all_sparse d places written (set lens k len) ≡ set (all_sparse d places numbers lens) k new
-  listed_put lens new len lt is =
-      ap (λ n. rows_by_set n (sparse_list d places written (set lens k len)))
-      (length-set lens k len)
-      ∙ rows_put (length lens) k (sparse_list d places numbers lens)
-      (sparse_list d places written (set lens k len)) new lt
-      (ap (λ n. take n (sparse_rest d places written k)) (get_or-set_same lens k len 0 lt)
-      ∙ ap (take len) written_here ∙ is)
-      (λ j _ other. ap (λ n. take n (sparse_rest d places written j))
-      (get_or-set_other lens k j len 0 other)
-      ∙ ap (take (get_or lens j 0)) (written_other j other))
-
--- only the length of a list written
-pub listed_cut : (d k : ℕ) (places numbers lens : List ℕ) → k < length lens →
-    all_sparse d places numbers (set lens k 0) ≡ set (all_sparse d places numbers lens) k []
-listed_cut d k places numbers lens lt =
-    ap (λ n. rows_by_set n (sparse_list d places numbers (set lens k 0))) (length-set lens k 0)
-    ∙ rows_put (length lens) k (sparse_list d places numbers lens)
-    (sparse_list d places numbers (set lens k 0)) [] lt
-    (ap (λ n. take n (sparse_rest d places numbers k)) (get_or-set_same lens k 0 0 lt))
-    (λ j _ other. ap (λ n. take n (sparse_rest d places numbers j))
-    (get_or-set_other lens k j 0 0 other))
-
--- all lists are empty
-pub none_listed : (d m : ℕ) (places numbers : List ℕ) {lens : List ℕ} → lens ≡ replicate m 0 →
-    all_sparse d places numbers lens ≡ replicate m []
-none_listed d m places numbers {lens} none =
-    let count : length lens ≡ m = ap length none ∙ length-replicate m 0 in
-    rows_same (length lens) (sparse_list d places numbers lens) (replicate m [])
-    (length-replicate m [] ∙ sym count)
-    (λ k lt. ap (λ ns. take (get_or ns k 0) (sparse_rest d places numbers k)) none
-    ∙ ap (λ n. take n (sparse_rest d places numbers k)) (all_same m k 0)
-    ∙ sym (get_or-replicate m k [] [] (omega (arith, lt, count))))
+  row_put lens new len lt is =
+      listed_put (sparse_rest d places numbers) (sparse_rest d places written) k lens new len lt
+      (ap (take len) written_here ∙ is) written_other
 
 -- the same lists, once set k has a row of its own; `lent` are the places as they were lent
 pub ready : {d k room clean_room room' clean_room' : ℕ} {places blocks cleans lens : List ℕ}
@@ -259,31 +228,6 @@ ready {d} {places = places} {blocks = blocks} {cleans = cleans} {lens = lens} {l
 
 module _ {d k room clean_room : ℕ} {places blocks cleans lens : List ℕ} {m : Marked}
     (h : HasSparse d k places blocks cleans lens room clean_room m) where
-  -- the lists as new arrays have them
-  lists_written : (blocks' cleans' lens' new clean_new : List ℕ) →
-      all_sparse d places blocks' lens' ≡ set (all_sparse d places blocks lens) k new →
-      all_sparse d places cleans' lens' ≡ set (all_sparse d places cleans lens) k clean_new →
-      record {
-        depth = d;
-        blocks = all_sparse d places blocks' lens';
-        cleans = all_sparse d places cleans' lens';
-      } ≡ record m { blocks = set m.blocks k new; cleans = set m.cleans k clean_new }
-  lists_written blocks' cleans' lens' new clean_new b c =
-      ap (λ ls. record {
-        depth = d;
-        blocks = ls;
-        cleans = all_sparse d places cleans' lens';
-      }) b
-      ∙ ap (λ ls. record {
-        depth = d;
-        blocks = set (all_sparse d places blocks lens) k new;
-        cleans = ls;
-      }) c
-      ∙ ap (λ (v : Marked). record v {
-        blocks = set v.blocks k new;
-        cleans = set v.cleans k clean_new;
-      }) h.seen
-
   module _ (own : 0 < get_or places k 0) where
     -- a row written anew, and the length of its list
     module _ (row clean_row : List ℕ) (len : ℕ) (long : length row ≡ d)
@@ -324,9 +268,9 @@ module _ {d k room clean_room : ℕ} {places blocks cleans lens : List ℕ} {m :
             cleans = all_sparse d places cleans_then (set lens k len);
           } ≡ record m { blocks = set m.blocks k new; cleans = set m.cleans k clean_new }
       lists_put new clean_new is clean_is =
-          lists_written blocks_then cleans_then (set lens k len) new clean_new
-          (listed_put h.sound.blocks_sparse k own row long lens new len (within h) is)
-          (listed_put h.sound.cleans_sparse k own clean_row clean_long lens clean_new len
+          lists_written k new clean_new h.seen
+          (row_put h.sound.blocks_sparse k own row long lens new len (within h) is)
+          (row_put h.sound.cleans_sparse k own clean_row clean_long lens clean_new len
           (within h) clean_is)
 
     -- the front's clean depth written
@@ -364,7 +308,7 @@ module _ {d k room clean_room : ℕ} {places blocks cleans lens : List ℕ} {m :
           ap (λ ns. all_sparse d places ns lens) clean_put
           ∙ ap (all_sparse d places (put_mid (get_or places k 0 * d) d cleans clean_row))
           (sym (set-get_or lens k 0))
-          ∙ listed_put h.sound.cleans_sparse k own clean_row clean_long lens
+          ∙ row_put h.sound.cleans_sparse k own clean_row clean_long lens
           (set (take len row) 0 x) len (within h)
           (first_set len row x (omega (arith, filled, blocks_size h)))
           ∙ ap (λ l. set (all_sparse d places cleans lens) k (set l 0 x)) (sym (cleans_are h))
@@ -426,10 +370,10 @@ module _ {d k room clean_room : ℕ} {places blocks cleans lens : List ℕ} {m :
       blocks = all_sparse d places (set blocks (get_or places k 0 * d) 0) (set lens k 0);
       cleans = all_sparse d places cleans (set lens k 0);
     } ≡ record m { blocks = set m.blocks k []; cleans = set m.cleans k [] }
-    list_emptied = lists_written (set blocks (get_or places k 0 * d) 0) cleans (set lens k 0) [] []
+    list_emptied = lists_written k [] [] h.seen
         (ap (λ ns. all_sparse d places ns (set lens k 0)) blank_put
-        ∙ listed_put h.sound.blocks_sparse k own blank_row blank_long lens [] 0 (within h) refl)
-        (listed_cut d k places cleans lens (within h))
+        ∙ row_put h.sound.blocks_sparse k own blank_row blank_long lens [] 0 (within h) refl)
+        (listed_cut (sparse_rest d places cleans) k lens (within h))
 
   -- an empty list that is emptied
   pub list_spared : get_or lens k 0 ≡ 0 →
