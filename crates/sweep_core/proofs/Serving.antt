@@ -22,7 +22,7 @@ use Rattle.sweep_core.specs.SweepText.{row_counts, configs_of, rows_of}
 use Rattle.sweep_core.specs.Rows.{counted_rows}
 use Rattle.sweep_core.specs.Work.{pair_of, depth}
 use Rattle.sweep_core.specs.internal.Runs.{run_of, rows_of_profile, counted_run, counted_profiles}
-use Rattle.sweep_core.specs.internal.Runs.{rows_by_pair, Serves, ServesRows, IsWalk, rows_to_come}
+use Rattle.sweep_core.specs.internal.Runs.{rows_by_pair, Serves, ServesRows, IsWalk}
 use Rattle.sweep_core.specs.internal.Pass.{SweepStandsFor, WasFed}
 use Rattle.sweep_core.proofs.Lists.{Each-self, Each-both, Each-split, Each-append}
 use Rattle.sweep_core.proofs.Validity.{IsLimited, space-limited, valid_of, products}
@@ -146,73 +146,62 @@ walk-start {powers = powers} {x = x} {w = w} rows same begun first all =
           (sym all) rows.rows));
     }
 
--- the rows that it has are those of the profile
-pub walk-rows : (powers : Bool) (x : PairProfile) (w : PairWalk) → w.profile.now ≡ x.profile →
-    w.next ≡ x.first → w.left ≡ x.row_count
-    → counted_run powers w.profile.now w.next w.left
-    ≡ counted_run powers x.profile x.first x.row_count
-walk-rows powers x w same first all =
-    ap (λ v. counted_run powers v w.next w.left) same ∙
-    ap (λ c. counted_run powers x.profile c w.left) first
-    ∙ ap (counted_run powers x.profile x.first) all
+module _ {V C : Type 0} (count : V → ℕ → C) (powers : Bool) where
+  -- n configurations from one on, each with what a profile of any kind counts for it
+  abbrev pub rows_from : V → Config → ℕ → List (Config × C)
+  rows_from v c n = map (λ d. (d, count v d.assoc)) (run_of powers c n)
 
--- It goes on.
-pub walk-more : (powers : Bool) (w after : PairWalk) → 1 ≤ w.left →
-    after.profile.now ≡ w.profile.now → after.next ≡ next powers w.next → after.left ≡ w.left - 1
-    → counted_run powers w.profile.now w.next w.left
-    ≡ (w.next, counts_at w.profile.now w.next.assoc) ∷ counted_run powers after.profile.now
-    after.next after.left
-walk-more powers w after some same is one =
-    ap (map (λ d. (d, counts_at w.profile.now d.assoc))) (run-first powers w.next w.left
-    (w.left - 1) (omega (arith, some)))
-    ∙ ap (λ l. (w.next, counts_at w.profile.now w.next.assoc) ∷ l)
-    (ap (λ v. counted_run powers v (next powers w.next) (w.left - 1)) (sym same)
-    ∙ ap (λ c. counted_run powers after.profile.now c (w.left - 1)) (sym is)
-    ∙ ap (counted_run powers after.profile.now after.next) (sym one))
+  module _ {v v' : V} {c c' : Config} {n n' : ℕ} where
+    -- The rows that a walk has are those of its profile.
+    pub walk-rows : v' ≡ v → c' ≡ c → n' ≡ n → rows_from v' c' n' ≡ rows_from v c n
+    walk-rows same first all =
+        ap (λ u. rows_from u c' n') same ∙ ap (λ d. rows_from v d n') first ∙ ap (rows_from v c) all
+
+    -- It goes on.
+    pub walk-more : 1 ≤ n → v' ≡ v → c' ≡ next powers c → n' ≡ n - 1 →
+        rows_from v c n ≡ (c, count v c.assoc) ∷ rows_from v' c' n'
+    walk-more some same is one =
+        ap (map (λ e. (e, count v e.assoc))) (run-first powers c n (n - 1) (omega (arith, some)))
+        ∙ ap (λ l. (c, count v c.assoc) ∷ l)
+        (ap (λ u. rows_from u (next powers c) (n - 1)) (sym same)
+        ∙ ap (λ d. rows_from v' d (n - 1)) (sym is) ∙ ap (rows_from v' c') (sym one))
 
 -- The next row of a walk comes first of all that are left, where the walk stays as long as it has a
 -- row.
-pub comes-first : (powers : Bool) (rows : List (Config × Counts)) (w after : PairWalk)
-    (later : List PairProfile) (row : Config × Counts)
-    (rest : Option PairWalk) → rows ≡ rows_to_come powers (Some w) later
-    → counted_run powers w.profile.now w.next w.left ≡ row ∷ counted_run powers after.profile.now
-    after.next after.left
-    → rest ≡ then_some (nat_lt 0 after.left) after → rows ≡ row ∷ rows_to_come powers rest later
-comes-first powers rows w after later row rest whole first stays =
-    whole ∙ ap (λ l. l ++ counted_profiles powers later) first ∙
-    ap (λ l. row ∷ l) (by_left after.left refl)
-    ∙ ap (λ r. row ∷ rows_to_come powers r later) (sym stays)
+pub comes-first : {R W : Type 0} (to_come : Option W → List R) {after : W} {left : ℕ} {row : R}
+    {rows tail : List R} {rest : Option W} → rows ≡ row ∷ tail →
+    rest ≡ then_some (nat_lt 0 left) after → (left ≡ 0 → tail ≡ to_come None) →
+    tail ≡ to_come (Some after) → rows ≡ row ∷ to_come rest
+comes-first to_come {after} {left} {row} {rows} {tail} {rest} first stays end more =
+    first ∙ ap (λ l. row ∷ l) (by_left left refl ∙ ap to_come (sym stays))
   where
-    by_left : (n : ℕ) → after.left ≡ n → counted_run powers after.profile.now after.next
-        after.left ++ counted_profiles powers later
-        ≡ rows_to_come powers (then_some (nat_lt 0 after.left) after) later
+    by_left : (n : ℕ) → left ≡ n → tail ≡ to_come (then_some (nat_lt 0 left) after)
     by_left zero none =
-        ap (λ k. counted_run powers after.profile.now after.next k ++
-        counted_profiles powers later) none
-        ∙ sym (ap (λ k. rows_to_come powers (then_some (nat_lt 0 k) after) later) none)
-    by_left (suc k) more =
-        sym (ap (λ b. rows_to_come powers (then_some b after) later)
-        (lt-ltb 0 after.left (omega (arith, more))))
+        end none ∙ sym (ap (λ k. to_come (then_some (nat_lt 0 k) after)) none)
+    by_left (suc k) some =
+        more ∙ sym (ap (λ b. to_come (then_some b after)) (lt-ltb 0 left (omega (arith, some))))
 
 -- the sizes of all rows fit
-run-sizes : (v : ProfileState) (cs : List Config) → Each (Serves v) cs →
-    Each (λ (row : Config × Counts). HasSize row.0) (map (λ d. (d, counts_at v d.assoc)) cs)
-run-sizes v [] serve = tt
-run-sizes v (c ∷ cs) serve = (serve.0.fits, run-sizes v cs serve.1)
+pub run-sizes : {C : Type 0} (count : ℕ → C) (v : ProfileState) (cs : List Config) →
+    Each (Serves v) cs →
+    Each (λ (row : Config × C). HasSize row.0) (map (λ d. (d, count d.assoc)) cs)
+run-sizes count v [] serve = tt
+run-sizes count v (c ∷ cs) serve = (serve.0.fits, run-sizes count v cs serve.1)
 
 pub all-sizes : (powers : Bool) (xs : List PairProfile) → Each (ServesRows powers) xs
     → Each (λ (row : Config × Counts). HasSize row.0) (counted_profiles powers xs)
 all-sizes powers [] serve = tt
 all-sizes powers (x ∷ xs) serve =
     Each-append _ (counted_run powers x.profile x.first x.row_count) (counted_profiles powers xs)
-    (run-sizes x.profile (rows_of_profile powers x) serve.0.rows) (all-sizes powers xs serve.1)
+    (run-sizes (counts_at x.profile) x.profile (rows_of_profile powers x) serve.0.rows)
+    (all-sizes powers xs serve.1)
 
 -- so do those by pairs, which are the same rows
 pub pairs-sizes : (powers : Bool) (xs : List PairProfile) → Each (ServesRows powers) xs
     → Each (Each (λ (row : Config × Counts). HasSize row.0)) (rows_by_pair powers xs)
 pairs-sizes powers [] serve = tt
 pairs-sizes powers (x ∷ xs) serve = (
-  run-sizes x.profile (rows_of_profile powers x) serve.0.rows,
+  run-sizes (counts_at x.profile) x.profile (rows_of_profile powers x) serve.0.rows,
   pairs-sizes powers xs serve.1,
 )
 

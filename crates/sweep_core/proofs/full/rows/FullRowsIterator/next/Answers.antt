@@ -1,8 +1,10 @@
 -- The next row of the pair comes first.
-use Rattle.std.proofs.Common.{◌≡◌, ◌≤◌, ◌++◌, ◌∷◌, Some, sym, ap, ◌∙◌, rules}
+use Rattle.std.proofs.Common.{◌≡◌, ◌≤◌, ◌++◌, ◌∷◌, Some, refl, sym, ap, ◌∙◌, rules}
 use Rattle.sweep_core.specs.internal.FullRuns.{full_counted_run, full_counted_profiles}
 use Rattle.sweep_core.specs.internal.FullRuns.{full_rows_to_come, IsFullWalk}
-use Rattle.sweep_core.proofs.FullServing.{walk-start, walk-rows, walk-more, comes-first}
+use Rattle.full_profile.specs.State.{full_counts_at}
+use Rattle.sweep_core.proofs.Serving.{walk-rows, walk-more, comes-first}
+use Rattle.sweep_core.proofs.FullServing.{walk-start}
 use Rattle.sweep_core.proofs.full.rows.FullRowsIterator.next.Goals as goal
 use Rattle.sweep_core.proofs.full.rows.FullRowsIterator.next.Goals.{After-self-1, in-Some}
 use Rattle.sweep_core.proofs.full.rows.FullRowsIterator.next.Goals.{in-None+in_ok-first-in-None}
@@ -37,8 +39,7 @@ walks c =
                 (sym c.take.ensures.value ∙ w.in-None.is)
                 ∙ ap (full_counted_profiles powers) is
                 ∙ ap (λ l. l ++ full_counted_profiles powers later)
-                (sym (walk-rows powers first w.new-pair.result made.profile
-                made.first made.left)),
+                (sym (walk-rows full_counts_at powers made.profile made.first made.left)),
           )
     ]
 
@@ -51,11 +52,12 @@ steps c =
     let row = c.next_row-row.ensures in
     let after = c.next_row-row.new.self in
     let powers = c.match-take.self-inside.space.now.powers in
-    comes-first powers c.args.self.now c.match-take.pair after c.match-take.self-inside.later.now
-    c.next_row-row.result c.then_some-self-inside.result w.2
-    (walk-more powers c.match-take.pair after w.0 row.profile row.next row.left ∙
-    ap (λ r. r ∷ full_counted_run powers after.profile.now after.next after.left) (sym row.row))
-    c.then_some-self-inside.ensures
+    let later = full_counted_profiles powers c.match-take.self-inside.later.now in
+    let run = full_counted_run powers after.profile.now after.next in
+    comes-first (λ r. full_rows_to_come powers r c.match-take.self-inside.later.now)
+    (w.2 ∙ ap (λ l. l ++ later) (walk-more full_counts_at powers w.0 row.profile row.next row.left
+    ∙ ap (λ r. r ∷ run after.left) (sym row.row)))
+    c.then_some-self-inside.ensures (λ none. ap (λ k. run k ++ later) none) refl
 
 pub returns-clause-steps : goal.returns-clause-steps
 returns-clause-steps c = steps c
