@@ -3,6 +3,7 @@ use Rattle.std.proofs.Common.{◌≡◌, ℕ, List, [], ◌∷◌, ◌++◌, Boo
 use Rattle.std.proofs.Common.{refl, sym, ap, ◌∙◌, subst, append-nil, append_assoc}
 use Rattle.std.specs.List.{flat_map}
 use Rattle.trace_core.specs.declared.events.Entry.{Entry}
+use Rattle.trace_core.specs.declared.events.Entry.TheVariants as entry
 use Rattle.trace_core.specs.declared.events.Event.{Event}
 use Rattle.trace_core.specs.declared.events.Kind.TheVariants.{DataOnly}
 use Rattle.trace_core.specs.declared.line.Format.TheVariants.{Lackey}
@@ -18,7 +19,8 @@ use Rattle.cache_core.specs.Geometry.{GeometryValue}
 use Rattle.cache_core.specs.Simulation.{SimulationStandsFor}
 use Rattle.cache_core.specs.Windows.{counts}
 use Rattle.commands.specs.CsimText.{csim_task, csim_lines, lines_after, line_of, lookups_of}
-use Rattle.commands.specs.CsimText.{summary}
+use Rattle.commands.specs.CsimText.{summary, item_line, letter_of}
+use Rattle.commands.proofs.DataSteps.{only_fetch}
 
 -- the data references of entries
 abbrev pub data_of : List Entry → List Event
@@ -62,6 +64,13 @@ lines-more g verbose xs e lookups is =
     csim_lines-append g verbose xs (e ∷ [])
     ∙ ap (λ l. csim_lines g verbose xs ++ l)
     (one_line g verbose xs e ∙ ap (λ l. cond verbose (line_of e l) []) (sym is))
+
+-- An entry that made no reference has no line.
+pub no_line : (g : GeometryValue) (before : List Event) (e : Entry) → [] ≡ lookups_of g before e →
+    line_of e [] ≡ []
+no_line g before (entry.Item item) none =
+    ap (λ op. item_line (letter_of op) item []) (only_fetch item.addr g before item.op none)
+no_line g before entry.Flush none = refl
 
 -- what is written of some entries comes before what is written of more, and of the whole text
 pub along : (g : GeometryValue) (verbose : Bool) (limit : ℕ) →

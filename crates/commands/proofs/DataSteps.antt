@@ -69,6 +69,15 @@ module _ (addr : ℕ) where
   no_data Store is = absurd cc
   no_data Modify is = absurd cc
 
+  -- An item that made no reference is a fetch.
+  pub only_fetch : (g : GeometryValue) (before : List Event) (op : Op) →
+      [] ≡ map (lookup_at g) (occurrences_after g before (events_to op)) → op ≡ Fetch
+  unfolding occurrences_after
+  only_fetch g before Fetch none = refl
+  only_fetch g before Load none = absurd cc
+  only_fetch g before Store none = absurd cc
+  only_fetch g before Modify none = absurd cc
+
   pub one_datum : (op : Op) → is_kept DataOnly (references_to op addr).0.access ≡ true →
       (references_to op addr).1 ≡ None →
       events_to op ≡ event.Reference (references_to op addr).0 ∷ []

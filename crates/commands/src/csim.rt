@@ -6,7 +6,7 @@ ghost use Rattle.trace_core.specs.Task.{Performs};
 ghost use Rattle.cache_core.specs.Geometry.{GeometryValue};
 ghost use Rattle.cache_core.specs.Simulation.{SimulationCountsWithin, SimulationStandsFor};
 ghost use Rattle.commands.specs.CsimText.{csim_task, lookups_of};
-ghost use Rattle.commands.specs.internal.CsimPass.{lookups_of_pair};
+ghost use Rattle.commands.specs.internal.CsimPass.{lookups_found};
 
 use crate::csim_text::{set_summary, write_line};
 use crate::text::write_last;
@@ -40,9 +40,10 @@ pub fn csim<S: Source, K: Sink>(
     let mut simulation = Simulation::new(alloc, geometry)?;
     let mut text = Text::new();
     while let Some((_, entry)) = lines.next(source)? {
-        let lookups = step(&mut simulation, entry);
-        if verbose {
-            write_line(&mut text, entry, lookups, sink)?;
+        if let Some(lookups) = step(&mut simulation, entry) {
+            if verbose {
+                write_line(&mut text, entry, lookups, sink)?;
+            }
         }
     }
     set_summary(&mut text, simulation.counts());
@@ -50,27 +51,27 @@ pub fn csim<S: Source, K: Sink>(
     Ok(())
 }
 
-/// Makes the data references of an entry, and returns how they went. A fetch has none, and a flush
-/// empties the cache.
+/// Makes the data references of an entry, one or two, and returns how they went. A fetch has none,
+/// and a flush empties the cache.
 #[inline(always)]
-fn step(simulation: &mut Simulation, entry: Entry) -> (Option<Lookup>, Option<Lookup>)
+fn step(simulation: &mut Simulation, entry: Entry) -> Option<(Lookup, Option<Lookup>)>
     requires { SimulationCountsWithin (2 ^ 62) simulation.old.counts }
     ensures { (g : GeometryValue) (events : List Event) →
         SimulationStandsFor g events simulation.old →
         SimulationStandsFor g (events ++ events_of Kind.DataOnly entry) simulation.new
-        × (lookups_of_pair result ≡ lookups_of g events entry) }
+        × (lookups_found result ≡ lookups_of g events entry) }
 {
     let Entry::Item(item) = entry else {
         simulation.flush();
-        return (None, None);
+        return None;
     };
     let (first, second) = refs_of(item);
     if !Kind::DataOnly.keeps(first.access) {
-        return (None, None);
+        return None;
     }
     let first = simulation.access(first);
     match second {
-        Some(second) => (Some(first), Some(simulation.access(second))),
-        None => (Some(first), None),
+        Some(second) => Some((first, Some(simulation.access(second)))),
+        None => Some((first, None)),
     }
 }

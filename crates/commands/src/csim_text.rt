@@ -27,7 +27,7 @@ pub(crate) const SUMMARY: usize = (5 + 8 + 11) + 3 * DECIMAL + 1;
 pub(crate) fn write_line<K: Sink>(
     text: &mut Text<SUMMARY>,
     entry: Entry,
-    lookups: (Option<Lookup>, Option<Lookup>),
+    lookups: (Lookup, Option<Lookup>),
     sink: &mut K,
 ) -> Result<(), DeviceFault>
     ensures { Writes (K.view sink.old) (K.view sink.new) result
@@ -53,7 +53,7 @@ pub(crate) fn set_summary(text: &mut Text<SUMMARY>, counts: Counts)
 
 /// Makes a text the line of an entry whose references had these lookups.
 #[inline(always)]
-fn set_line(text: &mut Text<SUMMARY>, entry: Entry, lookups: (Option<Lookup>, Option<Lookup>))
+fn set_line(text: &mut Text<SUMMARY>, entry: Entry, lookups: (Lookup, Option<Lookup>))
     ensures { text.new ≡ line_of entry (lookups_of_pair lookups) }
 {
     text.clear();
@@ -64,7 +64,7 @@ fn set_line(text: &mut Text<SUMMARY>, entry: Entry, lookups: (Option<Lookup>, Op
 
 /// Adds the line of an item whose references had these lookups.
 #[inline(always)]
-fn push_item(text: &mut Text<SUMMARY>, item: Item, lookups: (Option<Lookup>, Option<Lookup>))
+fn push_item(text: &mut Text<SUMMARY>, item: Item, lookups: (Lookup, Option<Lookup>))
     requires { length text.old + LINE ≤ SUMMARY }
     ensures { text.new ≡ text.old ++ item_line (letter_of item.op) item (lookups_of_pair lookups) }
 {
@@ -75,7 +75,7 @@ fn push_item(text: &mut Text<SUMMARY>, item: Item, lookups: (Option<Lookup>, Opt
     text.push_hexadecimal(item.addr);
     push_word(text, *b",");
     text.push_decimal(item.size as u64);
-    push_lookup(text, lookups.0);
+    push_lookup(text, Some(lookups.0));
     push_lookup(text, lookups.1);
     push_word(text, *b"\n");
 }

@@ -1,7 +1,7 @@
 -- What `csim` has read, simulated and written where it stands, and so what it performs at each of
 -- its ends.
 use Rattle.std.proofs.Common.{ℕ, Ok, ◌≡◌, ◌^◌, ◌++◌, [], List, cond, length, arith, refl, sym, ap}
-use Rattle.std.proofs.Common.{◌∙◌, subst}
+use Rattle.std.proofs.Common.{◌∙◌, subst, Bool, true, false}
 use Rattle.trace_core.specs.declared.events.Kind.TheVariants.{DataOnly}
 use Rattle.trace_core.specs.declared.line.Format.TheVariants.{Lackey}
 use Rattle.trace_core.specs.declared.events.Entry.{Entry}
@@ -16,20 +16,25 @@ use Rattle.trace_core.proofs.Written.{Wrote-none}
 use Rattle.cache_core.specs.Windows.{counts}
 use Rattle.cache_core.proofs.simulation.Simulating.{simulated_within, within_above}
 use Rattle.commands.specs.CsimText.{csim_task, csim_lines, csim_text, line_of}
-use Rattle.commands.specs.internal.CsimPass.{lookups_of_pair}
+use Rattle.commands.specs.internal.CsimPass.{lookups_of_pair, lookups_found}
 use Rattle.commands.specs.CsimText.{summary}
 use Rattle.commands.proofs.CsimLemmas.{along, data_of, lines-more, simulated-more, simulated-none}
+use Rattle.commands.proofs.CsimLemmas.{no_line}
 use Rattle.commands.proofs.csim.csim.Given as given
 use Rattle.commands.proofs.csim.csim.Goals as goal
 use Rattle.commands.proofs.csim.csim.Goals.{After-as_slice}
+
+cond_same : (b : Bool) → cond {A = List ℕ} b [] [] ≡ []
+cond_same true = refl
+cond_same false = refl
 
 pub loop-simulation-init : goal.loop-simulation-init
 loop-simulation-init g c =
     reads-none _ c.in_ok-lines.ensures (simulated-none c.args.geometry c.args.verbose
     (g.K.Sink.view c.args.sink.now) _ c.in_ok-simulation.ensures)
 
-pub step-lookups-requires : goal.step-lookups-requires
-step-lookups-requires g c =
+pub step-requires : goal.step-requires
+step-requires g c =
     let so_far = c.loop-simulation.invariant in
     let es = entries_of so_far.read in
     let bears = rw c.in-Some.is at c.in_ok-entry.ensures.entry in
@@ -49,26 +54,43 @@ pub loop-simulation-preserved-in-Continue-branch-5
 loop-simulation-preserved-in-Continue-branch-5 g c =
     let so_far = c.loop-simulation.invariant in
     let es = entries_of so_far.read in
-    let lookups = lookups_of_pair c.step-lookups.result in
+    let lookups = lookups_of_pair c.in-Some-step.lookups in
     let line = line_of c.in-Some.entry lookups in
+    let stands = c.step.ensures c.args.geometry (data_of es) so_far.holds.0 in
     reads-more so_far c.next.ensures.reached c.next.ensures.entry c.in_ok-entry.was c.in-Some.is
     (simulated-more c.args.geometry c.args.verbose es c.in-Some.entry lookups _ _ so_far.holds
-    (c.step-lookups.ensures c.args.geometry (data_of es) so_far.holds.0)
+    (stands.0, sym (ap lookups_found c.in-Some-step.is) ∙ stands.1)
     (subst (λ v. Wrote (g.K.Sink.view c.loop-simulation.sink) (g.K.Sink.view c.write_line.new.sink)
     (cond v line []))
     (sym c.if-verbose.true) c.in_ok-write_line.ensures))
 
+pub loop-simulation-preserved-else-verbose : goal.loop-simulation-preserved-else-verbose
+loop-simulation-preserved-else-verbose g c =
+    let so_far = c.loop-simulation.invariant in
+    let es = entries_of so_far.read in
+    let lookups = lookups_of_pair c.in-Some-step.lookups in
+    let line = line_of c.in-Some.entry lookups in
+    let sink = g.K.Sink.view c.loop-simulation.sink in
+    let stands = c.step.ensures c.args.geometry (data_of es) so_far.holds.0 in
+    reads-more so_far c.next.ensures.reached c.next.ensures.entry c.in_ok-entry.was c.in-Some.is
+    (simulated-more c.args.geometry c.args.verbose es c.in-Some.entry lookups _ _ so_far.holds
+    (stands.0, sym (ap lookups_found c.in-Some-step.is) ∙ stands.1)
+    (subst (λ v. Wrote sink sink (cond v line [])) (sym c.if-verbose.false) (Wrote-none sink)))
+
+-- an entry without data references has no line
 pub loop-simulation-preserved : goal.loop-simulation-preserved
 loop-simulation-preserved g c =
     let so_far = c.loop-simulation.invariant in
     let es = entries_of so_far.read in
-    let lookups = lookups_of_pair c.step-lookups.result in
-    let line = line_of c.in-Some.entry lookups in
+    let e = c.in-Some.entry in
     let sink = g.K.Sink.view c.loop-simulation.sink in
+    let stands = c.step.ensures c.args.geometry (data_of es) so_far.holds.0 in
+    let none = sym (ap lookups_found c.in_default-step.is) ∙ stands.1 in
     reads-more so_far c.next.ensures.reached c.next.ensures.entry c.in_ok-entry.was c.in-Some.is
-    (simulated-more c.args.geometry c.args.verbose es c.in-Some.entry lookups _ _ so_far.holds
-    (c.step-lookups.ensures c.args.geometry (data_of es) so_far.holds.0)
-    (subst (λ v. Wrote sink sink (cond v line [])) (sym c.if-verbose.false) (Wrote-none sink)))
+    (simulated-more c.args.geometry c.args.verbose es e [] _ _ so_far.holds (stands.0, none)
+    (subst (λ line. Wrote sink sink (cond c.args.verbose line []))
+    (sym (no_line c.args.geometry (data_of es) e none))
+    (subst (Wrote sink sink) (sym (cond_same c.args.verbose)) (Wrote-none sink))))
 
 pub returns-in_err-entry : goal.returns-in_err-entry
 unfolding csim_task
@@ -86,13 +108,14 @@ returns-in_err-write_line g c =
     let so_far = c.loop-simulation.invariant in
     let a = c.args in
     let es = entries_of so_far.read in
-    let lookups = lookups_of_pair c.step-lookups.result in
-    let stands = c.step-lookups.ensures a.geometry (data_of es) so_far.holds.0 in
+    let lookups = lookups_of_pair c.in-Some-step.lookups in
+    let stands = c.step.ensures a.geometry (data_of es) so_far.holds.0 in
     Performs-write (err_is c.from_residual-in_err-write_line.ensures.1)
     (run-broken {task = csim_task a.geometry a.verbose a.max_lines} refl
     (along a.geometry a.verbose a.max_lines) so_far
     c.next.ensures.reached c.next.ensures.reports c.in_ok-entry.was c.in-Some.is so_far.holds.1
-    (lines-more a.geometry a.verbose es c.in-Some.entry lookups stands.1)
+    (lines-more a.geometry a.verbose es c.in-Some.entry lookups
+    (sym (ap lookups_found c.in-Some-step.is) ∙ stands.1))
     (subst (λ v. WrotePart (g.K.Sink.view c.loop-simulation.sink)
     (g.K.Sink.view c.write_line.new.sink)
     (cond v (line_of c.in-Some.entry lookups) [])) (sym c.if-verbose.true)
