@@ -68,7 +68,7 @@ def script(name):
 
 
 # stand-ins for the tools do nothing, and nothing comes of them later
-SECONDS = 1 if os.environ.get("CACHESIM_TOOLS") else 20
+SECONDS = 1 if os.environ.get("CACHESIM_TOOLS") else 60
 
 
 def comes(condition, seconds=SECONDS):
