@@ -7,7 +7,7 @@ import subprocess
 from collections import namedtuple
 
 from lib import files, processes
-from lib.signals import heed_stops, uninterrupted
+from lib.signals import uninterrupted
 from lib.text_table import csv_lines
 from parts import tool, traces
 from parts.student import visible_name
@@ -107,9 +107,11 @@ def write_table(group, names, folders, jobs):
         tool.fail(nobody.fault)
     tool.write_lines(csv_lines([["name", "right", "of", "points", *names, "reason"]]))
     front = os.path.commonpath([os.path.dirname(folder) for folder in folders])
-    with concurrent.futures.ThreadPoolExecutor(jobs, initializer=heed_stops) as threads:
+    with concurrent.futures.ThreadPoolExecutor(jobs) as threads:
         try:
-            with uninterrupted():  # else it could begin a thread, and not wait for it at the end
+            # else it could begin a thread, and not wait for it at the end; the threads go on to put
+            # signals off, and so does a `grade` until it can heed them
+            with uninterrupted():
                 judged = threads.map(group.student, folders)
             for folder, found in zip(folders, judged):
                 name = os.path.relpath(folder, front)
