@@ -109,8 +109,8 @@ def write_table(group, names, folders, jobs):
     front = os.path.commonpath([os.path.dirname(folder) for folder in folders])
     with concurrent.futures.ThreadPoolExecutor(jobs) as threads:
         try:
-            # else it could begin a thread, and not wait for it at the end; the threads go on to put
-            # signals off, and so does a `grade` until it can heed them
+            # A thread that a signal interrupts as it begins would not be waited for. The threads,
+            # and each `grade` until it has its folder, go on to put signals off.
             with uninterrupted():
                 judged = threads.map(group.student, folders)
             for folder, found in zip(folders, judged):

@@ -101,7 +101,7 @@ def in_private_folder(work):
                 heed_stops()
                 return work(folder)
             finally:
-                put_off_stops()  # the first one may come just now
+                put_off_stops()  # which raises where the first one comes just now
         finally:
             os.close(spare)
             processes.end_orphans()  # a signal may have come as a run's were ended
