@@ -3,7 +3,8 @@
 //!
 //! This way is for speed alone: one test of a text's length stands for those of all parts, and the
 //! LF is tested once. `docs/PERF.md` says what that gains.
-ghost use Rattle.std.specs.Prelude.{◌≡◌, ℕ, ◌-◌, ◌<◌, ◌≤◌, length, drop, Some, IfSome};
+ghost use Rattle.std.specs.Prelude.{◌≡◌, ℕ, ◌+◌, ◌-◌, ◌*◌, ◌<◌, ◌≤◌, length, drop, Some, IfSome};
+ghost use Rattle.std.specs.Prelude.{slice_index};
 ghost use Rattle.trace_core.specs.Fields.{WritesNumber};
 ghost use Rattle.trace_core.specs.Line.{din_op, lackey_op};
 ghost use Rattle.trace_core.specs.internal.FastLine.{BeginsLabel, EndsLine, HoldsLine};
@@ -104,7 +105,7 @@ fn read_plain_lackey(text: &[u8]) -> Option<(Item, usize)>
         return None;
     }
     // A digit before an LF: both are compared at once.
-    let size = u16::from_le_bytes([text[len + 4], text[len + 5]]).wrapping_sub(0x0A30);
+    let size = two_bytes(text, len + 4).wrapping_sub(0x0A30);
     if size < 10 {
         let size = size as u32;
         return Some((Item { op, addr, size }, len + 6));
@@ -137,7 +138,7 @@ fn plain_din_op(text: &[u8]) -> Option<Op>
         × (din_op label ≡ Some op)) }
 {
     // `0`, `1` and `2`, each before a space.
-    match u16::from_le_bytes([text[0], text[1]]) {
+    match two_bytes(text, 0) {
         0x2030 => Some(Op::Load),
         0x2031 => Some(Op::Store),
         0x2032 => Some(Op::Fetch),
@@ -158,11 +159,24 @@ fn plain_lackey_op(text: &[u8]) -> Option<Op>
         return None;
     }
     // `I` before a space.
-    if u16::from_le_bytes([text[0], text[1]]) == 0x2049 {
+    if two_bytes(text, 0) == 0x2049 {
         return Some(Op::Fetch);
     }
     if text[0] != b' ' {
         return None;
     }
     lackey_op(text[1])
+}
+
+/// The two bytes at an index as one number, the first as its lower part. Where each is read by
+/// itself, the compiler doesn't join the two reads in every loop.
+#[inline(always)]
+fn two_bytes(text: &[u8], at: usize) -> u16
+    requires { at + 2 ≤ length text.now }
+    ensures { result ≡ slice_index text.now at + slice_index text.now (at + 1) * 256 }
+{
+    let Some(pair) = text[at..].first_chunk::<2>() else {
+        unreachable!()
+    };
+    u16::from_le_bytes(*pair)
 }

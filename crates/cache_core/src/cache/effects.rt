@@ -16,7 +16,7 @@ use trace_core::{Access, Ref};
 pub(crate) fn dirties_line(write: WriteMode, access: Access) -> bool
     ensures { result ≡ is_dirtied write access }
 {
-    write == WriteMode::Back && access == Access::Write
+    access == Access::Write && write == WriteMode::Back
 }
 
 /// Whether a miss places its block.
@@ -103,5 +103,5 @@ fn block_load(geometry: Geometry, reference: Ref, block: u64) -> Ref
 fn written_through(write: WriteMode, reference: Ref) -> Option<Ref>
     ensures { through_writes write reference ≡ option_to_list result }
 {
-    (write == WriteMode::Through && reference.access == Access::Write).then_some(reference)
+    (reference.access == Access::Write && write == WriteMode::Through).then_some(reference)
 }

@@ -8,19 +8,19 @@ pub returns-in-8240 : goal.returns-in-8240
 returns-in-8240 c =
     let text = c.args.text.now in
     let both = two-bytes 48 32 _ _ (c.type_inv.text 0).fits (c.type_inv.text 1).fits (omega arith)
-    (sym c.from_le_bytes.ensures ∙ c.in-8240.is) in
+    (sym c.two_bytes.ensures ∙ c.in-8240.is) in
     (get_or text 0 0, single-begun text c.requires.room both.1, ap din_op both.0)
 
 pub returns-in-8241 : goal.returns-in-8241
 returns-in-8241 c =
     let text = c.args.text.now in
     let both = two-bytes 49 32 _ _ (c.type_inv.text 0).fits (c.type_inv.text 1).fits (omega arith)
-    (sym c.from_le_bytes.ensures ∙ c.in-8241.is) in
+    (sym c.two_bytes.ensures ∙ c.in-8241.is) in
     (get_or text 0 0, single-begun text c.requires.room both.1, ap din_op both.0)
 
 pub returns-in-8242 : goal.returns-in-8242
 returns-in-8242 c =
     let text = c.args.text.now in
     let both = two-bytes 50 32 _ _ (c.type_inv.text 0).fits (c.type_inv.text 1).fits (omega arith)
-    (sym c.from_le_bytes.ensures ∙ c.in-8242.is) in
+    (sym c.two_bytes.ensures ∙ c.in-8242.is) in
     (get_or text 0 0, single-begun text c.requires.room both.1, ap din_op both.0)

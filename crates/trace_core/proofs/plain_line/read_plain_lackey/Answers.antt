@@ -14,9 +14,9 @@ returns-then-size-lt10-clause-line c =
     let most = c.front_hexadecimal-addr.ensures.most in
     let some : 1 ≤ read.1 = search (rules, tests) in
     let comma : get_or text (read.1 + 3) 0 ≡ 44 = search (rules, tests) in
-    let found = digit-and-feed c.from_le_bytes-size.result _ _
-    (c.type_inv.text (read.1 + 4)).fits (c.type_inv.text (read.1 + 5)).fits
-    c.from_le_bytes-size.ensures c.if-size-lt10.true in
+    let found = digit-and-feed c.two_bytes-size.result _ _
+    (c.type_inv.text (read.1 + 4)).fits (c.type_inv.text (read.1 + 4 + 1)).fits
+    c.two_bytes-size.ensures c.if-size-lt10.true in
     lackey-line text c.in_ok-op.op read.0 read.1 _ (read.1 + 6) c.in_ok-op.ensures
     (subst (λ r. WritesNumber 16 r read) c.split_at.ensures.back
     c.front_hexadecimal-addr.ensures.value) some most c.requires.room comma
@@ -24,14 +24,13 @@ returns-then-size-lt10-clause-line c =
     (one-digit text read.1 most c.requires.room found.0 found.1 found.2))
   where
     one-digit : (text : List ℕ) (len : ℕ) → len ≤ 16 → 64 ≤ length text →
-        48 ≤ get_or text (len + 4) 0 → get_or text (len + 4) 0 ≤ 57 → get_or text (len + 5) 0 ≡ 10
+        48 ≤ get_or text (len + 4) 0 → get_or text (len + 4) 0 ≤ 57
+        → get_or text (len + 4 + 1) 0 ≡ 10
         → HoldsSize text (len + 4) (get_or text (len + 4) 0 - 48) (len + 6)
     one-digit text len most room low high byte =
-        let next : len + 5 ≡ len + 4 + 1 = omega arith in
         let total : len + 4 + 2 ≡ len + 6 = omega arith in
         subst (HoldsSize text (len + 4) (get_or text (len + 4) 0 - 48)) total
-        (short-size text (len + 4) (omega (arith, most, room)) low high
-        (subst (λ k. get_or text k 0 ≡ 10) next byte))
+        (short-size text (len + 4) (omega (arith, most, room)) low high byte)
 
 pub returns-clause-line : goal.returns-clause-line
 returns-clause-line c =
