@@ -29,10 +29,10 @@ PLACES = [
     *(("sweep", "references", count) for count in REFERENCES for _ in range(2)),
 ]
 # between two blocks: neighbours, powers of two, and distances at which sixteen blocks of a list in
-# slots have one to three marks (mark_of in slots.rt); at most others they have 14 or more
-STEPS = 1, 1, 1, 3, 16, 1024, 126_543, 774_080
+# slots have one mark or two (mark_of in slots.rt); at most others they have 14 or more
+STEPS = 1, 1, 1, 3, 16, 1024, 130_064, 570_123
 # the odd parts of these: powers of two lie between blocks of one set anyway
-ODD_STEPS = 1, 3, 12_095, 126_543
+ODD_STEPS = 1, 3, 8_129, 570_123
 # at some place each command has each of these, and din and log each policy
 KINDS = [*((command, "step", step) for command in COMMANDS for step in ODD_STEPS),
          *((command, "policy", letter) for command in ("din", "log") for letter in "lfr")]

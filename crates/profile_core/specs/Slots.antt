@@ -2,10 +2,10 @@
 use Rattle.std.specs.Prelude.{ℕ, ◌≡◌, ◌<◌, ◌*◌, ◌/◌, ◌%◌, ◌^◌, List, take, map, length, slice_index}
 use Rattle.std.specs.Prelude.{bit_xor, bit_and}
 
--- a byte for a number: two bytes of its product with an odd number, mixed
+-- a byte for a number: of 32 bits of its product with an odd number the two high bytes, mixed
 unfoldable pub mark_of : ℕ → ℕ
-mark_of x = bit_xor (x * 11400714819323198485 % 2 ^ 64 / 2 ^ 56)
-    (bit_and (x * 11400714819323198485 % 2 ^ 64 / 2 ^ 32) 255)
+mark_of x = bit_xor (x % 2 ^ 32 * 668265263 % 2 ^ 32 / 2 ^ 24)
+    (bit_and (x % 2 ^ 32 * 668265263 % 2 ^ 32 / 2 ^ 16) 255)
 
 -- the numbers of the first n slots, in their order
 abbrev pub ordered_numbers : List ℕ → List ℕ → ℕ → List ℕ

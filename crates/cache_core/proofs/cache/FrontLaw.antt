@@ -2,13 +2,17 @@
 use Rattle.std.proofs.Common.{◌≡◌, ℕ, zero, suc, ◌+◌, ◌-◌, ◌*◌, ◌^◌, ◌<◌, ◌≤◌, Bool, true, false}
 use Rattle.std.proofs.Common.{List, [], ◌∷◌, length, get_or, set, take, drop, Option, Some, None}
 use Rattle.std.proofs.Common.{refl, sym, ◌∙◌, subst, arith, length-take, length-drop, ap, not}
-use Rattle.std.proofs.Common.{is_some, ◌==◌}
+use Rattle.std.proofs.Common.{is_some, ◌==◌, ◌++◌, take-append-drop}
 use Rattle.std.specs.Prelude.{IsTrue, ◌↔◌, if◌then◌else◌}
 use Rattle.std.proofs.lemmas.List.{set-get_or}
 use Rattle.std.proofs.lemmas.List.Elements.{All-get_or}
 use Rattle.std.proofs.lemmas.List.Quantifiers.{position-Some}
 use Rattle.std.proofs.lemmas.List.Sorted.{IsPermutation-refl}
 use Rattle.trace_core.specs.declared.events.Ref.{Ref}
+use Rattle.trace_core.specs.declared.events.Access.{Access}
+use Rattle.trace_core.specs.Events.{is_write}
+use Rattle.cache_core.specs.declared.design.WriteMode.{WriteMode}
+use Rattle.cache_core.specs.declared.design.WriteMode.TheVariants.{Back, Through}
 use Rattle.cache_core.specs.declared.outcome.Slot.{Slot}
 use Rattle.cache_core.specs.declared.outcome.Outcome.{Outcome}
 use Rattle.cache_core.specs.declared.design.Design.{Design}
@@ -18,7 +22,7 @@ use Rattle.cache_core.specs.cache.Outcomes.{outcome_of, on_hit, is_dirtied, two_
 use Rattle.cache_core.specs.cache.Outcomes.{through_writes}
 use Rattle.cache_core.specs.cache.Order.{Moves, Touches, Hits, Visits, VisitsAt, Accesses}
 use Rattle.cache_core.specs.cache.Order.{with_dirty_at, position_of, DirtiesByWrites}
-use Rattle.cache_core.specs.internal.cache.Order.{holds_first, hits_in_front}
+use Rattle.cache_core.specs.internal.cache.Order.{holds_first, hits_in_front, hit_in_front}
 use Rattle.cache_core.specs.replacement.Rules.{Place, InFront, InPlace, rules}
 use Rattle.cache_core.specs.internal.cache.Slab.{IsCacheSlab, Addressable, sets_of, slab_contents}
 use Rattle.cache_core.proofs.replacement.Addresses.{marked_fits}
@@ -47,6 +51,21 @@ take_marked false n slots some = refl
 take_marked true zero slots some = absurd (omega arith)
 take_marked true (suc n) [] some = refl
 take_marked true (suc n) (x ∷ xs) some = refl
+
+-- only a write marks its line or is sent on
+unmarks : (write : WriteMode) (a : Access) → is_write a ≡ false → is_dirtied write a ≡ false
+unmarks Back a reads = reads
+unmarks Through a reads = refl
+
+pub unsent : (write : WriteMode) (ref : Ref) → is_write ref.access ≡ false →
+    through_writes write ref ≡ []
+unsent Back ref reads = refl
+unsent Through ref reads = rw reads refl
+
+-- a hit that sends nothing on
+pub stays_here : (write : WriteMode) (ref : Ref) → through_writes write ref ≡ [] →
+    hit_in_front ≡ outcome_of (on_hit write ref)
+stays_here write ref none = rw none refl
 
 module _ (d : Design) (filled : List ℕ) (k ways : ℕ) (slots : List Slot) (ref : Ref)
     (i : IsCacheSlab d slots filled)
@@ -155,6 +174,23 @@ module _ (d : Design) (filled : List ℕ) (k ways : ℕ) (slots : List Slot) (re
       (slab_dirty d filled k count ways slots marked i written None (λ n. n) (λ n. n) ref outcome
       (visited None (λ n. n) outcome e))
 
+  -- where nothing is marked, the slots stay
+  unmarked : is_dirtied d.write ref.access ≡ false → with_segment ways k slots marked ≡ slots
+  unmarked none = rw none
+      (ap (λ xs. take (k * ways) slots ++ xs)
+      (take-append-drop (k * ways + ways - k * ways) (drop (k * ways) slots))
+      ∙ take-append-drop (k * ways) slots)
+
+  pub front_read : is_write ref.access ≡ false → (policy : Option Repl) (numbers : ℕ → ℕ) →
+      k ≡ set_of d.geometry ref.addr →
+      Accesses (slab_contents d policy numbers slots filled) ref hit_in_front
+      (slab_contents d policy numbers slots filled)
+  front_read reads policy numbers s =
+      subst (λ new. Accesses (slab_contents d policy numbers slots filled) ref hit_in_front
+      (slab_contents d policy numbers new filled)) (unmarked (unmarks d.write ref.access reads))
+      (front_access policy numbers hit_in_front s
+      (stays_here d.write ref (unsent d.write ref reads)))
+
 -- a block that is found at the first index is that of the first slot
 first_there : (block : ℕ) (slots : List Slot) → position_of block slots ≡ Some 0 →
     holds_first block slots ≡ true
@@ -185,21 +221,6 @@ pub itself : (b : Bool) → (if b then true else false) ≡ b
 itself true = refl
 itself false = refl
 
-neither : (b : Bool) → (if b then false else false) ≡ false
-neither true = refl
-neither false = refl
-
--- a reference that is sent on is none that hits in front and sends nothing on
-pub passed_on : (d : Design) (sets : List (List Slot)) (ref : Ref) (outcome : Outcome) →
-    outcome ≡ outcome_of (on_hit d.write ref) →
-    is_some (get_or outcome.down 0 None) ≡ true → hits_in_front d sets ref ≡ false
-passed_on d sets ref outcome is sent =
-    let down : is_some (get_or (two_options (through_writes d.write ref)) 0 None) ≡ true =
-    rw is at sent in
-    rw (nothing_sent (through_writes d.write ref), down)
-    (neither (holds_first (block_of d.geometry ref.addr)
-    (get_or sets (set_of d.geometry ref.addr) [])))
-
 module _ (d : Design) (filled : List ℕ) (k ways : ℕ) (slots : List Slot) (ref : Ref)
     (i : IsCacheSlab d slots filled) (ways_are : ways ≡ d.geometry.e)
     (set_is : k ≡ set_of d.geometry ref.addr) (within : k < 2 ^ d.geometry.s) where
@@ -211,20 +232,15 @@ module _ (d : Design) (filled : List ℕ) (k ways : ℕ) (slots : List Slot) (re
       (ap (holds_first (block_of d.geometry ref.addr))
       (sym (slab_read d.geometry.e filled k slots (omega (arith, i.sets, within)) i.within)))
 
-  -- where nothing is sent on, the test of the first slot tells whether a reference hits in front
-  pub told_in_front : (first : Bool) (outcome : Outcome) →
-      outcome ≡ outcome_of (on_hit d.write ref) →
-      is_some (get_or outcome.down 0 None) ≡ false →
+  -- the test of the first slot, and what is sent on, tell whether a reference hits in front
+  pub told_in_front : (first : Bool) →
       (IsTrue first ↔ (position_of (block_of d.geometry ref.addr)
       (segment_slots ways filled k slots) ≡ Some 0)) →
-      hits_in_front d (sets_of d.geometry.e slots filled) ref ≡ first
-  told_in_front first outcome is sent tells =
-      let down : is_some (get_or (two_options (through_writes d.write ref)) 0 None) ≡ false =
-      rw is at sent in
+      hits_in_front d (sets_of d.geometry.e slots filled) ref
+      ≡ (if first then length (through_writes d.write ref) == 0 else false)
+  told_in_front first tells =
       rw (
         first_in_set,
         first_told first (block_of d.geometry ref.addr)
             (segment_slots ways filled k slots) tells,
-        nothing_sent (through_writes d.write ref),
-        down,
-      ) (itself first)
+      ) refl

@@ -1,6 +1,7 @@
 //! The effects of one access: its outcome, and the references sent to the next level. Which slot is
 //! evicted is decided elsewhere.
 ghost use Rattle.std.specs.Prelude.{◌≡◌, ◌<◌, ◌*◌, ◌^◌, IfSome, option_to_list};
+ghost use Rattle.trace_core.specs.Events.{is_write};
 ghost use Rattle.cache_core.specs.Geometry.{address_of};
 ghost use Rattle.cache_core.specs.cache.Outcomes.{outcome_of, on_hit, on_placing, on_passing};
 ghost use Rattle.cache_core.specs.cache.Outcomes.{is_dirtied, is_allocated, through_writes};
@@ -11,12 +12,20 @@ use crate::geometry::Geometry;
 use crate::outcome::{Outcome, Slot};
 use trace_core::{Access, Ref};
 
+/// Whether an access writes.
+#[inline(always)]
+pub(crate) fn is_write(access: Access) -> bool
+    ensures { result ≡ is_write access }
+{
+    access == Access::Write
+}
+
 /// Whether a reference marks its line dirty: a write, in a write-back cache.
 #[inline(always)]
 pub(crate) fn dirties_line(write: WriteMode, access: Access) -> bool
     ensures { result ≡ is_dirtied write access }
 {
-    access == Access::Write && write == WriteMode::Back
+    write == WriteMode::Back && is_write(access)
 }
 
 /// Whether a miss places its block.
@@ -24,7 +33,7 @@ pub(crate) fn dirties_line(write: WriteMode, access: Access) -> bool
 pub(crate) fn allocates_line(allocate: AllocMode, access: Access) -> bool
     ensures { result ≡ is_allocated allocate access }
 {
-    allocate == AllocMode::Always || access != Access::Write
+    allocate == AllocMode::Always || !is_write(access)
 }
 
 /// The outcome of a hit.
@@ -103,5 +112,5 @@ fn block_load(geometry: Geometry, reference: Ref, block: u64) -> Ref
 fn written_through(write: WriteMode, reference: Ref) -> Option<Ref>
     ensures { through_writes write reference ≡ option_to_list result }
 {
-    (reference.access == Access::Write && write == WriteMode::Through).then_some(reference)
+    (write == WriteMode::Through && is_write(reference.access)).then_some(reference)
 }

@@ -15,7 +15,7 @@ ghost use Rattle.cache_core.specs.internal.cache.Order.{hits_in_front, hit_in_fr
 ghost use Rattle.cache_core.specs.internal.cache.Slab.{IsCacheSlab, sets_of, slab_contents};
 ghost use Rattle.cache_core.specs.Touched.{Covers};
 
-use crate::cache::effects::{dirties_line, hit_outcome};
+use crate::cache::effects::is_write;
 use crate::cache::walked::emptying::empty_slab;
 use crate::cache::walked::one_set::{hit, is_in_front, mark_front, miss};
 use crate::cache::walked::walk::find_block;
@@ -265,8 +265,17 @@ fn miss_slab<P: Replacement>(
     outcome
 }
 
+/// The outcome of a hit that sends nothing down.
+const HIT_IN_FRONT: Outcome = Outcome {
+    hit: true,
+    evicted: None,
+    placed: false,
+    down: [None, None],
+};
+
 /// One access to the first slot of its set, in the slab of all sets, if its block is there and it
-/// sends nothing down. The slot stays first under every policy.
+/// sends nothing down. The slot stays first under every policy. The write mode matters for writes
+/// alone, so other accesses don't ask for it.
 #[inline(always)]
 fn visit_front(
     design: Design,
@@ -291,14 +300,20 @@ fn visit_front(
     let ways = design.geometry.e() as usize;
     let set = design.geometry.set_of(reference.addr) as usize;
     let start = set * ways;
-    let outcome = hit_outcome(design.write, reference);
     let count = filled[set] as usize;
-    if outcome.down[0].is_some() || !is_in_front(&slots[start..start + count], block) {
+    if !is_in_front(&slots[start..start + count], block) {
         return None;
     }
-    let dirty = dirties_line(design.write, reference.access);
-    mark_front(&mut slots[start..start + ways], dirty);
-    Some(outcome)
+    if !is_write(reference.access) {
+        return Some(HIT_IN_FRONT);
+    }
+    match design.write {
+        WriteMode::Through => None,
+        WriteMode::Back => {
+            mark_front(&mut slots[start..start + ways]);
+            Some(HIT_IN_FRONT)
+        }
+    }
 }
 
 /// The number of filled slots of each set, 0 at first.

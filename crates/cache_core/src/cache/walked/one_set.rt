@@ -1,6 +1,6 @@
 //! One access, in the slots of its set.
 ghost use Rattle.std.specs.Prelude.{◌≡◌, ◌≤◌, ◌<◌, ◌*◌, ◌^◌, ℕ, length, take, Some, IfSome};
-ghost use Rattle.std.specs.Prelude.{None, IsTrue, ◌↔◌};
+ghost use Rattle.std.specs.Prelude.{None, IsTrue, ◌↔◌, true};
 ghost use Rattle.cache_core.specs.Geometry.{block_of};
 ghost use Rattle.cache_core.specs.cache.Outcomes.{outcome_of, on_hit};
 ghost use Rattle.cache_core.specs.cache.Order.{Touches, Visits, position_of, with_dirty_at};
@@ -96,13 +96,11 @@ pub(crate) fn is_in_front(slots: &[Slot], block: u64) -> bool
     slots.first().is_some_and(|slot| slot.block == block)
 }
 
-/// Marks the first slot dirty if it is to be.
+/// Marks the first slot dirty.
 #[inline(always)]
-pub(crate) fn mark_front(slots: &mut [Slot], dirty: bool)
+pub(crate) fn mark_front(slots: &mut [Slot])
     requires { 1 ≤ length slots.old }
-    ensures { slots.new ≡ with_dirty_at dirty slots.old 0 }
+    ensures { slots.new ≡ with_dirty_at true slots.old 0 }
 {
-    if dirty {
-        slots[0].dirty = true;
-    }
+    slots[0].dirty = true;
 }
