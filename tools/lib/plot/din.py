@@ -4,6 +4,7 @@ import functools
 import re
 from collections import namedtuple
 
+from lib import costs
 from lib.plot import pictures
 from lib.plot.pictures import (MOST_LINES, Line, Measure, Picture, Point, bytes_text, counted,
                                evenly, short, ways_text)
@@ -198,6 +199,7 @@ def read(asked, given, first=None):
 def drawn(asked, tables):
     """The picture that is asked for, its measure, and what a page says of a single table. The axes
     are by the first."""
+    costs.refuse_din(asked)
     first = read(asked, tables[0])
     views = [first, *(read(asked, given, first) for given in tables[1:])]
     measures = {view.table.measure for view in views}
@@ -207,10 +209,10 @@ def drawn(asked, tables):
     runs = sum(len(case.values) for case in first.table.cases)
     counts = f"{counted(runs, 'run', '{:,}'.format)}, {first.table.references:,} references"
     if asked.only == "pareto" and len(tables) == 1:
-        return by_front(first.table, measure), measure, counts
+        return [by_front(first.table, measure)], measure, counts
     if asked.only not in (None, "size"):
         fail("several tables of din have the picture size alone" if len(tables) > 1 else
              f"{first.file}: a table of din has the pictures size and pareto")
     picture = (of_several(asked, tables, views, measure) if len(tables) > 1
                else by_across(asked, first, measure))
-    return picture, measure, counts
+    return [picture], measure, counts

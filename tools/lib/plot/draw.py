@@ -3,19 +3,15 @@
 import os
 from collections import namedtuple
 
-from lib import costs, files, table, tool
+from lib import files, table, tool
 from lib.plot import din, pictures, sweep, text
 
 LONGEST = 24  # letters of a table's name in the legend
 
-# pictures with a measure of their own
-OWN = {"three-c": "misses by their kinds", "kinds": "misses by their kinds", "traffic": "traffic"}
-
 # a table: its file, its name in the legend, its lines, what faults call it, and its rows
 Given = namedtuple("Given", "file name lines shown rows", defaults=((),))
-# the pictures, their measure, what a page says of a single table, and a function of what may be
-# chosen there instead of a picture
-Drawn = namedtuple("Drawn", "pictures measure counts choices")
+# the pictures, their measure, and what a page says of a single table
+Drawn = namedtuple("Drawn", "pictures measure counts")
 
 
 def names_of(paths):
@@ -44,24 +40,6 @@ def write_file(out, data):
             files.replace(place, data, mode)
 
 
-def of_sweeps(asked, tables):
-    """The pictures of tables of sweeps."""
-    if asked.across:
-        tool.fail(f"{asked.tables[0]}: --across is for a table of din")
-    if len(tables) > 1 and asked.only not in (None, "size", "curve", "pareto"):
-        tool.fail(f"several tables have the pictures size, curve, pareto, and not {asked.only}")
-    if asked.only in OWN and costs.column_of(asked) != "misses":
-        tool.fail(f"--only {asked.only} draws {OWN[asked.only]}, and no other measure")
-    sweeps = sweep.Sweeps(asked, [sweep.with_rows(asked, one) for one in tables],
-                          sweep.measure_of(asked))
-    drawn, rows = sweep.drawn(sweeps), sweeps.rows
-    if len(tables) == 1 and not rows[0].references:
-        asked.title = f"{asked.title} (no references)".strip()
-    counts = pictures.counted(len(rows), "cache", "{:,}".format)
-    return Drawn(drawn, sweeps.measure, f"{counts}, {rows[0].references:,} references",
-                 lambda picture: sweep.choices(sweeps, picture))
-
-
 def drawn_of(asked):
     """What is drawn of the tables that are asked for, or their fault."""
     tables = [Given(path, name, *table.lines_of(path))
@@ -70,11 +48,7 @@ def drawn_of(asked):
     if len(are_din) > 1:
         tool.fail("tables of sweeps and of din have no picture in common")
     try:
-        if not are_din.pop():
-            return of_sweeps(asked, tables)
-        costs.refuse_din(asked)
-        picture, measure, counts = din.drawn(asked, tables)
-        return Drawn([picture], measure, counts, lambda _: {picture.fixed: picture})
+        return Drawn(*(din if are_din.pop() else sweep).drawn(asked, tables))
     except table.BadTable as fault:
         tool.fail(str(fault))
 

@@ -141,28 +141,28 @@ def size_axis(picture):
                                  for value, _ in every.ticks])
 
 
-def figure(offered, fixed, up, measure, mono):
+def figure(picture, up, measure, mono):
     """A picture as plotly has it, with all that may be chosen instead."""
-    picture, traces = offered[fixed], []
+    traces = []
     across = size_axis(picture._replace(
-        lines=[line for one in offered.values() for line in one.lines]))
-    for choice, one in offered.items():
+        lines=[line for one in picture.offered.values() for line in one.lines]))
+    for choice, one in picture.offered.items():
         for number, (line, colour) in enumerate(one.coloured(mono)):
             made = trace(number, pictures.seen(line, across, up), colour, up, measure, mono)
-            traces.append(made.update(meta=choice, visible=choice == fixed))
+            traces.append(made.update(meta=choice, visible=choice == picture.fixed))
     return graph_objects.Figure(traces, LAYOUT).update_layout(
         xaxis=axis(across, picture.across), yaxis=axis(up, measure.up),
         legend_title={"text": picture.legend, "font": {"size": 14}})
 
 
-def section(picture, offered, made):
+def section(picture, made):
     """The part of the page for a picture, with the menu of what it may fix."""
     menu = ""
-    if len(offered) > 1:
-        word, name, text = WAYS if picture.name in ("block", "traffic") else BLOCK_SIZE
+    if len(picture.offered) > 1:
+        word, name, text = WAYS if picture.name in pictures.BY_WAYS else BLOCK_SIZE
         options = "".join(f"<option value={fixed} data-title=\"{html.escape(one.title)}\""
                           f"{' selected' * (fixed == picture.fixed)}>{text(fixed)}</option>"
-                          for fixed, one in offered.items())
+                          for fixed, one in picture.offered.items())
         menu = (f"<label>{word} <select name={name} data-for={picture.name}>{options}</select>"
                 "</label>")
     shown = made.to_html(full_html=False, include_plotlyjs=False, default_height="440px",
@@ -173,12 +173,10 @@ def section(picture, offered, made):
 
 def page(drawn, counts, asked):
     """The page with these pictures, given for each what may be chosen instead."""
-    offered = list(map(drawn.choices, drawn.pictures))
-    up = pictures.value_axis([picture for several in offered for picture in several.values()],
-                             drawn.measure, 0.062)
-    sections = [section(picture, several, figure(several, picture.fixed, up, drawn.measure,
-                                                 asked.mono))
-                for picture, several in zip(drawn.pictures, offered)]
+    up = pictures.value_axis([one for picture in drawn.pictures
+                              for one in picture.offered.values()], drawn.measure, 0.062)
+    sections = [section(picture, figure(picture, up, drawn.measure, asked.mono))
+                for picture in drawn.pictures]
     heading = html.escape(asked.title or drawn.measure.name)
     return f"""<!DOCTYPE html>
 <html lang="en">

@@ -9,6 +9,7 @@ from lib.plot import MOST_LINES
 from lib.tool import size_text
 
 SIZE = "cache size in bytes"
+BY_WAYS = "block", "traffic"  # pictures that fix the ways; others fix the block size or nothing
 NARROW = 72  # in fewer letters a legend has no room beside its picture
 UNIT = re.compile(r" in (per cent|bytes|cycles \(AMAT\))$")
 # of Okabe and Ito, except for a pale yellow: all people can tell them apart, also the colour-blind
@@ -47,11 +48,16 @@ class Measure(namedtuple("Measure", "up name is_percent is_linear",
         return f"The smallest caches with the least {UNIT.sub('', self.up)}"
 
 
-class Picture(namedtuple("Picture", "name fixed title across legend lines labels names",
-                         defaults=("", ()))):
+class Picture(namedtuple("Picture", "name fixed title across legend lines labels names choices",
+                         defaults=("", (), None))):
     """A picture of some caches: the block size, or the ways, that all have, its title, the name of
-    its horizontal axis, the title of its legend, its lines, what the labels of a front are, and the
-    names of bars. A front is the second line, after all caches."""
+    its horizontal axis, the title of its legend, its lines, what the labels of a front are, the
+    names of bars, and the pictures that a page offers instead, by what they fix. A front is the
+    second line, after all caches."""
+
+    @property
+    def offered(self):
+        return self.choices or {self.fixed: self}
 
     @property
     def points(self):
