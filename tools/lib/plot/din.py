@@ -159,8 +159,8 @@ def by_front(table, measure):
                    pictures.front_of(every, front, "least up to this size"))
 
 
-def of_several(asked, tables, views, measure):
-    """The picture of several tables."""
+def of_all(asked, tables, views, measure):
+    """The picture of some tables, with the lines of each."""
     drawn = [by_across(asked, view, measure) for view in views]
     has_own = len({view.table.measure for view in views}) > 1
     found = []
@@ -185,10 +185,8 @@ def read(asked, given, first=None):
     if first and kind(across) != kind(first.across):
         across_of(first.across, table, given.file)  # which fails
     # without a measure it is the miss ratio of the cache on the horizontal axis
-    own = f"{cache(across)}-percent"
-    measure = asked.measure or (own if own in columns else usual_measure(columns))
-    if first and not asked.measure and first.table.measure in columns:
-        measure = first.table.measure
+    usual = first and first.table.measure, f"{cache(across)}-percent", usual_measure(columns)
+    measure = asked.measure or next(name for name in usual if name in columns)
     if measure != table.measure:
         table = read_table(given.lines, given.shown, measure)
     if table.left_out:
@@ -213,6 +211,4 @@ def drawn(asked, tables):
     if asked.only not in (None, "size"):
         fail("several tables of din have the picture size alone" if len(tables) > 1 else
              f"{first.file}: a table of din has the pictures size and pareto")
-    picture = (of_several(asked, tables, views, measure) if len(tables) > 1
-               else by_across(asked, first, measure))
-    return [picture], measure, counts
+    return [of_all(asked, tables, views, measure)], measure, counts
