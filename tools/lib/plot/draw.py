@@ -1,6 +1,7 @@
 """What tools/plot draws of the tables that it is given, and where that goes."""
 
 import os
+import stat
 from collections import namedtuple
 
 from lib import files, table, tool
@@ -31,13 +32,12 @@ def write_file(out, data):
     os.umask(mask)
     with tool.faults_of(out):
         place = os.path.realpath(out)  # there may be no working folder
-        if os.path.exists(out) and not os.path.isfile(out):
+        mode = os.stat(place).st_mode if os.path.exists(place) else stat.S_IFREG | 0o666 & ~mask
+        if stat.S_ISREG(mode):
+            files.replace(place, data, mode & 0o777)
+        else:
             with open(out, "wb") as file:
                 file.write(data)
-        else:
-            is_there = os.path.exists(place)
-            mode = os.stat(place).st_mode & 0o777 if is_there else 0o666 & ~mask
-            files.replace(place, data, mode)
 
 
 def drawn_of(asked):

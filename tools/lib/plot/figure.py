@@ -63,7 +63,7 @@ LOOKS = {
 SCALED = ("lines.linewidth", "lines.markersize", "axes.linewidth", "grid.linewidth",
           *(f"{axis}tick.{part}" for axis in "xy" for part in (
               "major.size", "minor.size", "major.width", "minor.width", "major.pad")))
-UNDATED = {".svg": {"Date": None}, ".pdf": {"CreationDate": None}}
+UNDATED = {".svg": {"metadata": {"Date": None}}, ".pdf": {"metadata": {"CreationDate": None}}}
 # the letters that LaTeX takes for something else
 LATEX = {**{letter: f"\\{letter}" for letter in "#$%&_{}"}, "-": "-{}", **{
     letter: f"\\text{name}{{}}" for letter, name in {
@@ -121,9 +121,8 @@ class Canvas:
             ".", lambda found: LATEX.get(found[0], found[0]), words)
 
 
-def draw_line(canvas, axes, number, line, colour):
+def draw_line(canvas, axes, number, line, colour, x, y):
     """A line with its marks, and the bars from the least to the greatest of several seeds."""
-    x, y = zip(*[(point.x, point.y) if point else (float("nan"),) * 2 for point in line.points])
     spread = [point for point in line.points if point and point.ends]
     if spread:
         below, above = zip(*((point.y - point.ends[0], point.ends[1] - point.y)
@@ -141,17 +140,15 @@ def draw_line(canvas, axes, number, line, colour):
     return axes.plot(x, y, linestyle="" if line.style == "dots" else dash, **looks)[0]
 
 
-def draw_area(canvas, axes, number, line, colour):
+def draw_area(canvas, axes, _, __, colour, x, y):
     """An area from 0 on the earlier ones, with an edge; of a single size a mark."""
-    x, y = zip(*line.places)
     axes.plot(x, y, color=pictures.BLACK, linewidth=0.05 * canvas.em, zorder=2.5, label="_",
               marker="o" if len(x) == 1 else "")
     return axes.fill_between(x, y, facecolor=colour, edgecolor=pictures.BLACK, linewidth=0.5)
 
 
-def draw_bar(canvas, axes, number, line, colour):
+def draw_bar(_, axes, __, ___, colour, x, y):
     """Bars on those of the lines before."""
-    x, y = zip(*line.places)
     feet = [sum(patches[at].get_height() for patches in axes.containers) for at in x]
     return axes.bar(x, y, 0.7, feet, color=colour, edgecolor=pictures.BLACK, linewidth=0.5)
 
@@ -161,8 +158,9 @@ def draw(canvas, axes, picture, across, up):
     named = []
     for number, (line, colour) in enumerate(picture.coloured(canvas.mono)):
         line = pictures.standing(pictures.seen(line, across, up), up)
+        x, y = zip(*[point[:2] if point else (math.nan, math.nan) for point in line.points])
         drawn = {"area": draw_area, "bar": draw_bar}.get(line.style, draw_line)(
-            canvas, axes, number, line, colour)
+            canvas, axes, number, line, colour, x, y)
         named += [drawn] * bool(line.name)
         for artist in drawn if line.style == "bar" else [drawn]:
             artist.set_gid(f"{picture.name}_{number + 1}")
@@ -205,15 +203,16 @@ def label_front(canvas, axes, picture, up):
                   gid="pareto_labelled")
 
 
-def set_axis(axes, letter, axis):
-    """The scale, ends and ticks of an axis."""
-    axes.set(**{f"{letter}scale": "log" if axis.log else "linear"})
-    axes.set(**{f"{letter}lim": (axis.low, axis.high)})
-    which = getattr(axes, f"{letter}axis")
-    which.set_ticks(*zip(*axis.ticks))
-    which.set_minor_formatter(NullFormatter())
-    if letter == "x" or axis.foot or axis.high > 1e7 * axis.low:
-        which.set_minor_locator(NullLocator())
+def set_axes(axes, across, up):
+    """The scales, ends and ticks of a picture."""
+    for letter, axis in ("x", across), ("y", up):
+        axes.set(**{f"{letter}scale": "log" if axis.log else "linear"})
+        axes.set(**{f"{letter}lim": (axis.low, axis.high)})
+        which = getattr(axes, f"{letter}axis")
+        which.set_ticks(*zip(*axis.ticks))
+        which.set_minor_formatter(NullFormatter())
+        if letter == "x" or axis.foot or axis.high > 1e7 * axis.low:
+            which.set_minor_locator(NullLocator())
 
 
 def figure_of(drawn, asked):
@@ -228,8 +227,7 @@ def figure_of(drawn, asked):
                       fontsize="medium")
         axes.set(xlabel=canvas.text(picture.across), ylabel=canvas.text(drawn.measure.up))
         named = draw(canvas, axes, picture, across, up)
-        set_axis(axes, "x", across)
-        set_axis(axes, "y", up)
+        set_axes(axes, across, up)
         add_legend(canvas, axes, picture, columns, named)
     layout = canvas.figure.get_layout_engine()
     layout.execute(canvas.figure)
@@ -238,8 +236,7 @@ def figure_of(drawn, asked):
     up = pictures.value_axis(drawn.pictures, drawn.measure,
                              1.3 * LINE * em / min(box.height for box in boxes))
     for (picture, _, axes, _), box in zip(places, boxes):
-        set_axis(axes, "x", pictures.size_axis(picture, 5.5 * LETTER * em / box.width))
-        set_axis(axes, "y", up)
+        set_axes(axes, pictures.size_axis(picture, 5.5 * LETTER * em / box.width), up)
     layout.execute(canvas.figure)
     for picture, _, axes, _ in places:
         label_front(canvas, axes, picture, up)
@@ -252,9 +249,7 @@ def bytes_of(drawn, asked):
     """The file of a picture."""
     if asked.ending == ".pgf":
         tool.needs("pdflatex", "texlive-pictures")
-    file, more = io.BytesIO(), {}
-    if asked.ending in UNDATED:
-        more = {"metadata": UNDATED[asked.ending]}
+    file, more = io.BytesIO(), UNDATED.get(asked.ending, {})
     with warnings.catch_warnings(record=True) as told:
         try:
             figure_of(drawn, asked).savefig(file, format=asked.ending[1:], **more)

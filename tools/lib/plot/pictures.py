@@ -17,6 +17,8 @@ COLOURS = ("#0072b2", "#d55e00", "#009e73", "#cc79a7", "#e69f00", "#56b4e9", "#0
 # areas of a stack, above the two lowest: shades that differ in lightness too
 STACK = ("#feedde", "#fdbe85", "#fd8d3c", "#d94701", "#8c2d04", "#6baed6", "#08306b")
 GREYS = ("#f4f4f4", "#dcdcdc", "#c0c0c0", "#a2a2a2", "#848484", "#606060", "#202020")
+# the digits that have a tick in each decade, and the part of a decade that the nearest are apart
+DIGITS = ((0.0457, "123456789"), (0.1461, "12357"), (0.176, "1235"), (0.301, "125"), (0.477, "13"))
 CELLS = {"curve": (1000, 500), "dots": (400, 200)}  # columns and rows of what can be seen
 PALE, FRONT, BLACK = "#bbbbbb", "#d55e00", "#000000"
 # a cache in a picture: its place, ends over several seeds, and a function of what is said of it and
@@ -29,10 +31,6 @@ class Line(namedtuple("Line", "name points style", defaults=("marks",))):
     style: `marks`; `curve` has no marks, `dots` nothing else; a `front` goes in steps, as do those
     of several tables, `steps`, and has a `tail`; an `area` lies on the earlier ones, and a `bar`
     stands on them."""
-
-    @property
-    def places(self):
-        return [(point.x, point.y) for point in self.points if point]
 
 
 class Measure(namedtuple("Measure", "up name is_percent is_linear",
@@ -174,12 +172,10 @@ def linear_axis(least, greatest, closest, most):
 def log_ticks(low, high, closest):
     """The most ticks for an axis between two values that are at least a part `closest` apart."""
     decades = range(math.floor(math.log10(low)), math.ceil(math.log10(high)) + 1)
-    span = math.log10(high / low)
-    for digits in ((1, 2, 3, 4, 5, 6, 7, 8, 9), (1, 2, 3, 5, 7), (1, 2, 3, 5), (1, 2, 5), (1, 3)):
-        if min(map(math.log10, (after / digit for digit, after in zip(
-                digits, (*digits[1:], 10))))) >= closest * span:
-            return [float(f"{digit}e{decade}") for decade in decades for digit in digits]
-    return [float(f"1e{decade}") for decade in decades[:: math.ceil(closest * span)]]
+    least = closest * math.log10(high / low)
+    digits = next((digits for apart, digits in DIGITS if apart >= least), "1")
+    return [float(f"{digit}e{decade}") for decade in decades[::max(1, math.ceil(least))]
+            for digit in digits]
 
 
 def log_axis(values, closest, most):

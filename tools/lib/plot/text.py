@@ -28,11 +28,10 @@ def legend_of(picture, columns):
                     for at in range(0, len(names), beside)]
 
 
-def draw(rows, picture, place):
-    """All lines as letters in rows, and then their marks, and the labels that have room."""
-    def dot(at, letter):
-        rows[at[1]][at[0]] = letter
-
+def cells_of(picture, place, high):
+    """The letters of a picture by their column and row, which are less than `high`: all lines, then
+    their marks, and the labels that have room."""
+    cells = {}
     for line, stroke, _ in looks_of(picture):
         for point, after in zip(line.points, line.points[1:] if stroke else []):
             if point and after:
@@ -40,17 +39,18 @@ def draw(rows, picture, place):
                 steps = max(abs(right - left), abs(bottom - top), 1)
                 for step in range(steps + 1):
                     part = int(step == steps) if line.style in ("front", "steps") else step / steps
-                    dot((left + round((right - left) * step / steps),
-                         top + round((bottom - top) * part)), stroke)
+                    cells[left + round((right - left) * step / steps),
+                          top + round((bottom - top) * part)] = stroke
     for line, _, mark in looks_of(picture):
-        for point in filter(None, line.points * bool(mark)):
-            dot(place(point), mark)
+        cells.update({place(point): mark for point in line.points if point and mark})
     for point in picture.front:
         (column, row), label = place(point), point.told()[1]
-        start, below = column - len(label), rows[row + 1] if row + 1 < len(rows) else "x"
-        if start > 0 and not {*below[start - 1:column + 1]} - {*" ."}:
-            below[start:column] = label
-            dot((column, row), "O")
+        start = column - len(label)
+        below = {cells.get((at, row + 1), " ") for at in range(start - 1, column + 1)}
+        if start > 0 and row + 1 < high and below <= {" ", "."}:
+            cells.update({(start + at, row + 1): letter for at, letter in enumerate(label)})
+            cells[column, row] = "O"
+    return cells
 
 
 def page(picture, measure, title, columns, lines):
@@ -72,16 +72,16 @@ def page(picture, measure, title, columns, lines):
     def row(y):
         return round((1 - up.fractions([y])[0]) * (high - 1))
 
-    rows = [[" "] * broad for _ in range(high)]
-    draw(rows, picture, lambda point: (column(point.x), row(point.y)))
+    cells = cells_of(picture, lambda point: (column(point.x), row(point.y)), high)
+    rows = ("".join(cells.get((at, row), " ") for at in range(broad)) for row in range(high))
     ticks = {row(value): words for value, words in up.ticks}
     beside = legend * is_beside + [""] * high
     below = ""
     for value, words in across.ticks:
         start = left + 2 + column(value) - len(words) // 2
         below = below.ljust(start) + words if start >= len(below) else below
-    return [*head, *(f"{ticks.get(at, ''):>{left}} |{''.join(row)}  {beside[at]}"
-                     for at, row in enumerate(rows)),
+    return [*head, *(f"{ticks.get(at, ''):>{left}} |{letters}  {beside[at]}"
+                     for at, letters in enumerate(rows)),
             " " * (left + 1) + "+" + "-" * broad, below,
             (" " * left + picture.across.center(broad))]
 
