@@ -80,11 +80,10 @@ def told(table, lines, has_caches, case):
 
 
 def points(cases, x, *about):
-    """Some cases as points, each with the least and the greatest of several seeds that differ."""
-    for case in cases:
-        ends = float(min(case.values)), float(max(case.values))
-        yield Point(x(case), float(case.measured), functools.partial(told, *about, case),
-                    ends if ends[0] < ends[1] else ())
+    """Some cases as points, each with the least and the greatest of several seeds."""
+    return [Point(x(case), float(case.measured), functools.partial(told, *about, case),
+                  float(case.measured - min(case.values)), float(max(case.values) - case.measured))
+            for case in cases]
 
 
 def fixed(asked, table, across, lines, file):
@@ -136,9 +135,9 @@ def by_across(asked, view, measure):
     found, shown = groups(table, lines), []
     for given in evenly(list(found)):
         cases = {int(case.given[at]): case for case in reversed(found[given])}
-        shown.append(Line(label(zip(lines, given), has_caches), list(points(
+        shown.append(Line(label(zip(lines, given), has_caches), points(
             [cases[x] for x in sorted(cases)], lambda case: int(case.given[at]),
-            table, lines, has_caches))))
+            table, lines, has_caches)))
     what = ACROSS[kind(across)]
     remarks = [label(values, has_caches)] * bool(values)
     remarks += [f"{len(shown)} of {len(found)} lines"] * (len(shown) < len(found))
@@ -152,7 +151,7 @@ def by_front(table, measure):
     sizes = [option for option in table.options if kind(option) in ("size", "sets")]
     lines = [option for option in varied(table) if kind(option) != "size" or len(sizes) > 1]
     has_caches = len({cache(option) for option in lines}) > 1
-    every, front = (list(points(cases, lambda case: case.size, table, lines, has_caches))
+    every, front = (points(cases, lambda case: case.size, table, lines, has_caches)
                     for cases in (table.cases, pareto(table.cases)))
     words = "size of all caches in bytes" if len(sizes) > 1 else pictures.SIZE
     return Picture("pareto", 0, measure.least, words, "",

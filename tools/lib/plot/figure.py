@@ -123,12 +123,11 @@ class Canvas:
 
 def draw_line(canvas, axes, number, line, colour, x, y):
     """A line with its marks, and the bars from the least to the greatest of several seeds."""
-    spread = [point for point in line.points if point and point.ends]
+    spread = [point for point in line.points if point and (point.below or point.above)]
     if spread:
-        below, above = zip(*((point.y - point.ends[0], point.ends[1] - point.y)
-                             for point in spread))
-        axes.errorbar([point.x for point in spread], [point.y for point in spread],
-                      (below, above), fmt="none", ecolor=colour, capsize=0.3 * canvas.em)
+        at, mean, _, below, above = zip(*spread)
+        axes.errorbar(at, mean, (below, above), fmt="none", ecolor=colour,
+                      capsize=0.3 * canvas.em)
     looks = {"color": colour, "marker": MARKS[number], "fillstyle": "none" if number > 4 else None}
     if line.style in ("front", "dots"):
         looks.update(marker="o", markersize=(0.3 if line.style == "front" else 0.18) * canvas.em)

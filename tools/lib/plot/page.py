@@ -88,28 +88,26 @@ def plain(words):
 def about(point, line, measure):
     """What the pointer shows of a cache."""
     number = "{:.4g}" if measure.is_percent else "{:.10g}"
-    ends = " ({} to {})".format(*map(number.format, point.ends)) if point.ends else ""
+    ends = point.y - point.below, point.y + point.above
+    spread = " ({} to {})".format(*map(number.format, ends)) if point.below or point.above else ""
     name = f"{line.name}\n" * (line.style in ("marks", "curve", "steps") and bool(line.name))
-    return plain(f"{name}{point.told()[0]}\n{measure.up}: {number.format(point.y)}{ends}")
+    return plain(f"{name}{point.told()[0]}\n{measure.up}: {number.format(point.y)}{spread}")
 
 
 def trace(number, line, colour, up, measure, mono):
     """A line of a picture as plotly has it. None cuts it."""
-    some, is_area = line.points, line.style == "area"
+    some, is_area = pictures.standing(line, up).points, line.style == "area"
     given = {"x": [point and point.x for point in some],
-             "y": [point and point.y for point in pictures.standing(line, up).points],
-             "name": plain(line.name),
-             "hovertext": [point and about(point, line, measure) for point in some],
+             "y": [point and point.y for point in some], "name": plain(line.name),
+             "hovertext": [point and about(point, line, measure) for point in line.points],
              "hoverinfo": "text", "showlegend": bool(line.name)}
     if line.style == "bar":
         return graph_objects.Bar(given, marker={"color": colour, "line": EDGE})
-    if any(point and point.ends for point in some):
-        ends = [(point.ends or (point.y, point.y)) if point else (0, 0)
-                for point in pictures.standing(line, up).points]
+    if any(point and (point.below or point.above) for point in some):
         given["error_y"] = {
             "type": "data", "symmetric": False, "color": colour, "thickness": 1,
-            "array": [point and end[1] - point.y for end, point in zip(ends, some)],
-            "arrayminus": [point and point.y - end[0] for end, point in zip(ends, some)]}
+            "array": [point and point.above for point in some],
+            "arrayminus": [point and point.below for point in some]}
     if is_area:
         given.update(fill="tozeroy", fillcolor=colour)
     is_step, is_small = line.style in ("front", "steps"), line.style in ("front", "dots", "tail")

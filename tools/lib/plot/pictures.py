@@ -1,5 +1,6 @@
 """What tools/plot draws, on whatever it draws it: lines, points, their axes and ticks."""
 
+import functools
 import math
 import re
 import textwrap
@@ -21,9 +22,9 @@ GREYS = ("#f4f4f4", "#dcdcdc", "#c0c0c0", "#a2a2a2", "#848484", "#606060", "#202
 DIGITS = ((0.0457, "123456789"), (0.1461, "12357"), (0.176, "1235"), (0.301, "125"), (0.477, "13"))
 CELLS = {"curve": (1000, 500), "dots": (400, 200)}  # columns and rows of what can be seen
 PALE, FRONT, BLACK = "#bbbbbb", "#d55e00", "#000000"
-# a cache in a picture: its place, ends over several seeds, and a function of what is said of it and
-# its label, which few of a million are asked for
-Point = namedtuple("Point", "x y told ends", defaults=((),))
+# a cache in a picture: its place, a function of what is said of it and its label, which few of a
+# million are asked for, and how far the least and the greatest of several seeds are below and above
+Point = namedtuple("Point", "x y told below above", defaults=(0, 0))
 
 
 class Line(namedtuple("Line", "name points style", defaults=("marks",))):
@@ -121,12 +122,8 @@ def counted(number, what, text=str):
     return f"1 {what}" if number == 1 else f"{text(number)} {what}s"
 
 
-def ways_text(ways):
-    return counted(ways, "way")
-
-
-def bytes_text(size):
-    return counted(size, "byte", short)
+ways_text = functools.partial(counted, what="way")
+bytes_text = functools.partial(counted, what="byte", text=short)
 
 
 def nearest(values, wanted):
@@ -194,7 +191,7 @@ def log_axis(values, closest, most):
 def value_axis(pictures, measure, closest):
     """The axis of the measure: logarithmic if the greatest is at least five times the least."""
     values = [value for picture in pictures for point in picture.points
-              for value in (point.y, *point.ends)]
+              for value in (point.y, point.y - point.below, point.y + point.above)]
     for picture in pictures:
         if picture.names:
             values += map(sum, zip(*([point.y for point in line.points] for line in picture.lines)))
@@ -241,6 +238,6 @@ def seen(line, across, up):
 
 def standing(line, up):
     """A line whose zeros are at the foot of a logarithmic axis."""
-    return line._replace(points=[point and point._replace(
-        y=point.y or up.foot, ends=tuple(end or up.foot for end in point.ends))
+    return line if not up.foot else line._replace(points=[point and point._replace(
+        y=point.y or up.foot, below=min(point.below, (point.y or up.foot) - up.foot))
         for point in line.points])
