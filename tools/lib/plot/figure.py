@@ -6,7 +6,6 @@ import io
 import logging
 import math
 import os
-import re
 import shutil
 import site
 import textwrap
@@ -47,6 +46,7 @@ finally:
 MARKS = "os^vDos"
 DASHES = ("-", (0, (5, 2)), (0, (1, 1.5)), (0, (5, 1.5, 1, 1.5)), (0, (9, 3)), (0, (3, 1.5)),
           (0, (5, 1.5, 1, 1.5, 1, 1.5)))
+EDGE = {"edgecolor": pictures.BLACK, "linewidth": 0.5}  # of areas and bars
 LETTER, LINE = 0.6, 1.25  # the width of a letter and the height of a line, by the type's size
 LEAST = 36, 11  # letters and lines that a picture needs
 # the first that has a letter draws it
@@ -65,10 +65,10 @@ SCALED = ("lines.linewidth", "lines.markersize", "axes.linewidth", "grid.linewid
               "major.size", "minor.size", "major.width", "minor.width", "major.pad")))
 UNDATED = {".svg": {"metadata": {"Date": None}}, ".pdf": {"metadata": {"CreationDate": None}}}
 # the letters that LaTeX takes for something else
-LATEX = {**{letter: f"\\{letter}" for letter in "#$%&_{}"}, "-": "-{}", **{
+LATEX = str.maketrans({**{letter: f"\\{letter}" for letter in "#$%&_{}"}, "-": "-{}", **{
     letter: f"\\text{name}{{}}" for letter, name in {
         "\\": "backslash", "~": "asciitilde", "^": "asciicircum", "<": "less", ">": "greater",
-        "'": "quotesingle", "`": "asciigrave", '"': "quotedbl", "|": "bar"}.items()}}
+        "'": "quotesingle", "`": "asciigrave", '"': "quotedbl", "|": "bar"}.items()}})
 
 
 class Canvas:
@@ -117,8 +117,7 @@ class Canvas:
     def text(self, words):
         """A text as it is drawn, which is text whatever its letters."""
         words = pictures.printable(words)
-        return words if self.ending != ".pgf" else re.sub(
-            ".", lambda found: LATEX.get(found[0], found[0]), words)
+        return words.translate(LATEX) if self.ending == ".pgf" else words
 
 
 def draw_line(canvas, axes, number, line, colour, x, y):
@@ -136,32 +135,27 @@ def draw_line(canvas, axes, number, line, colour, x, y):
     if line.style in ("curve", "tail"):
         looks["marker"] = ""
     dash = DASHES[number] if canvas.mono and line.style not in ("front", "tail") else "-"
-    return axes.plot(x, y, linestyle="" if line.style == "dots" else dash, **looks)[0]
-
-
-def draw_area(canvas, axes, _, __, colour, x, y):
-    """An area from 0 on the earlier ones, with an edge; of a single size a mark."""
-    axes.plot(x, y, color=pictures.BLACK, linewidth=0.05 * canvas.em, zorder=2.5, label="_",
-              marker="o" if len(x) == 1 else "")
-    return axes.fill_between(x, y, facecolor=colour, edgecolor=pictures.BLACK, linewidth=0.5)
-
-
-def draw_bar(_, axes, __, ___, colour, x, y):
-    """Bars on those of the lines before."""
-    feet = [sum(patches[at].get_height() for patches in axes.containers) for at in x]
-    return axes.bar(x, y, 0.7, feet, color=colour, edgecolor=pictures.BLACK, linewidth=0.5)
+    return axes.plot(x, y, linestyle="" if line.style == "dots" else dash, **looks)
 
 
 def draw(canvas, axes, picture, across, up):
-    """All lines of a picture, for its legend those with a name. Each has one in an SVG."""
+    """All lines of a picture, areas on the earlier ones and bars on top of them; for its legend
+    those with a name. Each has one in an SVG."""
     named = []
     for number, (line, colour) in enumerate(picture.coloured(canvas.mono)):
         line = pictures.standing(pictures.seen(line, across, up), up)
         x, y = zip(*[point[:2] if point else (math.nan, math.nan) for point in line.points])
-        drawn = {"area": draw_area, "bar": draw_bar}.get(line.style, draw_line)(
-            canvas, axes, number, line, colour, x, y)
-        named += [drawn] * bool(line.name)
-        for artist in drawn if line.style == "bar" else [drawn]:
+        if line.style == "bar":
+            feet = [sum(patches[at].get_height() for patches in axes.containers) for at in x]
+            drawn = axes.bar(x, y, 0.7, feet, color=colour, **EDGE)
+        elif line.style == "area":  # its edge is seen above all areas, of a single size as a mark
+            drawn = [axes.fill_between(x, y, facecolor=colour, **EDGE)]
+            axes.plot(x, y, color=pictures.BLACK, linewidth=0.05 * canvas.em, zorder=2.5,
+                      marker="o" if len(x) == 1 else "")
+        else:
+            drawn = draw_line(canvas, axes, number, line, colour, x, y)
+        named += drawn[:1] * bool(line.name)
+        for artist in drawn:
             artist.set_gid(f"{picture.name}_{number + 1}")
     return named
 

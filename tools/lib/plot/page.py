@@ -153,7 +153,7 @@ def figure(picture, up, measure, mono):
         legend_title={"text": picture.legend, "font": {"size": 14}})
 
 
-def section(picture, made):
+def section(picture, up, measure, mono):
     """The part of the page for a picture, with the menu of what it may fix."""
     menu = ""
     if len(picture.offered) > 1:
@@ -163,8 +163,9 @@ def section(picture, made):
                           for fixed, one in picture.offered.items())
         menu = (f"<label>{word} <select name={name} data-for={picture.name}>{options}</select>"
                 "</label>")
-    shown = made.to_html(full_html=False, include_plotlyjs=False, default_height="440px",
-                         config={"responsive": True, "displaylogo": False})
+    shown = figure(picture, up, measure, mono).to_html(
+        full_html=False, include_plotlyjs=False, default_height="440px",
+        config={"responsive": True, "displaylogo": False})
     return (f"<section>\n<h2>{html.escape(picture.title)}</h2>\n{menu}\n"
             f"{UUID.sub(picture.name, shown)}\n</section>\n")
 
@@ -173,8 +174,7 @@ def page(drawn, counts, asked):
     """The page with these pictures, given for each what may be chosen instead."""
     up = pictures.value_axis([one for picture in drawn.pictures
                               for one in picture.offered.values()], drawn.measure, 0.062)
-    sections = [section(picture, figure(picture, up, drawn.measure, asked.mono))
-                for picture in drawn.pictures]
+    sections = [section(picture, up, drawn.measure, asked.mono) for picture in drawn.pictures]
     heading = html.escape(asked.title or drawn.measure.name)
     return f"""<!DOCTYPE html>
 <html lang="en">

@@ -6,9 +6,9 @@ import re
 import textwrap
 from collections import namedtuple
 
-from lib.plot import MOST_LINES
 from lib.tool import size_text
 
+MOST_LINES = 7
 SIZE = "cache size in bytes"
 BY_WAYS = "block", "traffic"  # pictures that fix the ways; others fix the block size or nothing
 NARROW = 72  # in fewer letters a legend has no room beside its picture

@@ -78,8 +78,8 @@ class Sweeps(namedtuple("Sweeps", "asked tables measure fixed", defaults=({},)))
         return self._replace(tables=tables, fixed={**self.fixed, column: value})
 
     def groups(self, column, text, least):
-        """Names and rows of lines: those of a handful of values of a column, of values that have
-        so many rows if any has; all rows if there is no column; or those of each table."""
+        """Names and rows of lines: of a handful of values of a column, those that have so many rows
+        if any has; all rows if there is no column; or those of each table."""
         if not self.is_one or not column:
             return [(given.name, given.rows) for given in self.tables]
         counts = Counter(getattr(row, column) for row in self.rows)
@@ -158,15 +158,18 @@ def points(rows, across="size", step=None, steps=()):
 
 
 def by_size(sweeps, bsize=None):
+    """At one block size, with a line for each associativity."""
     return sweeps.fix("bsize", bsize).picture("size", "bsize", "assoc", ways_text, step="sets")
 
 
 def by_block(sweeps, ways=None):
-    return sweeps.fix("assoc", ways).picture("block", "assoc", "size", short, "bsize",
-                                             "cache size", "bsize", least=2)
+    """At one associativity, with a line for each size (of several blocks, if any)."""
+    return sweeps.fix("assoc", ways).picture("block", "assoc", "size", short, across="bsize",
+                                             legend="cache size", step="bsize", least=2)
 
 
 def by_traffic(sweeps, ways=None):
+    """At one associativity, with a line for each block size."""
     return sweeps.fix("assoc", ways).picture("traffic", "assoc", "bsize", short,
                                              legend="block size", step="size")
 
@@ -256,8 +259,9 @@ def of_references(sweeps, bsize=None):
                    lines, names=[*map(short, sizes)])
 
 
-MADE = {"size": by_size, "curve": by_ways, "block": by_block, "pareto": by_front,
-        "traffic": by_traffic, "three-c": three_c, "kinds": of_references}
+# in the order in which the help names them
+MADE = {"size": by_size, "block": by_block, "pareto": by_front, "curve": by_ways,
+        "three-c": three_c, "traffic": by_traffic, "kinds": of_references}
 
 
 def offered(sweeps, name):
