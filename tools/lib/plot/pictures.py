@@ -25,13 +25,10 @@ PALE, FRONT, BLACK = "#bbbbbb", "#d55e00", "#000000"
 # a cache in a picture: its place, a function of what is said of it and its label, which few of a
 # million are asked for, and how far the least and the greatest of several seeds are below and above
 Point = namedtuple("Point", "x y told below above", defaults=(0, 0))
-
-
-class Line(namedtuple("Line", "name points style", defaults=("marks",))):
-    """A line of a picture: its name in the legend, its points, with None where it is cut, and a
-    style: `marks`; `curve` has no marks, `dots` nothing else; a `front` goes in steps, as do those
-    of several tables, `steps`, and has a `tail`; an `area` lies on the earlier ones, and a `bar`
-    stands on them."""
+# a line of a picture: its name in the legend, its points, with None where it is cut, and a style:
+# `marks`; `curve` has no marks, `dots` nothing else; a `front` goes in steps, as do the `steps` of
+# several tables, and has a `tail`; an `area` lies on the earlier ones, and a `bar` stands on them
+Line = namedtuple("Line", "name points style", defaults=("marks",))
 
 
 class Measure(namedtuple("Measure", "up name is_percent is_linear",
