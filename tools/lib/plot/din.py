@@ -36,9 +36,9 @@ def across_of(wanted, table, file):
         return wanted if wanted in numbers else fail(
             f"{file}: no option {wanted} with numbers; there are {', '.join(numbers)}")
     among = varied(table) or table.options
-    sizes, others = ([option for option in options if kind(option) in kinds] for options, kinds in (
-        (among, ("size", "sets")), (among, NUMBERS)))
-    return (sizes or others or [option for option in numbers if kind(option) in ACROSS])[-1]
+    sizes, others = ([option for option in among if kind(option) in kinds]
+                     for kinds in (("size", "sets"), NUMBERS))
+    return (sizes or others or numbers)[-1]
 
 
 def measure_of(views):
