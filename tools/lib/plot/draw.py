@@ -32,7 +32,7 @@ def write_file(out, data):
     os.umask(mask)
     with tool.faults_of(out):
         place = os.path.realpath(out)  # there may be no working folder
-        mode = os.stat(place).st_mode if os.path.exists(place) else stat.S_IFREG | 0o666 & ~mask
+        mode = os.stat(out).st_mode if os.path.exists(out) else stat.S_IFREG | 0o666 & ~mask
         if stat.S_ISREG(mode):
             files.replace(place, data, mode & 0o777)
         else:
