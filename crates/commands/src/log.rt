@@ -1,20 +1,21 @@
 //! The command `log`.
-ghost use Rattle.std.specs.Prelude.{◌≡◌, ◌≤◌, ◌+◌, ◌++◌, ℕ, List};
+ghost use Rattle.std.specs.Prelude.{◌≡◌, ◌≤◌, ◌<◌, ◌+◌, ◌++◌, ◌∷◌, [], ℕ, List};
 ghost use Rattle.trace_core.specs.declared.events.Event.{Event};
+ghost use Rattle.trace_core.specs.declared.events.Event.TheVariants as event;
 ghost use Rattle.trace_core.specs.Events.{events_of};
 ghost use Rattle.trace_core.specs.Task.{Performs};
 ghost use Rattle.cache_core.specs.declared.system.TheConstants.{MAX_STEPS};
-ghost use Rattle.cache_core.specs.system.Arrivals.{arrivals_from};
+ghost use Rattle.cache_core.specs.system.Arrivals.{arrivals_from, arrivals_of, Saw};
 ghost use Rattle.cache_core.specs.system.Plans.{PlannedCaches, IsPlan};
 ghost use Rattle.cache_core.specs.system.SystemStands.{SystemStandsFor};
 ghost use Rattle.commands.specs.LogText.{arrival_lines, log_task};
 
 use crate::log_text::LogText;
 use crate::text::write_last;
-use cache_core::{Plan, System};
+use cache_core::{MAX_ARRIVALS, Observer, Plan, System};
 use std::alloc::Global;
 use trace_core::{
-    Entry, Format, Kind, Lines, MAX_LINES, RunFault, Sink, Source, refs_of, write_all,
+    Entry, Format, Kind, Lines, MAX_LINES, Ref, RunFault, Sink, Source, refs_of, write_all,
 };
 
 /// Runs a trace through the caches of a plan, and writes the lines of the arrivals of each entry as
@@ -65,11 +66,30 @@ fn step(system: &mut System, entry: Entry, log: &mut LogText)
     match entry {
         Entry::Item(item) => {
             let (first, second) = refs_of(item);
-            system.step_observed(first, log);
+            step_one(system, first, log);
             if let Some(second) = second {
-                system.step_observed(second, log);
+                step_one(system, second, log);
             }
         }
         Entry::Flush => system.flush_observed(log),
     }
+}
+
+/// Steps the caches through a reference, and adds the lines of its arrivals. It is a function of
+/// its own, so that the code for the rest of an entry is small enough to be inlined.
+#[inline(never)]
+fn step_one(system: &mut System, reference: Ref, log: &mut LogText)
+    requires steps { system.old.steps < MAX_STEPS }
+    requires room { MAX_ARRIVALS ≤ ⟦<LogText as Observer>⟧.room log.old }
+    ensures stands { (plan : PlannedCaches) (seed : ℕ) (events : List Event) → IsPlan plan →
+        SystemStandsFor plan seed events system.old →
+        SystemStandsFor plan seed (events ++ event.Reference reference ∷ []) system.new }
+    ensures seen { (plan : PlannedCaches) (seed : ℕ) (events : List Event) → IsPlan plan →
+        SystemStandsFor plan seed events system.old → Saw ⟦<LogText as Observer>⟧.has_seen log.old
+        (arrivals_of plan seed events (event.Reference reference)) log.new }
+    ensures steps { system.new.steps ≡ system.old.steps + 1 }
+    ensures room { ⟦<LogText as Observer>⟧.room log.old
+        ≤ ⟦<LogText as Observer>⟧.room log.new + MAX_ARRIVALS }
+{
+    system.step_observed(reference, log);
 }

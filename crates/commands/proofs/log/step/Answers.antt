@@ -8,15 +8,15 @@ use Rattle.commands.proofs.log.step.Goals as goal
 
 pub returns-in-Some : goal.returns-in-Some
 returns-in-Some c = λ plan seed events good stands.
-    let first = c.step_observed.ensures in
-    let second = c.step_observed-in-Some.ensures in
+    let first = c.step_one.ensures in
+    let second = c.step_one-in-Some.ensures in
     logged_both has plan seed events good stands c.clear.ensures
     (two_events All c.in-Item.is c.refs_of-second.ensures c.in-Some.is) first.stands second.stands
     (first.seen plan seed events good stands) (λ middle. second.seen plan seed _ good middle)
 
 pub returns-in_default : goal.returns-in_default
 returns-in_default c = λ plan seed events good stands.
-    let one = c.step_observed.ensures in
+    let one = c.step_one.ensures in
     logged_one has plan seed events good stands c.clear.ensures
     (one_event All c.in-Item.is c.refs_of-second.ensures c.in_default.is)
     (one.stands plan seed events good stands) (one.seen plan seed events good stands)
