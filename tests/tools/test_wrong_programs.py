@@ -146,9 +146,9 @@ class Fuzz(Wrong):
         words = "-l1-usets 2 -l1-ubsize 16 -l1-uassoc 128 -l1-urepl".split()
         for command, step, kinds in (
             (["din", *words, "f"], 3, {("din", "policy", "f"), ("din", "step", 3)}),
-            (["log", *words, "r"], 126_543, {("log", "policy", "r"), ("log", "step", 126_543)}),
+            (["log", *words, "r"], 570_123, {("log", "policy", "r"), ("log", "step", 570_123)}),
             (["din", *words[:5], "8"], 1024, {("din", "step", 1)}),
-            (["csim", *"-s 1 -E 17 -b 4 -t x".split()], 774_080, {("csim", "step", 12_095)}),
+            (["csim", *"-s 1 -E 17 -b 4 -t x".split()], 130_064, {("csim", "step", 8_129)}),
             (["sweep", *"--bsize 16-64 --sets 2 --assoc 17 --size 0-1g".split()], 7, set()),
         ):
             line = " L {:x},1\n" if command[0] == "csim" else "0 {:x}\n"
