@@ -1,4 +1,4 @@
-#   make                        proves and builds the program (8 minutes on four processors), and
+#   make                        proves and builds the program (40 minutes on four processors), and
 #                               says where it is
 #   make demo                   sweeps an example; without a proved program by 'rt try', which takes
 #                               a minute, proves nothing and does not keep its program
