@@ -47,15 +47,17 @@ fn count_followers(profile: &Profile, others: &[PairProfile]) -> usize
     count
 }
 
-/// The block bits of the smallest blocks that some profiles have.
-pub(crate) fn finest_bits(profiles: &[PairProfile]) -> u64
-    ensures { result ≡ finest_bits profiles.now }
+/// The size of the smallest blocks that some profiles have, in bytes. It is not inlined, since the
+/// compiler would make shifts of the comparisons with it.
+#[inline(never)]
+pub(crate) fn finest_size(profiles: &[PairProfile]) -> u64
+    ensures { result ≡ 2 ^ finest_bits profiles.now }
 {
     let mut bits = MAX_BITS;
     for pair in profiles {
         bits = bits.min(pair.profile.block_bits());
     }
-    bits
+    1 << bits
 }
 
 /// Feeds the first `count` of some references to each profile, except those that find their block

@@ -6,12 +6,11 @@ ghost use Rattle.sweep_core.specs.internal.Pass.{pair_after_flush};
 ghost use Rattle.sweep_core.specs.internal.Pass.{kept_events, profiles_after, state_after, Feeds};
 ghost use Rattle.sweep_core.specs.internal.Feeding.{HaveFollowers, IsFresh};
 ghost use Rattle.sweep_core.specs.internal.Feeding.{profiles_after_batch, profiles_with_fronts};
-ghost use Rattle.sweep_core.specs.internal.Waiting.{AreWaiting, AreNoFiner};
+ghost use Rattle.sweep_core.specs.internal.Waiting.{AreWaiting, AreNoSmaller};
 
 use crate::batch::Batch;
-use crate::feeding::{catch_up, finest_bits};
+use crate::feeding::{catch_up, finest_size};
 use crate::profiles::PairProfile;
-use cache_core::MAX_BITS;
 use profile_core::MAX_REFERENCES;
 use trace_core::{Entry, Kind, Lines, Ref, Source, TraceFault, refs_of};
 
@@ -26,50 +25,47 @@ pub(crate) fn read_trace<S: Source>(
     batch: &mut Batch,
 ) -> Result<(), TraceFault>
     requires begun { lines.old ≡ new_progress lines.old.format lines.old.limit }
-    requires empty { batch.old ≡ [] }
+    requires empty { batch.old ≡ record { waiting = []; added = 0 } }
     requires fresh { AllByRecursion IsFresh profiles.old }
     requires followers { HaveFollowers profiles.old }
     ensures fed { Feeds kind lines.old.format lines.old.limit
         (S.view source.old) (S.view source.new) lines.new profiles.old profiles.new }
     ensures reports { lines.new.state ≡ state_after result }
 {
-    let mut fed = 0;
-    let read = read_entries(lines, kind, source, profiles, batch, &mut fed);
+    let read = read_entries(lines, kind, source, profiles, batch);
     batch.feed(profiles);
-    catch_up(profiles, fed);
+    catch_up(profiles, batch.added());
     read
 }
 
 /// Reads a trace as `read_trace` does, but leaves the last references in the batch, and does not
-/// count those that a profile need not be fed. `fed` becomes the number of all references.
+/// count those that a profile need not be fed.
 fn read_entries<S: Source>(
     lines: &mut Lines,
     kind: Kind,
     source: &mut S,
     profiles: &mut [PairProfile],
     batch: &mut Batch,
-    fed: &mut u64,
 ) -> Result<(), TraceFault>
-    requires none { fed.old ≡ 0 }
-    requires empty { batch.old ≡ [] }
+    requires empty { batch.old ≡ record { waiting = []; added = 0 } }
     requires begun { lines.old ≡ new_progress lines.old.format lines.old.limit }
     requires fresh { AllByRecursion IsFresh profiles.old }
     requires followers { HaveFollowers profiles.old }
     ensures fed { Feeds kind lines.old.format lines.old.limit (S.view source.old)
         (S.view source.new) lines.new profiles.old
-        (profiles_with_fronts fed.new (profiles_after_batch batch.new profiles.new)) }
+        (profiles_with_fronts batch.new.added (profiles_after_batch batch.new.waiting profiles.new)) }
     ensures reports { lines.new.state ≡ state_after result }
-    ensures waiting { AreWaiting fed.new batch.new profiles.new }
-    ensures few { fed.new ≤ MAX_REFERENCES }
+    ensures waiting { AreWaiting batch.new.added batch.new.waiting profiles.new }
+    ensures few { batch.new.added ≤ MAX_REFERENCES }
 {
-    let bits = finest_bits(profiles);
+    let size = finest_size(profiles);
     while let Some((_, entry)) = lines.next(source)? {
         match entry {
             Entry::Item(item) => {
                 let (first, second) = refs_of(item);
-                feed_kept(profiles, batch, bits, kind, first, fed);
+                feed_kept(profiles, batch, size, kind, first);
                 if let Some(second) = second {
-                    feed_kept(profiles, batch, bits, kind, second, fed);
+                    feed_kept(profiles, batch, size, kind, second);
                 }
             }
             Entry::Flush => {
@@ -81,34 +77,26 @@ fn read_entries<S: Source>(
     Ok(())
 }
 
-/// If a reference is of a kind, adds it to the batch, and to the count `fed`. If the batch is full,
-/// its references are fed first. `bits` are the block bits of the smallest blocks.
+/// If a reference is of a kind, adds it to the batch. If the batch is full, its references are fed
+/// first. `size` is that of the smallest blocks.
 #[inline(always)]
-fn feed_kept(
-    profiles: &mut [PairProfile],
-    batch: &mut Batch,
-    bits: u64,
-    kind: Kind,
-    reference: Ref,
-    fed: &mut u64,
-)
-    requires few { fed.old < MAX_REFERENCES }
-    requires waiting { AreWaiting fed.old batch.old profiles.old }
-    requires small { bits ≤ MAX_BITS }
-    requires finest { AreNoFiner bits profiles.old }
-    ensures caught { profiles_with_fronts fed.new (profiles_after_batch batch.new profiles.new)
+fn feed_kept(profiles: &mut [PairProfile], batch: &mut Batch, size: u64, kind: Kind, reference: Ref)
+    requires few { batch.old.added < MAX_REFERENCES }
+    requires waiting { AreWaiting batch.old.added batch.old.waiting profiles.old }
+    requires finest { AreNoSmaller size profiles.old }
+    ensures caught { profiles_with_fronts batch.new.added
+        (profiles_after_batch batch.new.waiting profiles.new)
         ≡ profiles_after (kept_events kind (reference ∷ []))
-        (profiles_with_fronts fed.old (profiles_after_batch batch.old profiles.old)) }
-    ensures waiting { AreWaiting fed.new batch.new profiles.new }
-    ensures finest { AreNoFiner bits profiles.new }
-    ensures more { fed.new ≤ fed.old + 1 }
+        (profiles_with_fronts batch.old.added (profiles_after_batch batch.old.waiting profiles.old)) }
+    ensures waiting { AreWaiting batch.new.added batch.new.waiting profiles.new }
+    ensures finest { AreNoSmaller size profiles.new }
+    ensures more { batch.new.added ≤ batch.old.added + 1 }
 {
     if kind.keeps(reference.access) {
         if batch.is_full() {
             batch.feed(profiles);
         }
-        batch.push(reference.addr, bits);
-        *fed += 1;
+        batch.push(reference.addr, size);
     }
 }
 

@@ -123,6 +123,10 @@ with_waiting_ref bits refs r = if repeats_last bits refs r then refs else refs +
 abbrev pub AreNoFinerFull : ℕ → List FullPair → Type 0
 AreNoFinerFull bits xs = AllByRecursion (λ x. bits ≤ x.profile.plain.geometry.b) xs
 
+-- no block of some profiles is smaller than this size, a power of two
+abbrev pub AreNoSmallerFull : ℕ → List FullPair → Type 0
+AreNoSmallerFull size xs = (bits : ℕ) × (size ≡ 2 ^ bits) × AreNoFinerFull bits xs
+
 -- the block bits of the smallest blocks that some profiles have
 abbrev pub finest_full_bits : List FullPair → ℕ
 finest_full_bits xs = fold (λ bits x. min bits x.profile.plain.geometry.b) 20 xs

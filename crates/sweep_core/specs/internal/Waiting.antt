@@ -1,9 +1,15 @@
 -- References that wait to be fed.
-use Rattle.std.specs.Prelude.{ℕ, Bool, ◌==◌, ◌&&◌, nat_lt, ◌≤◌, ◌-◌, ◌/◌, ◌^◌, min, fold}
+use Rattle.std.specs.Prelude.{◌≡◌, ℕ, Bool, ◌==◌, ◌&&◌, nat_lt, ◌≤◌, ◌-◌, ◌/◌, ◌^◌, min, fold}
 use Rattle.std.specs.Prelude.{List, [], ◌∷◌, ◌++◌, length, if◌then◌else◌, slice_index_or}
 use Rattle.std.specs.List.{AllByRecursion}
 use Rattle.sweep_core.specs.declared.profiles.PairProfile.{PairProfile}
 use Rattle.sweep_core.specs.internal.Feeding.{AreAlwaysBehind}
+
+-- a batch of references: those that wait, and how many were added to it so far, with those that need
+-- not wait
+pub record Batched (A : Type 0) : Type 0 where
+  pub waiting : List A
+  pub added : ℕ
 
 -- whether an address lies in the same block of 2^bits bytes as the last of some others
 abbrev pub is_in_last_block : ℕ → List ℕ → ℕ → Bool
@@ -19,6 +25,10 @@ with_waiting bits addrs addr =
 -- no block of some profiles is smaller than 2^bits bytes
 abbrev pub AreNoFiner : ℕ → List PairProfile → Type 0
 AreNoFiner bits xs = AllByRecursion (λ x. bits ≤ x.profile.geometry.b) xs
+
+-- no block of some profiles is smaller than this size, a power of two
+abbrev pub AreNoSmaller : ℕ → List PairProfile → Type 0
+AreNoSmaller size xs = (bits : ℕ) × (size ≡ 2 ^ bits) × AreNoFiner bits xs
 
 -- the block bits of the smallest blocks that some profiles have
 abbrev pub finest_bits : List PairProfile → ℕ

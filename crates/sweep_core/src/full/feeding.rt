@@ -2,7 +2,7 @@
 //! each that refines it. So a profile that refines the one before it is given only what that one
 //! left, and the two are fed together. No count changes, since what is settled is counted at the
 //! end.
-ghost use Rattle.std.specs.Prelude.{◌≡◌, ◌+◌, ◌<◌, ◌≤◌, length, take, drop};
+ghost use Rattle.std.specs.Prelude.{◌≡◌, ◌+◌, ◌^◌, ◌<◌, ◌≤◌, length, take, drop};
 ghost use Rattle.std.specs.List.{AllByRecursion};
 ghost use Rattle.profile_core.specs.profile.State.{fed_of};
 ghost use Rattle.sweep_core.specs.internal.Full.{WereFedAlike, FedFullAtMost, full_pairs_fed};
@@ -14,15 +14,17 @@ use cache_core::MAX_BITS;
 use profile_core::MAX_REFERENCES;
 use trace_core::Ref;
 
-/// The block bits of the smallest blocks that some profiles have.
-pub(crate) fn finest_full_bits(profiles: &[FullPair]) -> u64
-    ensures { result ≡ finest_full_bits profiles.now }
+/// The size of the smallest blocks that some profiles have, in bytes. It is not inlined, since the
+/// compiler would make shifts of the comparisons with it.
+#[inline(never)]
+pub(crate) fn finest_full_size(profiles: &[FullPair]) -> u64
+    ensures { result ≡ 2 ^ finest_full_bits profiles.now }
 {
     let mut bits = MAX_BITS;
     for pair in profiles {
         bits = bits.min(pair.profile.block_bits());
     }
-    bits
+    1 << bits
 }
 
 /// Feeds the first `count` of some references to each profile, except those that are settled there.

@@ -6,12 +6,11 @@ ghost use Rattle.trace_core.specs.Reader.{new_progress};
 ghost use Rattle.sweep_core.specs.internal.Pass.{kept_events, state_after};
 ghost use Rattle.sweep_core.specs.internal.Full.{full_pair_flushed, full_pairs_after, FeedsFull};
 ghost use Rattle.sweep_core.specs.internal.Full.{full_pairs_fed, full_pairs_caught, IsNewPair};
-ghost use Rattle.sweep_core.specs.internal.Full.{FullWaiting, AreNoFinerFull, EndsFull};
+ghost use Rattle.sweep_core.specs.internal.Full.{FullWaiting, AreNoSmallerFull, EndsFull};
 
 use crate::full::batch::FullBatch;
-use crate::full::feeding::{end_full, finest_full_bits};
+use crate::full::feeding::{end_full, finest_full_size};
 use crate::full::profiles::FullPair;
-use cache_core::MAX_BITS;
 use profile_core::MAX_REFERENCES;
 use trace_core::{Entry, Kind, Lines, Ref, Source, TraceFault, refs_of};
 
@@ -26,48 +25,45 @@ pub(crate) fn read_full<S: Source>(
     batch: &mut FullBatch,
 ) -> Result<(), TraceFault>
     requires begun { lines.old ≡ new_progress lines.old.format lines.old.limit }
-    requires empty { batch.old ≡ [] }
+    requires empty { batch.old ≡ record { waiting = []; added = 0 } }
     requires fresh { AllByRecursion IsNewPair profiles.old }
     ensures fed { EndsFull kind lines.old.format lines.old.limit
         (S.view source.old) (S.view source.new) lines.new profiles.old profiles.new }
     ensures reports { lines.new.state ≡ state_after result }
 {
-    let mut fed = 0;
-    let read = read_full_entries(lines, kind, source, profiles, batch, &mut fed);
+    let read = read_full_entries(lines, kind, source, profiles, batch);
     batch.feed(profiles);
-    end_full(profiles, fed);
+    end_full(profiles, batch.added());
     read
 }
 
 /// Reads a trace as `read_full` does, but leaves the last references in the batch, and does not
-/// count those that a profile need not be fed. `fed` becomes the number of all references.
+/// count those that a profile need not be fed.
 fn read_full_entries<S: Source>(
     lines: &mut Lines,
     kind: Kind,
     source: &mut S,
     profiles: &mut [FullPair],
     batch: &mut FullBatch,
-    fed: &mut u64,
 ) -> Result<(), TraceFault>
-    requires none { fed.old ≡ 0 }
-    requires empty { batch.old ≡ [] }
+    requires empty { batch.old ≡ record { waiting = []; added = 0 } }
     requires begun { lines.old ≡ new_progress lines.old.format lines.old.limit }
     requires fresh { AllByRecursion IsNewPair profiles.old }
     ensures fed { FeedsFull kind lines.old.format lines.old.limit (S.view source.old)
         (S.view source.new) lines.new profiles.old
-        (full_pairs_caught fed.new (full_pairs_fed batch.new profiles.new)) }
+        (full_pairs_caught batch.new.added (full_pairs_fed batch.new.waiting profiles.new)) }
     ensures reports { lines.new.state ≡ state_after result }
-    ensures waiting { FullWaiting fed.new batch.new profiles.new }
-    ensures few { fed.new ≤ MAX_REFERENCES }
+    ensures waiting { FullWaiting batch.new.added batch.new.waiting profiles.new }
+    ensures few { batch.new.added ≤ MAX_REFERENCES }
 {
-    let bits = finest_full_bits(profiles);
+    let size = finest_full_size(profiles);
     while let Some((_, entry)) = lines.next(source)? {
         match entry {
             Entry::Item(item) => {
                 let (first, second) = refs_of(item);
-                feed_full_kept(profiles, batch, bits, kind, first, fed);
+                feed_full_kept(profiles, batch, size, kind, first);
                 if let Some(second) = second {
-                    feed_full_kept(profiles, batch, bits, kind, second, fed);
+                    feed_full_kept(profiles, batch, size, kind, second);
                 }
             }
             Entry::Flush => {
@@ -79,34 +75,32 @@ fn read_full_entries<S: Source>(
     Ok(())
 }
 
-/// If a reference is of a kind, adds it to the batch, and to the count `fed`. If the batch is full,
-/// its references are fed first. `bits` are the block bits of the smallest blocks.
+/// If a reference is of a kind, adds it to the batch. If the batch is full, its references are fed
+/// first. `size` is that of the smallest blocks.
 #[inline(always)]
 fn feed_full_kept(
     profiles: &mut [FullPair],
     batch: &mut FullBatch,
-    bits: u64,
+    size: u64,
     kind: Kind,
     reference: Ref,
-    fed: &mut u64,
 )
-    requires few { fed.old < MAX_REFERENCES }
-    requires waiting { FullWaiting fed.old batch.old profiles.old }
-    requires small { bits ≤ MAX_BITS }
-    requires finest { AreNoFinerFull bits profiles.old }
-    ensures caught { full_pairs_caught fed.new (full_pairs_fed batch.new profiles.new)
+    requires few { batch.old.added < MAX_REFERENCES }
+    requires waiting { FullWaiting batch.old.added batch.old.waiting profiles.old }
+    requires finest { AreNoSmallerFull size profiles.old }
+    ensures caught { full_pairs_caught batch.new.added
+        (full_pairs_fed batch.new.waiting profiles.new)
         ≡ full_pairs_after (kept_events kind (reference ∷ []))
-        (full_pairs_caught fed.old (full_pairs_fed batch.old profiles.old)) }
-    ensures waiting { FullWaiting fed.new batch.new profiles.new }
-    ensures finest { AreNoFinerFull bits profiles.new }
-    ensures more { fed.new ≤ fed.old + 1 }
+        (full_pairs_caught batch.old.added (full_pairs_fed batch.old.waiting profiles.old)) }
+    ensures waiting { FullWaiting batch.new.added batch.new.waiting profiles.new }
+    ensures finest { AreNoSmallerFull size profiles.new }
+    ensures more { batch.new.added ≤ batch.old.added + 1 }
 {
     if kind.keeps(reference.access) {
         if batch.is_full() {
             batch.feed(profiles);
         }
-        batch.push(reference, bits);
-        *fed += 1;
+        batch.push(reference, size);
     }
 }
 

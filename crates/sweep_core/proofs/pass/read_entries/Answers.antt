@@ -7,29 +7,29 @@ use Rattle.trace_core.proofs.WholeTraces.{holds-less, reads-end, reads-fault, re
 use Rattle.trace_core.proofs.WholeTraces.{reads-none}
 use Rattle.sweep_core.specs.internal.Pass.{profiles_after, pair_after_flush}
 use Rattle.sweep_core.specs.internal.Feeding.{profiles_with_fronts, FedAtMost, profiles_after_batch}
-use Rattle.sweep_core.specs.internal.Waiting.{AreWaiting, AreNoFiner}
+use Rattle.sweep_core.specs.internal.Waiting.{AreWaiting, AreNoFiner, finest_bits}
 use Rattle.sweep_core.proofs.Passes.{all_after-nil, all_after-append, fed-both, fed-more, fed-one}
 use Rattle.sweep_core.proofs.Catching.{fresh-few, caught-none, caught-flush, few-flush}
 use Rattle.sweep_core.proofs.Waiting.{fed-nil, waiting-none, waiting-behind, waiting-few}
 use Rattle.sweep_core.proofs.Waiting.{waiting-led}
-use Rattle.sweep_core.proofs.Repeated.{finest-small, finest-finer, no-finer-fed, no-finer-flushed}
+use Rattle.sweep_core.proofs.Repeated.{finest-finer, no-finer-fed, no-finer-flushed}
 use Rattle.sweep_core.proofs.pass.read_entries.Goals as goal
 
 pub loop-entry-init : goal.loop-entry-init
 loop-entry-init g c =
     let xs = c.args.profiles.now in
-    let caught : profiles_with_fronts c.args.fed.now xs ≡ profiles_after [] xs =
-    ap (λ n. profiles_with_fronts n xs) c.requires.none ∙ caught-none xs ∙ sym (all_after-nil xs) in
-    let few = subst (λ n. FedAtMost n xs) (sym c.requires.none) (fresh-few xs c.requires.fresh) in (
+    let caught : profiles_with_fronts 0 xs ≡ profiles_after [] xs = caught-none xs ∙
+    sym (all_after-nil xs) in (
       reads-none (g.S.Source.view c.args.source.now) c.requires.begun (
-        ap (λ l. profiles_with_fronts c.args.fed.now (profiles_after_batch l xs)) c.requires.empty ∙
-            ap (profiles_with_fronts c.args.fed.now) (fed-nil xs) ∙ caught,
-        subst (λ l. AreWaiting c.args.fed.now l xs) (sym c.requires.empty)
-            (waiting-none c.args.fed.now [] xs xs c.requires.fresh c.requires.followers caught few),
-        omega (arith, c.requires.none),
+        ap (λ b. profiles_with_fronts b.added (profiles_after_batch b.waiting xs))
+            c.requires.empty ∙ ap (profiles_with_fronts 0) (fed-nil xs) ∙ caught,
+        subst (λ b. AreWaiting b.added b.waiting xs) (sym c.requires.empty)
+            (waiting-none 0 [] xs xs c.requires.fresh c.requires.followers caught
+            (fresh-few xs c.requires.fresh)),
+        omega (arith, ap (λ b. b.added) c.requires.empty),
       ),
       omega (arith, ap (λ p. p.lines) c.requires.begun),
-      subst (λ n. AreNoFiner n xs) (sym c.finest_bits-bits.ensures) (finest-finer xs),
+      (finest_bits xs, c.finest_size-size.ensures, finest-finer xs),
     )
 
 pub loop-entry-preserved-in-Some-second : goal.loop-entry-preserved-in-Some-second
@@ -38,12 +38,12 @@ loop-entry-preserved-in-Some-second g c =
     let es = entries_of so_far.read in
     let first = c.feed_kept.ensures in
     let second = c.feed_kept-in-Some-second.ensures in
-    let old = profiles_with_fronts c.loop-entry.fed
-    (profiles_after_batch c.loop-entry.batch c.loop-entry.profiles) in
-    let mid = profiles_with_fronts c.feed_kept.new.fed
-    (profiles_after_batch c.feed_kept.new.batch c.feed_kept.new.profiles) in
-    let new = profiles_with_fronts c.feed_kept-in-Some-second.new.fed
-    (profiles_after_batch c.feed_kept-in-Some-second.new.batch
+    let old = profiles_with_fronts c.loop-entry.batch.added
+    (profiles_after_batch c.loop-entry.batch.waiting c.loop-entry.profiles) in
+    let mid = profiles_with_fronts c.feed_kept.new.batch.added
+    (profiles_after_batch c.feed_kept.new.batch.waiting c.feed_kept.new.profiles) in
+    let new = profiles_with_fronts c.feed_kept-in-Some-second.new.batch.added
+    (profiles_after_batch c.feed_kept-in-Some-second.new.batch.waiting
     c.feed_kept-in-Some-second.new.profiles) in
     let fed = fed-both profiles_after all_after-append c.args.kind old mid new c.in-Item.is
     c.refs_of-second.ensures
@@ -69,10 +69,10 @@ loop-entry-preserved-in_default-second g c =
     let so_far = c.loop-entry.invariant.0 in
     let es = entries_of so_far.read in
     let one = c.feed_kept.ensures in
-    let old = profiles_with_fronts c.loop-entry.fed
-    (profiles_after_batch c.loop-entry.batch c.loop-entry.profiles) in
-    let new = profiles_with_fronts c.feed_kept.new.fed
-    (profiles_after_batch c.feed_kept.new.batch c.feed_kept.new.profiles) in
+    let old = profiles_with_fronts c.loop-entry.batch.added
+    (profiles_after_batch c.loop-entry.batch.waiting c.loop-entry.profiles) in
+    let new = profiles_with_fronts c.feed_kept.new.batch.added
+    (profiles_after_batch c.feed_kept.new.batch.waiting c.feed_kept.new.profiles) in
     let fed = fed-one profiles_after all_after-append c.args.kind old new c.in-Item.is
     c.refs_of-second.ensures
     c.in_default-second.is one.caught in (
@@ -86,35 +86,25 @@ loop-entry-preserved-in_default-second g c =
       one.finest,
     )
 
--- no block is larger than 2^20 bytes
-pub feed_kept-requires-clause-small : goal.feed_kept-requires-clause-small
-feed_kept-requires-clause-small g c =
-    omega (arith, c.finest_bits-bits.ensures, finest-small c.args.profiles.now)
-
-pub feed_kept-requires-in-Some-second-clause-small :
-    goal.feed_kept-requires-in-Some-second-clause-small
-feed_kept-requires-in-Some-second-clause-small g c =
-    omega (arith, c.finest_bits-bits.ensures, finest-small c.args.profiles.now)
-
 -- at a flush those that wait are fed first
 pub feed-requires-clause-few : goal.feed-requires-clause-few
 feed-requires-clause-few g c =
     let so_far = c.loop-entry.invariant.0 in
-    waiting-few c.loop-entry.fed c.loop-entry.batch c.loop-entry.profiles so_far.holds.1
+    waiting-few c.loop-entry.batch.added c.loop-entry.batch.waiting c.loop-entry.profiles so_far.holds.1
     (omega (arith, so_far.holds.2, so_far.few, c.loop-entry.invariant.1))
 
 pub feed-requires-clause-led : goal.feed-requires-clause-led
 feed-requires-clause-led g c =
-    waiting-led c.loop-entry.fed c.loop-entry.batch c.loop-entry.profiles
+    waiting-led c.loop-entry.batch.added c.loop-entry.batch.waiting c.loop-entry.profiles
     c.loop-entry.invariant.0.holds.1
 
 pub loop-entry-preserved : goal.loop-entry-preserved
 loop-entry-preserved g c =
     let so_far = c.loop-entry.invariant.0 in
     let es = entries_of so_far.read in
-    let n = c.loop-entry.fed in
-    let bits = c.finest_bits-bits.result in
-    let xs = profiles_after_batch c.loop-entry.batch c.loop-entry.profiles in
+    let n = c.loop-entry.batch.added in
+    let bits = c.loop-entry.invariant.2.0 in
+    let xs = profiles_after_batch c.loop-entry.batch.waiting c.loop-entry.profiles in
     let flushed : c.flush.new.profiles ≡ map pair_after_flush xs = c.flush.ensures ∙
     ap (map pair_after_flush) c.feed.ensures.fed in
     let old = profiles_with_fronts n xs in
@@ -125,20 +115,31 @@ loop-entry-preserved g c =
     let caught = fed-more profiles_after all_after-append c.args.kind c.args.profiles.now old
     (profiles_with_fronts n c.flush.new.profiles) es c.in-Some.entry so_far.holds.0 fed in
     let few = subst (FedAtMost n) (sym flushed) (few-flush n xs
-    (waiting-behind n c.loop-entry.batch c.loop-entry.profiles so_far.holds.1).fed) in (
+    (waiting-behind n c.loop-entry.batch.waiting c.loop-entry.profiles so_far.holds.1).fed) in (
       reads-more so_far c.next.ensures.reached c.next.ensures.entry c.in_ok-entry.was c.in-Some.is (
-        ap (λ l. profiles_with_fronts n (profiles_after_batch l c.flush.new.profiles))
-            c.feed.ensures.none ∙ ap (profiles_with_fronts n) (fed-nil c.flush.new.profiles) ∙
+        (λ i. profiles_with_fronts (c.feed.ensures.same i) (profiles_after_batch
+            (c.feed.ensures.none i) c.flush.new.profiles)) ∙ ap (profiles_with_fronts n) (fed-nil c.flush.new.profiles) ∙
             caught,
-        subst (λ l. AreWaiting n l c.flush.new.profiles) (sym c.feed.ensures.none)
+        subst (λ k. AreWaiting k c.feed.new.self.waiting c.flush.new.profiles)
+            (sym c.feed.ensures.same)
+            (subst (λ l. AreWaiting n l c.flush.new.profiles) (sym c.feed.ensures.none)
             (waiting-none n (flat_map (events_of c.args.kind) (es ++ c.in-Some.entry ∷ []))
             c.args.profiles.now c.flush.new.profiles c.requires.fresh c.requires.followers caught
-            few),
-        omega (arith, so_far.holds.2, length-append es (c.in-Some.entry ∷ [])),
+            few)),
+        omega (
+          arith,
+          so_far.holds.2,
+          c.feed.ensures.same,
+          length-append es (c.in-Some.entry ∷ []),
+        ),
       ),
       omega (arith, c.next.ensures.within, c.next.ensures.limited),
-      subst (AreNoFiner bits) (sym flushed) (no-finer-flushed bits xs
-          (no-finer-fed bits c.loop-entry.batch c.loop-entry.profiles c.loop-entry.invariant.2)),
+      (
+        bits,
+        c.loop-entry.invariant.2.1,
+        subst (AreNoFiner bits) (sym flushed) (no-finer-flushed bits xs
+            (no-finer-fed bits c.loop-entry.batch.waiting c.loop-entry.profiles c.loop-entry.invariant.2.2)),
+      ),
     )
 
 pub returns-in_err-entry-clause-fed : goal.returns-in_err-entry-clause-fed

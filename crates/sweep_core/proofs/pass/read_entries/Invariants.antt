@@ -7,7 +7,7 @@ use Rattle.trace_core.specs.declared.limits.TheConstants.{MAX_LINES}
 use Rattle.trace_core.proofs.WholeTraces.{Reads}
 use Rattle.sweep_core.specs.internal.Pass.{profiles_after}
 use Rattle.sweep_core.specs.internal.Feeding.{profiles_with_fronts, profiles_after_batch}
-use Rattle.sweep_core.specs.internal.Waiting.{AreWaiting, AreNoFiner}
+use Rattle.sweep_core.specs.internal.Waiting.{AreWaiting, AreNoSmaller}
 use Rattle.sweep_core.proofs.pass.read_entries.Given as goal
 
 -- the entries that were read were fed or wait, at most two references each
@@ -15,10 +15,10 @@ abbrev pub invariant-loop-entry : goal.invariant-loop-entry
 invariant-loop-entry g l =
     Reads l.fn.lines.format l.fn.lines.limit (g.S.Source.view l.initial.source)
     (g.S.Source.view l.source) l.lines
-    (λ es. (profiles_with_fronts l.fed (profiles_after_batch l.batch l.profiles)
+    (λ es. (profiles_with_fronts l.batch.added (profiles_after_batch l.batch.waiting l.profiles)
     ≡ profiles_after (flat_map (events_of l.kind) es) l.fn.profiles)
-    × AreWaiting l.fed l.batch l.profiles × (l.fed ≤ 2 * length es))
-    × (l.lines.lines ≤ MAX_LINES) × AreNoFiner l.bits l.profiles
+    × AreWaiting l.batch.added l.batch.waiting l.profiles × (l.batch.added ≤ 2 * length es))
+    × (l.lines.lines ≤ MAX_LINES) × AreNoSmaller l.size l.profiles
 
 abbrev pub decreases-loop-entry : goal.decreases-loop-entry
 decreases-loop-entry g l = l.lines.limit - l.lines.lines

@@ -6,28 +6,28 @@ use Rattle.trace_core.proofs.WholeTraces.{holds-less, reads-end, reads-fault, re
 use Rattle.trace_core.proofs.WholeTraces.{reads-none}
 use Rattle.sweep_core.specs.internal.Full.{full_pairs_after, full_pairs_caught, full_pairs_fed}
 use Rattle.sweep_core.specs.internal.Full.{FullWaiting, AreNoFinerFull, full_pair_flushed}
+use Rattle.sweep_core.specs.internal.Full.{finest_full_bits}
 use Rattle.sweep_core.proofs.Passes.{fed-both, fed-more, fed-one}
 use Rattle.sweep_core.proofs.FullLemmas.{after-nil, after-append, caught-none}
 use Rattle.sweep_core.proofs.FullLemmas.{caught-flush, fed-nil, waiting-start, waiting-few}
-use Rattle.sweep_core.proofs.FullLemmas.{waiting-alike, waiting-fed, waiting-flushed, finest-small}
+use Rattle.sweep_core.proofs.FullLemmas.{waiting-alike, waiting-fed, waiting-flushed}
 use Rattle.sweep_core.proofs.FullLemmas.{finest-finer, no-finer-fed, no-finer-flushed}
 use Rattle.sweep_core.proofs.full.pass.read_full_entries.Goals as goal
 
 pub loop-entry-init : goal.loop-entry-init
 loop-entry-init g c =
     let xs = c.args.profiles.now in
-    let caught : full_pairs_caught c.args.fed.now xs ≡ full_pairs_after [] xs =
-    ap (λ n. full_pairs_caught n xs) c.requires.none ∙ caught-none xs ∙ sym (after-nil xs) in (
+    let caught : full_pairs_caught 0 xs ≡ full_pairs_after [] xs = caught-none xs ∙
+    sym (after-nil xs) in (
       reads-none (g.S.Source.view c.args.source.now) c.requires.begun (
-        ap (λ l. full_pairs_caught c.args.fed.now (full_pairs_fed l xs)) c.requires.empty ∙
-            ap (full_pairs_caught c.args.fed.now) (fed-nil xs) ∙ caught,
-        subst (λ l. FullWaiting c.args.fed.now l xs) (sym c.requires.empty)
-            (subst (λ n. FullWaiting n [] xs) (sym c.requires.none)
-            (waiting-start xs c.requires.fresh)),
-        omega (arith, c.requires.none),
+        ap (λ b. full_pairs_caught b.added (full_pairs_fed b.waiting xs)) c.requires.empty ∙
+            ap (full_pairs_caught 0) (fed-nil xs) ∙ caught,
+        subst (λ b. FullWaiting b.added b.waiting xs) (sym c.requires.empty)
+            (waiting-start xs c.requires.fresh),
+        omega (arith, ap (λ b. b.added) c.requires.empty),
       ),
       omega (arith, ap (λ p. p.lines) c.requires.begun),
-      subst (λ n. AreNoFinerFull n xs) (sym c.finest_full_bits-bits.ensures) (finest-finer xs),
+      (finest_full_bits xs, c.finest_full_size-size.ensures, finest-finer xs),
     )
 
 pub loop-entry-preserved-in-Some-second : goal.loop-entry-preserved-in-Some-second
@@ -36,12 +36,12 @@ loop-entry-preserved-in-Some-second g c =
     let es = entries_of so_far.read in
     let first = c.feed_full_kept.ensures in
     let second = c.feed_full_kept-in-Some-second.ensures in
-    let old = full_pairs_caught c.loop-entry.fed
-    (full_pairs_fed c.loop-entry.batch c.loop-entry.profiles) in
-    let mid = full_pairs_caught c.feed_full_kept.new.fed
-    (full_pairs_fed c.feed_full_kept.new.batch c.feed_full_kept.new.profiles) in
-    let new = full_pairs_caught c.feed_full_kept-in-Some-second.new.fed
-    (full_pairs_fed c.feed_full_kept-in-Some-second.new.batch
+    let old = full_pairs_caught c.loop-entry.batch.added
+    (full_pairs_fed c.loop-entry.batch.waiting c.loop-entry.profiles) in
+    let mid = full_pairs_caught c.feed_full_kept.new.batch.added
+    (full_pairs_fed c.feed_full_kept.new.batch.waiting c.feed_full_kept.new.profiles) in
+    let new = full_pairs_caught c.feed_full_kept-in-Some-second.new.batch.added
+    (full_pairs_fed c.feed_full_kept-in-Some-second.new.batch.waiting
     c.feed_full_kept-in-Some-second.new.profiles) in
     let fed = fed-both full_pairs_after after-append c.args.kind old mid new c.in-Item.is
     c.refs_of-second.ensures
@@ -67,10 +67,10 @@ loop-entry-preserved-in_default-second g c =
     let so_far = c.loop-entry.invariant.0 in
     let es = entries_of so_far.read in
     let one = c.feed_full_kept.ensures in
-    let old = full_pairs_caught c.loop-entry.fed
-    (full_pairs_fed c.loop-entry.batch c.loop-entry.profiles) in
-    let new = full_pairs_caught c.feed_full_kept.new.fed
-    (full_pairs_fed c.feed_full_kept.new.batch c.feed_full_kept.new.profiles) in
+    let old = full_pairs_caught c.loop-entry.batch.added
+    (full_pairs_fed c.loop-entry.batch.waiting c.loop-entry.profiles) in
+    let new = full_pairs_caught c.feed_full_kept.new.batch.added
+    (full_pairs_fed c.feed_full_kept.new.batch.waiting c.feed_full_kept.new.profiles) in
     let fed = fed-one full_pairs_after after-append c.args.kind old new c.in-Item.is
     c.refs_of-second.ensures
     c.in_default-second.is one.caught in (
@@ -84,35 +84,25 @@ loop-entry-preserved-in_default-second g c =
       one.finest,
     )
 
--- no block is larger than 2^20 bytes
-pub feed_full_kept-requires-clause-small : goal.feed_full_kept-requires-clause-small
-feed_full_kept-requires-clause-small g c =
-    omega (arith, c.finest_full_bits-bits.ensures, finest-small c.args.profiles.now)
-
-pub feed_full_kept-requires-in-Some-second-clause-small :
-    goal.feed_full_kept-requires-in-Some-second-clause-small
-feed_full_kept-requires-in-Some-second-clause-small g c =
-    omega (arith, c.finest_full_bits-bits.ensures, finest-small c.args.profiles.now)
-
 -- at a flush those that wait are fed first
 pub feed-requires-clause-few : goal.feed-requires-clause-few
 feed-requires-clause-few g c =
     let so_far = c.loop-entry.invariant.0 in
-    waiting-few c.loop-entry.fed c.loop-entry.batch c.loop-entry.profiles so_far.holds.1
+    waiting-few c.loop-entry.batch.added c.loop-entry.batch.waiting c.loop-entry.profiles so_far.holds.1
     (omega (arith, so_far.holds.2, so_far.few, c.loop-entry.invariant.1))
 
 pub feed-requires-clause-alike : goal.feed-requires-clause-alike
 feed-requires-clause-alike g c =
-    waiting-alike c.loop-entry.fed c.loop-entry.batch c.loop-entry.profiles
+    waiting-alike c.loop-entry.batch.added c.loop-entry.batch.waiting c.loop-entry.profiles
     c.loop-entry.invariant.0.holds.1
 
 pub loop-entry-preserved : goal.loop-entry-preserved
 loop-entry-preserved g c =
     let so_far = c.loop-entry.invariant.0 in
     let es = entries_of so_far.read in
-    let n = c.loop-entry.fed in
-    let bits = c.finest_full_bits-bits.result in
-    let xs = full_pairs_fed c.loop-entry.batch c.loop-entry.profiles in
+    let n = c.loop-entry.batch.added in
+    let bits = c.loop-entry.invariant.2.0 in
+    let xs = full_pairs_fed c.loop-entry.batch.waiting c.loop-entry.profiles in
     let flushed : c.flush_full.new.profiles ≡ map full_pair_flushed xs = c.flush_full.ensures ∙
     ap (map full_pair_flushed) c.feed.ensures.fed in
     let old = full_pairs_caught n xs in
@@ -123,18 +113,29 @@ loop-entry-preserved g c =
     let caught = fed-more full_pairs_after after-append c.args.kind c.args.profiles.now old
     (full_pairs_caught n c.flush_full.new.profiles) es c.in-Some.entry so_far.holds.0 fed in (
       reads-more so_far c.next.ensures.reached c.next.ensures.entry c.in_ok-entry.was c.in-Some.is (
-        ap (λ l. full_pairs_caught n (full_pairs_fed l c.flush_full.new.profiles))
-            c.feed.ensures.none ∙ ap (full_pairs_caught n) (fed-nil c.flush_full.new.profiles) ∙
+        (λ i. full_pairs_caught (c.feed.ensures.same i) (full_pairs_fed
+            (c.feed.ensures.none i) c.flush_full.new.profiles)) ∙ ap (full_pairs_caught n) (fed-nil c.flush_full.new.profiles) ∙
             caught,
-        subst (λ l. FullWaiting n l c.flush_full.new.profiles) (sym c.feed.ensures.none)
+        subst (λ k. FullWaiting k c.feed.new.self.waiting c.flush_full.new.profiles)
+            (sym c.feed.ensures.same)
+            (subst (λ l. FullWaiting n l c.flush_full.new.profiles) (sym c.feed.ensures.none)
             (waiting-flushed n xs c.flush_full.new.profiles
-            (waiting-fed n c.loop-entry.batch c.loop-entry.profiles xs so_far.holds.1 refl)
-            flushed),
-        omega (arith, so_far.holds.2, length-append es (c.in-Some.entry ∷ [])),
+            (waiting-fed n c.loop-entry.batch.waiting c.loop-entry.profiles xs so_far.holds.1 refl)
+            flushed)),
+        omega (
+          arith,
+          so_far.holds.2,
+          c.feed.ensures.same,
+          length-append es (c.in-Some.entry ∷ []),
+        ),
       ),
       omega (arith, c.next.ensures.within, c.next.ensures.limited),
-      subst (AreNoFinerFull bits) (sym flushed) (no-finer-flushed bits xs
-          (no-finer-fed bits c.loop-entry.batch c.loop-entry.profiles c.loop-entry.invariant.2)),
+      (
+        bits,
+        c.loop-entry.invariant.2.1,
+        subst (AreNoFinerFull bits) (sym flushed) (no-finer-flushed bits xs
+            (no-finer-fed bits c.loop-entry.batch.waiting c.loop-entry.profiles c.loop-entry.invariant.2.2)),
+      ),
     )
 
 pub returns-in_err-entry-clause-fed : goal.returns-in_err-entry-clause-fed
