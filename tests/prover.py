@@ -1,5 +1,6 @@
 """What the prover says of a crate, and the functions and goals that it names."""
 
+import copy
 import functools
 import re
 
@@ -10,6 +11,7 @@ from contracts import TYPE, contracts_in
 IN_CODE = re.compile(r"note: (src/\S+\.rt):(\d+):\d+: .*?\(`([^`]+)`\)(.*)")
 IN_ANSWER = re.compile(
     r"(?:\./)?(proofs/(\S+)/(?:Answers|Invariants|Proof)\.antt):\d+:\d+: error: `([^`]+)`: (.*)")
+IN_PROOF = re.compile(r"^(?:\./)?proofs/(?:(\S+)/)?[^/\s]+\.antt:\d+:\d+: error", re.M)
 IN_SOURCE = re.compile(r"(?:\./)?(?:src|specs)/\S+:\d+:\d+: error: (`[^`]*`: )?(.*)")
 # A stored answer that names what the code no longer has
 GONE = re.compile(r"has no field|is not in scope|has no `|was not admitted")
@@ -60,11 +62,14 @@ def goal_of(word):
 
 class Check:
     """What the prover says of a crate: that all is proved, or what is wrong with a source, or the
-    goals that it refuses, by function, and how it says that."""
+    goals that it refuses, by function, and how it says that; and of which functions it refuses a
+    goal, or something of a proof."""
 
     def __init__(self, ran, crate):
         lines = (ran.stdout + ran.stderr).strip().split("\n")
-        verdict = next((line for line in reversed(lines) if line.startswith("logic=")), "")
+        # past open goals it counts holes, and gives no verdict
+        ends = ("logic=", "holes=")
+        verdict = next((line for line in reversed(lines) if line.startswith(ends)), "")
         is_proved = verdict.startswith("logic=proved")
         self.is_proved = is_proved and not ran.returncode
         is_judged = verdict and is_proved == self.is_proved
@@ -78,6 +83,16 @@ class Check:
                 self.stored[key] = crate / found[1]
             elif found:
                 self.gone.append((function_of_proof(found[2]), crate / found[1], line))
+        in_proofs = (function_of_proof(folder) for folder in IN_PROOF.findall(ran.stdout))
+        self.functions = {*in_proofs, *(function for function, _ in self.goals)}
+
+    def of(self, functions):
+        """What it says of these functions alone."""
+        part = copy.copy(self)
+        part.goals = {key: rank for key, rank in self.goals.items() if key[0] in functions}
+        part.stored = {key: file for key, file in self.stored.items() if key[0] in functions}
+        part.gone = [it for it in self.gone if it[0] in functions]
+        return part
 
     def add(self, function, word, rank, line):
         key = (function, goal_of(word))

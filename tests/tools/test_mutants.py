@@ -104,7 +104,8 @@ class Mutants(ToolTest):
         for folder in ("tests/mutants/low", "crates/low/src", "crates/low/must-fail",
                        "crates/low/out/incremental"):
             (self.top / folder).mkdir(parents=True)
-        for name in ("try-mutants", "common.py", "contracts.py", "edits.py", "prover.py"):
+        for name in ("try-mutants", "bundles.py", "common.py", "contracts.py", "edits.py",
+                     "prover.py"):
             shutil.copy(TOP / "tests" / name, self.top / "tests")
         (self.top / "crates/low/src/lib.rt").write_text(SOURCE)
         (self.top / "crates.txt").write_text("low:\n")
