@@ -125,9 +125,10 @@ class Check:
 
 
 def function_of_proof(path):
-    """The function of a folder of proofs: its name, and the type before it."""
-    parts = path.split("/")
-    return "::".join(parts[-2:] if len(parts) > 1 and parts[-2][0].isupper() else parts[-1:])
+    """The function of a folder of proofs: its name, and the type before it, whose trait is in
+    front of it there."""
+    *_, owner, name = ["", *path.split("/")]
+    return f"{''.join(reversed(owner.split('+')))}::{name}" if owner[:1].isupper() else name
 
 
 def not_read(lines):

@@ -98,6 +98,7 @@ esac
 [ -z "$refused" ]
 """
 ALONE, TOGETHER = "check --jobs 1", "check --jobs 1 --allow-holes"
+PASSED = ["ok low a at Half::of value", "ok low b at Half::odd value", "ok low c at fourth value"]
 STORED = "./proofs/Half/of/Answers.antt:7:3: error: `returns-clause-value`: types differ\n"
 
 
@@ -160,10 +161,13 @@ class Bundles(ToolTest):
         self.three()
         self.edit("d", "HalfPart::third")
         lines, calls = self.tried()
-        self.assertEqual(lines, [
-            "ok low a at Half::of value", "ok low b at Half::odd value", "ok low c at fourth value",
-            "ok low d at HalfPart::third value", "4 passed, 0 failed"])
+        wanted = [*PASSED, "ok low d at HalfPart::third value", "4 passed, 0 failed"]
+        self.assertEqual(lines, wanted)
         self.assertEqual(calls, [f"{TOGETHER}: a b c d"])
+        # something of the proof of one of them
+        with (self.folder / "d").open("a") as said:
+            said.write(STORED.replace("Half/of", "Part+Half/third").replace("value", "small"))
+        self.assertEqual(self.tried(), (wanted, calls))
         self.assertEqual((self.crate / "src/lib.rt").read_text(), SOURCE)
 
     def test_one_that_is_not_refused_at_its_goal(self):
@@ -175,7 +179,7 @@ class Bundles(ToolTest):
             self.three()
             (self.folder / "c").write_text(said)
             lines, calls = self.tried()
-            self.assertEqual(lines[:2], ["ok low a at Half::of value", "ok low b at Half::odd value"])
+            self.assertEqual(lines[:2], PASSED[:2])
             last = f"FAILED low c: {told}" if told else "ok low c at fourth value"
             self.assertEqual(lines[2], last)
             self.assertEqual(calls, [f"{TOGETHER}: a b c", *[f"{ALONE}: c"] * bool(told)])
@@ -194,7 +198,7 @@ class Bundles(ToolTest):
             lines, seen = self.tried()
             begin = "ok low a at" if told else "FAILED low a: it did not reach the prover: src"
             self.assertEqual(lines[0][:len(begin)], begin)
-            self.assertEqual(lines[1:3], ["ok low b at Half::odd value", "ok low c at fourth value"])
+            self.assertEqual(lines[1:3], PASSED[1:])
             self.assertEqual(seen, calls)
 
     def test_a_check_that_ends_before_the_prover(self):
@@ -212,8 +216,7 @@ class Bundles(ToolTest):
         (self.folder / "a-alone").write_text(refused("Half::of"))
         lines, calls = self.tried()
         again = "a at Half::of value, without its stored proof too"
-        self.assertEqual(sorted(lines[:3]), [f"ok low {again}", "ok low b at Half::odd value",
-                                             "ok low c at fourth value"])
+        self.assertEqual(sorted(lines[:3]), [f"ok low {again}", *PASSED[1:]])
         self.assertEqual(calls, [f"{TOGETHER}: a b c", f"{TOGETHER} without: a"])
         (self.folder / "a-alone").write_text("")
         lines, calls = self.tried()

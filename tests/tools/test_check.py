@@ -36,6 +36,7 @@ TRIED = {
     "tests/tools/test_best.py": "test-tools --plain --list|test-tools --plain worked_rows best "
                                 "style",
     "tests/mutants/options.edits": "test-tools --plain mutants",
+    "tests/bundles.py": "test-tools --plain bundles mutants style",
     "Makefile": "test-tools --plain gate make scripts",
     "absent.c": "",
 }
