@@ -16,8 +16,9 @@ NO_CODE = re.compile(r"//[^\n]*|/\*.*?\*/|b?\"(?:\\.|[^\"\\])*\"|b?'(?:\\.[^']*|
 HEAD = re.compile(r"^( *)((?:[\w()]+ )*)fn (\w+)", re.M)
 # what is more than code of its function, where it stands in a body
 ITEM = re.compile(r"\b(?:fn|const|static|struct|enum|union|impl|trait|mod|use|type|ghost|macro)\b")
-# what the prover makes of a function, or is kept of its proof
-OF_PROOF = re.compile(r"\bRattle\.(\w+)\.proofs\.(\S+)\.(?:Goals|Given|Answers|Invariants|Proof)\b")
+# a module that a proof cites, with its folder, and those that are kept of a function's own proof
+CITED = re.compile(r"^(?:pub )?use\s+Rattle\.(\w+)\.proofs\.([\w.+-]+)\.([\w-]+)", re.M)
+OF_PROOF = ("Answers", "Invariants", "Proof")
 
 
 class Source(NamedTuple):
@@ -71,13 +72,16 @@ def source(text):
 
 @functools.cache
 def cited(crate):
-    """The functions of a crate whose proofs others cite."""
+    """The functions of a crate whose proofs others cite: what is kept of them, or what the prover
+    makes, of which there is no file. Lemmas have a folder without a proof."""
     found, top = set(), crate / "proofs"
     for path in top.rglob("*.antt"):
-        own = ".".join(path.parent.relative_to(top).parts)
-        for name, folder in re.findall(OF_PROOF, path.read_text()):
-            if (name, folder) != (crate.name, own):
-                found.add(function_of_proof(folder.replace(".", "/")))
+        for name, place, module in CITED.findall(path.read_text()):
+            folder = top / place.replace(".", "/")
+            is_lemma = (folder / f"{module}.antt").exists() and not any(
+                (folder / f"{it}.antt").exists() for it in OF_PROOF)
+            if name == crate.name and folder != path.parent and not is_lemma:
+                found.add(function_of_proof(place.replace(".", "/")))
     return found
 
 

@@ -264,10 +264,12 @@ class Bundles(ToolTest):
         """Its function's mutant is tried alone."""
         self.three()
         lemmas = self.crate / "proofs/Lemmas.antt"
-        for module in "Answers", "Goals":
-            lemmas.write_text(f"use Rattle.low.proofs.Half.of.{module}.{{returns}}\n")
+        for module in " Rattle.low.proofs.Half.of.Answers", "\n    Rattle.low.proofs.Half.of.Goals":
+            lemmas.write_text(f"use{module}.{{returns}}\n")
             self.assertEqual(self.tried()[1], [f"{TOGETHER}: b c", f"{ALONE}: a"])
-        lemmas.write_text("use Rattle.other.proofs.Half.off.Answers.{returns}\n")
+        lemmas.write_text("use Rattle.other.proofs.Half.of.Answers.{returns}\n"
+                          "use Rattle.low.proofs.Half.Lemmas.{half}\n")
+        (self.crate / "proofs/Half/Lemmas.antt").write_text("lemmas\n")
         own = self.crate / "proofs/Half/of/Answers.antt"
         own.write_text("use Rattle.low.proofs.Half.of.Goals as goal\n")
         self.assertEqual(self.tried()[1], [f"{TOGETHER}: a b c"])
