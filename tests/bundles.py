@@ -9,7 +9,8 @@ from contracts import CLAUSE, TOP_ITEM, TYPE, closed
 from edits import Unfit
 from prover import function_of_proof
 
-# How many are tried in one check, which reads libraries for as long as it proves ten of them.
+# How many share a check. It reads libraries for as long as it tries five: more would gain little,
+# and where one spoils it all are tried again.
 MOST = 16
 # what is no code: its braces and words count for nothing
 NO_CODE = re.compile(r"//[^\n]*|/\*.*?\*/|b?\"(?:\\.|[^\"\\])*\"|b?'(?:\\.[^']*|[^\\'\n])'", re.S)
