@@ -9,7 +9,7 @@ from contracts import CLAUSE, TOP_ITEM, TYPE, closed
 from edits import Unfit
 from prover import function_of_proof
 
-# How many share a check. It reads libraries for as long as it tries five: more would gain little,
+# How many share a check. It reads libraries for as long as it tries three: more would gain little,
 # and where one spoils it all are tried again.
 MOST = 16
 # what is no code: its braces and words count for nothing
