@@ -1,5 +1,7 @@
 """Ways to choose the block that is evicted from a full set."""
 
+import ctypes
+
 # the block with the least of these is evicted
 KEYS = {
     "used": lambda line: (line.used, line.place),
@@ -26,21 +28,16 @@ def oldest_of(uses, places):
     return min(places, key=uses.__getitem__, default=0)
 
 
-# The numbers of rand() in glibc without srand(): each is the sum of those 3 and 31 before it, as
-# `man 3 random` says of its default table of 31 words ("additive feedback").
-SKIPPED = 310  # numbers that are drawn and not told
-BEFORE = [1]  # words of 32 bits; the seed is 1
-while len(BEFORE) < 31:
-    BEFORE.append(16807 * BEFORE[-1] % 0x7FFFFFFF)
-BEFORE += BEFORE[:3]
-FIRST = len(BEFORE) + SKIPPED
+# the numbers of rand(): without srand() they are those after srand(1)
+LIBC, DRAWN = ctypes.CDLL(None), []
+LIBC.srand(1)
 
 
 def drawn(at):
     """The number that the call after so many others returns."""
-    while len(BEFORE) <= FIRST + at:
-        BEFORE.append((BEFORE[-3] + BEFORE[-31]) % (1 << 32))
-    return BEFORE[FIRST + at] >> 1
+    while len(DRAWN) <= at:
+        DRAWN.append(LIBC.rand())
+    return DRAWN[at]
 
 
 # the place of the block that is evicted, by the last uses of a set's blocks from the first line on
