@@ -3,6 +3,7 @@
 import os
 import re
 import shutil
+from collections import namedtuple
 
 from lib import regular, tool
 
@@ -10,14 +11,9 @@ ABSENT, CANNOT_RUN = 127, 126
 # QEMU's names, by the class and the number of the machine in an ELF file
 MACHINES = {(2, 62): "x86_64", (1, 3): "i386", (2, 183): "aarch64", (1, 40): "arm",
             (2, 243): "riscv64"}
-
-
-class Program:
-    """A file, its machine, and the words that it gets: its name and its arguments. Where it is an
-    interpreter, the first of `files` is a script, and others may be."""
-
-    def __init__(self, files, machine, words):
-        self.path, self.files, self.machine, self.words = files[-1], files, machine, words
+# A file, its machine, and the words that it gets: its name and its arguments. Where it is an
+# interpreter, the first of `files` is a script, and others may be.
+Program = namedtuple("Program", "path files machine words")
 
 
 def no_program(status, text):
@@ -78,7 +74,7 @@ def resolve(words):
     for _ in range(5):
         head = beginning(files[-1])
         if machine := machine_of(files[-1], head):
-            return Program(files, machine, words)
+            return Program(files[-1], files, machine, words)
         words = interpreted(files[-1], head, words)
         files.append(found(words[0], files[-1]))
     no_program(CANNOT_RUN, f"{called} can't be run: its interpreter is a script, and so on")
