@@ -19,6 +19,12 @@ static void *grown(void *memory, size_t size) {
     return larger;
 }
 
+static void *zeros(size_t count, size_t size) {
+    void *new = calloc(count, size);
+    if (!new) errx(EXIT_FAILURE, "too little memory");
+    return new;
+}
+
 static uint32_t slot_of(const struct numbers *numbers, uint64_t key) {
     uint64_t mixed = (key ^ key >> 32) * UINT64_C(0x9e3779b97f4a7c15);
     uint32_t slot = (uint32_t)(mixed >> 32) & (numbers->room - 1);
@@ -33,8 +39,7 @@ static void make_room(struct numbers *numbers) {
     numbers->keys = grown(numbers->keys, numbers->room / 2 * sizeof *numbers->keys);
     numbers->values = grown(numbers->values, numbers->room / 2 * numbers->size);
     free(numbers->slots);
-    numbers->slots = calloc(numbers->room, sizeof *numbers->slots);
-    if (!numbers->slots) errx(EXIT_FAILURE, "too little memory");
+    numbers->slots = zeros(numbers->room, sizeof *numbers->slots);
     for (uint32_t number = 0; number < numbers->count; number++)
         numbers->slots[slot_of(numbers, numbers->keys[number])] = number + 1;
 }

@@ -23,12 +23,6 @@
 enum { FAILED = 1, HELD = 1 << 16, MOST_WAYS = 65536 };
 #define NEVER UINT32_MAX
 
-static void *zeros(size_t count, size_t size) {
-    void *new = calloc(count, size);
-    if (!new) errx(FAILED, "too little memory");
-    return new;
-}
-
 // ---- The references
 
 // They are in two files, of which a piece is in memory: of each reference the block, of the least

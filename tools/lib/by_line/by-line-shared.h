@@ -99,8 +99,7 @@ static void read_shared(const char *path) {
     if (!file) err(FAILED, "%s", path);
     while (fscanf(file, "%lx", &block) == 1) {
         struct shared *shared = value_of(&shareds, block);
-        shared->bytes = calloc((size_t)1 << shift, sizeof *shared->bytes);
-        if (!shared->bytes) errx(FAILED, "too little memory");
+        shared->bytes = zeros((size_t)1 << shift, sizeof *shared->bytes);
     }
     fclose(file);
 }
