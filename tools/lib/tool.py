@@ -120,6 +120,15 @@ def no_size(text):
     return f"{text!r} is no size such as 512, 32k or 1m"
 
 
+def matching(pattern, what, made=str):
+    """What reads an argument that matches a pattern, for the parser, and makes something of it."""
+    def number(text):
+        if not re.fullmatch(pattern, text):
+            raise ArgumentTypeError(f"{text!r} is no {what}")
+        return made(text)
+    return number
+
+
 def size_text(size):
     """A number of bytes in short, as 32k."""
     for unit in ("g", "m", "k"):
