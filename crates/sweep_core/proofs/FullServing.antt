@@ -1,5 +1,5 @@
 -- A walk over the rows of the profiles of a full sweep.
-use Rattle.std.proofs.Common.{◌≡◌, ℕ, ◌-◌, Bool, List, [], ◌∷◌}
+use Rattle.std.proofs.Common.{◌≡◌, ℕ, Bool, List, [], ◌∷◌}
 use Rattle.std.proofs.Common.{sym, ap, ◌∙◌, arith, subst}
 use Rattle.std.specs.List.{AllByRecursion as Each}
 use Rattle.full_profile.specs.declared.counts.FullCounts.{FullCounts}

@@ -53,7 +53,8 @@ fn read_entries<S: Source>(
     requires followers { HaveFollowers profiles.old }
     ensures fed { Feeds kind lines.old.format lines.old.limit (S.view source.old)
         (S.view source.new) lines.new profiles.old
-        (profiles_with_fronts batch.new.added (profiles_after_batch batch.new.waiting profiles.new)) }
+        (profiles_with_fronts batch.new.added
+        (profiles_after_batch batch.new.waiting profiles.new)) }
     ensures reports { lines.new.state ≡ state_after result }
     ensures waiting { AreWaiting batch.new.added batch.new.waiting profiles.new }
     ensures few { batch.new.added ≤ MAX_REFERENCES }
@@ -87,7 +88,8 @@ fn feed_kept(profiles: &mut [PairProfile], batch: &mut Batch, size: u64, kind: K
     ensures caught { profiles_with_fronts batch.new.added
         (profiles_after_batch batch.new.waiting profiles.new)
         ≡ profiles_after (kept_events kind (reference ∷ []))
-        (profiles_with_fronts batch.old.added (profiles_after_batch batch.old.waiting profiles.old)) }
+        (profiles_with_fronts batch.old.added
+        (profiles_after_batch batch.old.waiting profiles.old)) }
     ensures waiting { AreWaiting batch.new.added batch.new.waiting profiles.new }
     ensures finest { AreNoSmaller size profiles.new }
     ensures more { batch.new.added ≤ batch.old.added + 1 }

@@ -5,8 +5,8 @@ use Rattle.std.specs.List.{AllByRecursion}
 use Rattle.sweep_core.specs.declared.profiles.PairProfile.{PairProfile}
 use Rattle.sweep_core.specs.internal.Feeding.{AreAlwaysBehind}
 
--- a batch of references: those that wait, and how many were added to it so far, with those that need
--- not wait
+-- a batch of references: those that wait, and how many were added so far, also those that need not
+-- wait
 pub record Batched (A : Type 0) : Type 0 where
   pub waiting : List A
   pub added : ℕ

@@ -1,8 +1,8 @@
 -- Two numbers are in one block exactly if they differ in no bit above its own.
-use Rattle.std.proofs.Common.{◌≡◌, ℕ, ◌<◌, ◌≤◌, ◌/◌, ◌*◌, ◌^◌, ◌∙◌, Bool, true, false, eqb, ltb}
-use Rattle.std.proofs.Common.{refl, sym, ap, arith, bit_and, bit_xor, pow_pos}
+use Rattle.std.proofs.Common.{◌≡◌, ℕ, ◌/◌, ◌^◌, ◌∙◌, Bool, true, false, eqb, ltb}
+use Rattle.std.proofs.Common.{refl, sym, ap, arith, bit_xor, pow_pos}
 use Rattle.std.specs.Int.Bits.{xor_self, xor_add_and}
-use Rattle.std.proofs.lemmas.Bool.{eqb-true, eqb-false, ltb-true, ltb-false, lt-ltb}
+use Rattle.std.proofs.lemmas.Bool.{eqb-true, eqb-false, ltb-true, ltb-false}
 use Rattle.std.proofs.lemmas.Nat.{xor_shr, and_le_l, and_le_r, div_below, le-div}
 use Rattle.sweep_core.proofs.batch.are_in_one_block.Goals as goal
 

@@ -90,8 +90,8 @@ loop-entry-preserved-in_default-second g c =
 pub feed-requires-clause-few : goal.feed-requires-clause-few
 feed-requires-clause-few g c =
     let so_far = c.loop-entry.invariant.0 in
-    waiting-few c.loop-entry.batch.added c.loop-entry.batch.waiting c.loop-entry.profiles so_far.holds.1
-    (omega (arith, so_far.holds.2, so_far.few, c.loop-entry.invariant.1))
+    waiting-few c.loop-entry.batch.added c.loop-entry.batch.waiting c.loop-entry.profiles
+    so_far.holds.1 (omega (arith, so_far.holds.2, so_far.few, c.loop-entry.invariant.1))
 
 pub feed-requires-clause-led : goal.feed-requires-clause-led
 feed-requires-clause-led g c =
@@ -118,8 +118,8 @@ loop-entry-preserved g c =
     (waiting-behind n c.loop-entry.batch.waiting c.loop-entry.profiles so_far.holds.1).fed) in (
       reads-more so_far c.next.ensures.reached c.next.ensures.entry c.in_ok-entry.was c.in-Some.is (
         (λ i. profiles_with_fronts (c.feed.ensures.same i) (profiles_after_batch
-            (c.feed.ensures.none i) c.flush.new.profiles)) ∙ ap (profiles_with_fronts n) (fed-nil c.flush.new.profiles) ∙
-            caught,
+            (c.feed.ensures.none i) c.flush.new.profiles)) ∙ ap (profiles_with_fronts n)
+            (fed-nil c.flush.new.profiles) ∙ caught,
         subst (λ k. AreWaiting k c.feed.new.self.waiting c.flush.new.profiles)
             (sym c.feed.ensures.same)
             (subst (λ l. AreWaiting n l c.flush.new.profiles) (sym c.feed.ensures.none)
@@ -138,7 +138,8 @@ loop-entry-preserved g c =
         bits,
         c.loop-entry.invariant.2.1,
         subst (AreNoFiner bits) (sym flushed) (no-finer-flushed bits xs
-            (no-finer-fed bits c.loop-entry.batch.waiting c.loop-entry.profiles c.loop-entry.invariant.2.2)),
+            (no-finer-fed bits c.loop-entry.batch.waiting c.loop-entry.profiles
+            c.loop-entry.invariant.2.2)),
       ),
     )
 

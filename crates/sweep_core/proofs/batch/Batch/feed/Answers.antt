@@ -11,7 +11,8 @@ use Rattle.sweep_core.proofs.batch.Batch.feed.Goals as goal
 pub returns-then-self-eq0-clause-fed : goal.returns-then-self-eq0-clause-fed
 returns-then-self-eq0-clause-fed c =
     let none : c.args.self.now.waiting ≡ [] =
-    sym (ap (λ b. b.waiting) c.self.view_is) ∙ ap (λ n. take n c.self.inside.addrs.items) c.if-self-eq0.true in
+    sym (ap (λ b. b.waiting) c.self.view_is) ∙ ap (λ n. take n c.self.inside.addrs.items)
+    c.if-self-eq0.true in
     sym (fed-nil c.args.profiles.now) ∙
     ap (λ l. profiles_after_batch l c.args.profiles.now) (sym none)
 

@@ -1,6 +1,6 @@
 -- A reference that its kind keeps waits, once there is room for it; one that it leaves out changes
 -- nothing.
-use Rattle.std.proofs.Common.{◌≡◌, ◌+◌, ◌<◌, ◌^◌, ◌∙◌, [], ◌∷◌, length, sym, ap, subst, arith, ℕ, List}
+use Rattle.std.proofs.Common.{◌≡◌, ◌+◌, ◌<◌, ◌∙◌, [], ◌∷◌, length, sym, ap, subst, arith, ℕ, List}
 use Rattle.std.proofs.Math.Nat.{lt_of_not-le}
 use Rattle.std.proofs.lemmas.Bool.{false≢true}
 use Rattle.trace_core.specs.declared.events.Ref.{Ref}
@@ -13,7 +13,8 @@ use Rattle.sweep_core.specs.internal.Waiting.{Batched}
 use Rattle.sweep_core.proofs.FullLemmas.{waiting-few, waiting-alike, waiting-fed, waiting-with}
 use Rattle.sweep_core.proofs.FullLemmas.{kept-waits, left-caught, fed-nil, no-finer-fed}
 use Rattle.sweep_core.proofs.full.pass.feed_full_kept.Goals as goal
-use Rattle.sweep_core.proofs.full.pass.feed_full_kept.Goals.{Joined-is_full, then-is_full, else-is_full}
+use Rattle.sweep_core.proofs.full.pass.feed_full_kept.Goals.{Joined-is_full, then-is_full}
+use Rattle.sweep_core.proofs.full.pass.feed_full_kept.Goals.{else-is_full}
 
 pub feed-requires-clause-few : goal.feed-requires-clause-few
 feed-requires-clause-few c =

@@ -1,5 +1,5 @@
 -- What still waits is fed, and then each profile ends.
-use Rattle.std.proofs.Common.{sym, ap, ◌∙◌, subst}
+use Rattle.std.proofs.Common.{sym, ◌∙◌, subst}
 use Rattle.std.specs.List.{flat_map}
 use Rattle.trace_core.specs.Events.{events_of}
 use Rattle.trace_core.proofs.WholeTraces.{holds-less}
@@ -10,7 +10,8 @@ use Rattle.sweep_core.proofs.full.pass.read_full.Goals as goal
 pub feed-requires-clause-few : goal.feed-requires-clause-few
 feed-requires-clause-few g c =
     let read = c.read_full_entries-read in
-    waiting-few read.new.batch.added read.new.batch.waiting read.new.profiles read.ensures.waiting read.ensures.few
+    waiting-few read.new.batch.added read.new.batch.waiting read.new.profiles read.ensures.waiting
+    read.ensures.few
 
 pub feed-requires-clause-alike : goal.feed-requires-clause-alike
 feed-requires-clause-alike g c =

@@ -88,8 +88,8 @@ loop-entry-preserved-in_default-second g c =
 pub feed-requires-clause-few : goal.feed-requires-clause-few
 feed-requires-clause-few g c =
     let so_far = c.loop-entry.invariant.0 in
-    waiting-few c.loop-entry.batch.added c.loop-entry.batch.waiting c.loop-entry.profiles so_far.holds.1
-    (omega (arith, so_far.holds.2, so_far.few, c.loop-entry.invariant.1))
+    waiting-few c.loop-entry.batch.added c.loop-entry.batch.waiting c.loop-entry.profiles
+    so_far.holds.1 (omega (arith, so_far.holds.2, so_far.few, c.loop-entry.invariant.1))
 
 pub feed-requires-clause-alike : goal.feed-requires-clause-alike
 feed-requires-clause-alike g c =
@@ -114,8 +114,8 @@ loop-entry-preserved g c =
     (full_pairs_caught n c.flush_full.new.profiles) es c.in-Some.entry so_far.holds.0 fed in (
       reads-more so_far c.next.ensures.reached c.next.ensures.entry c.in_ok-entry.was c.in-Some.is (
         (λ i. full_pairs_caught (c.feed.ensures.same i) (full_pairs_fed
-            (c.feed.ensures.none i) c.flush_full.new.profiles)) ∙ ap (full_pairs_caught n) (fed-nil c.flush_full.new.profiles) ∙
-            caught,
+            (c.feed.ensures.none i) c.flush_full.new.profiles)) ∙ ap (full_pairs_caught n)
+            (fed-nil c.flush_full.new.profiles) ∙ caught,
         subst (λ k. FullWaiting k c.feed.new.self.waiting c.flush_full.new.profiles)
             (sym c.feed.ensures.same)
             (subst (λ l. FullWaiting n l c.flush_full.new.profiles) (sym c.feed.ensures.none)
@@ -134,7 +134,8 @@ loop-entry-preserved g c =
         bits,
         c.loop-entry.invariant.2.1,
         subst (AreNoFinerFull bits) (sym flushed) (no-finer-flushed bits xs
-            (no-finer-fed bits c.loop-entry.batch.waiting c.loop-entry.profiles c.loop-entry.invariant.2.2)),
+            (no-finer-fed bits c.loop-entry.batch.waiting c.loop-entry.profiles
+            c.loop-entry.invariant.2.2)),
       ),
     )
 
