@@ -189,7 +189,7 @@ class TheLedger(ToolTest):
     def test_harmless_changes(self):
         """A comment, a word of a page, what moves, another name: these need no second file."""
         self.copy()
-        moved = r"(\n\}\n)(.*?fn finest_bits.*?\n\}\n)(.*)\Z"
+        moved = r"(\n\}\n)(.*?fn finest_size.*?\n\}\n)(.*)\Z"
         for file, old, new in (
             ("crates/cache_core/src/geometry.rt", "/// ", "/// Not "),
             ("crates/cache_core/specs/Geometry.antt", "-- the size in", "-- no size in"),
