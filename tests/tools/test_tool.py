@@ -110,9 +110,8 @@ class Compiling(ToolTest):
         path = self.stand_in("cc", f"touch \"${{@: -2:1}}\" '{begun}'", "exec sleep 60")
         given = {**self.in_folder(**path), "stdout": subprocess.DEVNULL, "stderr": subprocess.PIPE,
                  "start_new_session": True}
-        words = [self.folder / "to-din", "addresses", os.devnull]
         for number in (signal.SIGTERM, signal.SIGINT, signal.SIGHUP):
-            with subprocess.Popen(words, **given) as running:
+            with subprocess.Popen([self.folder / "to-din", "addresses", os.devnull], **given) as running:
                 self.assertTrue(comes(begun.exists))
                 self.assertNotEqual(self.made(), [])
                 running.send_signal(number)
@@ -184,8 +183,7 @@ class Compiling(ToolTest):
         waits = 'for ((i = 0; i < 300 && $(wc -l < "$0.done") < 2; i++)); do sleep 0.1; done'
         path = self.stand_in("cc", f'"{shutil.which("cc")}" "$@" && echo >> "$0.done" && {waits}')
         given = {**self.in_folder(**path), "stderr": subprocess.PIPE}
-        words = [self.folder / "to-din", "addresses", os.devnull]
-        both = [subprocess.Popen(words, **given) for _ in range(2)]
+        both = [subprocess.Popen([self.folder / "to-din", "addresses", os.devnull], **given) for _ in range(2)]
         ends = [(each.communicate(timeout=60)[1], each.returncode) for each in both]
         self.assertEqual(ends, [(b"", 0)] * 2)
         self.assertEqual(self.made(), ["to-din"])
