@@ -24,7 +24,7 @@ SHELLS = {completion.bash: "bash-completion/completions/{}",
 DOCUMENTS = ["*.md", "CITATION.cff", "docs", "examples", "tests/README.md", "tests/cases/inputs",
              "tests/tools/lab/student.c", "tools/README.md", "tools/*/README.md"]
 # a call in a tool that names a C part of it
-PART = re.compile(r"\bcompiled\(\"([\w.-]+)\"")
+PART = re.compile(r"\b(?:compiled|Arguments|Explained)\((?:__doc__, )?\"([\w.-]+)\"")
 
 
 def write(path, content):

@@ -199,11 +199,6 @@ def copy_tools(to, *tools):
         shutil.copy(TOOLS / tool, to)
 
 
-def compile_parts(tools, *parts):
-    """Has make compile parts in C of some tools."""
-    subprocess.run(["make", "-s", "-C", tools, *(f"out/{part}" for part in parts)], check=True)
-
-
 def is_there(package):
     shown_by = PACKAGES[package]
     if shown_by.startswith("/"):

@@ -400,7 +400,7 @@ class Faults(ByLineTest):
     def test_half_an_answer(self):
         """Of the part in C: it is no table."""
         base.copy_tools(self.folder, "by-line")
-        base.compile_parts(self.folder, "by-line")
+        self.good(self.run_command(self.folder / "by-line", "--build"))
         self.executable("out/by-line", "echo cell - -1 1 1 1 0")
         ran = self.run_command(self.folder / "by-line", "-", *CACHE.split())
         self.ends(ran, 1, "by-line: the references can't be counted\n")

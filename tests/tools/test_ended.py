@@ -18,7 +18,7 @@ import tempfile
 import time
 
 from base import (EXAMPLES, PLAIN, PROGRAM, TOOLS, TOP, ToolTest, adopt_orphans, catches, comes,
-                  compile_parts, needs)
+                  needs)
 from lab_base import STUDENTS, TRANS, running
 from trace_base import TRACED, program_of
 
@@ -242,8 +242,8 @@ class EndedTest(ToolTest):
     @classmethod
     def setUpClass(cls):
         """Each of several processes makes runs, and adopts what these leave behind."""
-        compile_parts(TOOLS, "by-line", "log-counts", "optimal", "second-level", "to-din",
-                      "trace-heap.so", "trace-plugin.so", "trace-run")
+        for tool in ("by-line", "optimal", "over-time", "second-level", "to-din", "trace"):
+            subprocess.run([TOOLS / tool, "--build"], check=True)
         folder = pathlib.Path(tempfile.mkdtemp(prefix="cachesim-ended-"))
         cls.addClassCleanup(shutil.rmtree, folder, ignore_errors=True)
         cls.place = Place(folder)

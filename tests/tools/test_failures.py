@@ -12,8 +12,7 @@ import shutil
 import subprocess
 import tempfile
 
-from base import (EXAMPLES, PLAIN, PROGRAM, TOOLS, TOP, ToolTest, comes, compile_parts,
-                  copy_tools, processes)
+from base import EXAMPLES, PLAIN, PROGRAM, TOOLS, TOP, ToolTest, comes, copy_tools, processes
 from lab_base import STUDENTS
 from trace_base import TRACED, program_of
 
@@ -87,8 +86,8 @@ class FailureTest(ToolTest):
         cls.addClassCleanup(shutil.rmtree, cls.place, ignore_errors=True)
         cls.tools, cls.commands, cls.given = (
             cls.place / name for name in ("tools", "commands", "given"))
-        compile_parts(TOOLS, "by-line", "log-counts", "optimal", "second-level", "to-din",
-                      "trace-heap.so", "trace-plugin.so", "trace-run")
+        for tool in ("by-line", "optimal", "over-time", "second-level", "to-din", "trace"):
+            subprocess.run([TOOLS / tool, "--build"], check=True)
         copy_tools(cls.tools, *(path.name for path in TOOLS.iterdir() if path.is_file()))
         for folder in ("cluster", "lab"):
             shutil.copytree(TOOLS / folder, cls.tools / folder)

@@ -209,7 +209,7 @@ class Optimal(reading_base.Reading, base.ToolTest):
     def test_no_room_in_memory(self):
         text = "".join(f"0 {number:x}\n" for number in range(1 << 20)).encode()
         words = *map(str, (base.TOOLS / "optimal", "-")), *"--bsize 1 --sets 1 --assoc 1".split()
-        base.compile_parts(base.TOOLS, "optimal")
+        self.run_tool("optimal", "--build")
         line = 'ulimit -v 20000; exec -a optimal "$0" l1-u 3 4 5 3< caches 4<> blocks 5<> uses'
         inner = base.TOOLS / "out/optimal"
         self.write("caches", "1\n1,1,1\n")

@@ -11,7 +11,7 @@ import signal
 import subprocess
 import time
 
-from base import EXAMPLES, PROGRAM, TOOLS, TOP, ToolTest, comes, compile_parts, ended, needs
+from base import EXAMPLES, PROGRAM, TOOLS, TOP, ToolTest, comes, ended, needs
 from test_trace import QEMU
 from trace_base import TRACED, program_of
 
@@ -114,7 +114,8 @@ class CutTraces(ToolTest):
         (lackey.parent / QEMU).symlink_to(program_of(TRACED / "fake_qemu.c", "-rdynamic"))
         self.env = self.in_folder(PATH=f"{lackey.parent}:{os.environ['PATH']}", FAKE_HELP="-plugin",
                                   FAKE_VERSION="7.2.22", FAKE_START="0")
-        compile_parts(TOOLS, "second-level", "to-din", "trace-plugin.so", "trace-run")
+        for tool in ("to-din", "second-level", "trace"):
+            self.run_tool(tool, "--build")
 
     def words(self, tool):
         return [TOOLS / tool.split()[0], *TRACES[tool][0]]

@@ -13,8 +13,8 @@ import termios
 import time
 import unittest
 
-from base import (EXAMPLES, PROGRAM, TOOLS, ToolTest, all_processes, catches, comes,
-                  compile_parts, copy_tools, ended)
+from base import (EXAMPLES, PROGRAM, TOOLS, ToolTest, all_processes, catches, comes, copy_tools,
+                  ended)
 
 SPACE = "--bsize 16 --sets 1-4 --assoc 1-2 --size 64".split()
 CACHE = "-l1-dsize 128 -l1-dbsize 16 -l1-dassoc 2".split()
@@ -85,7 +85,7 @@ class Traces(Shared):
 
     def test_a_converter_that_is_killed(self):
         copy_tools(self.folder, "to-din")
-        compile_parts(self.folder, "to-din")
+        self.good(self.run_command(self.folder / "to-din", "--build"))
         (self.folder / "out/to-din").write_text("#!/bin/bash\nread -r; echo 0 10; kill -KILL $$\n")
         self.write("file", "10\n20\n")
         self.run_command("gzip", "-k", "file")

@@ -63,13 +63,13 @@ class Compiling(ToolTest):
     def test_a_source_that_changed(self):
         copy_tools(self.folder, "to-din")
         given = {"env": {"CFLAGS": "-O0"}}
-        self.good(self.run_command(self.folder / "to-din", "addresses", **given))
+        self.good(self.run_command(self.folder / "to-din", "--build", **given))
         made = self.folder / "out/to-din"
         before = made.stat().st_ino
-        self.good(self.run_command(self.folder / "to-din", "addresses", **given))
+        self.good(self.run_command(self.folder / "to-din", "--build", **given))
         self.assertEqual(made.stat().st_ino, before)
         self.later(self.folder / "lib/to-din.c", made)
-        self.good(self.run_command(self.folder / "to-din", "addresses", **given))
+        self.good(self.run_command(self.folder / "to-din", "--build", **given))
         self.assertNotEqual(made.stat().st_ino, before)
         # what is installed has no C file, and needs no compiler
         for path in (self.folder / "lib").rglob("*.[ch]"):
@@ -108,10 +108,9 @@ class Compiling(ToolTest):
         copy_tools(self.folder, "to-din")
         begun = self.folder / "begun"
         path = self.stand_in("cc", f"touch \"${{@: -2:1}}\" '{begun}'", "exec sleep 60")
-        given = {**self.in_folder(**path), "stdout": subprocess.DEVNULL, "stderr": subprocess.PIPE,
-                 "start_new_session": True}
+        given = {**self.in_folder(**path), "stderr": subprocess.PIPE, "start_new_session": True}
         for number in (signal.SIGTERM, signal.SIGINT, signal.SIGHUP):
-            with subprocess.Popen([self.folder / "to-din", "addresses", os.devnull], **given) as running:
+            with subprocess.Popen([self.folder / "to-din", "--build"], **given) as running:
                 self.assertTrue(comes(begun.exists))
                 self.assertNotEqual(self.made(), [])
                 running.send_signal(number)
@@ -126,8 +125,7 @@ class Compiling(ToolTest):
         removing = self.folder / "removing"
         self.stand_in("rm", f"touch '{removing}'", "sleep 0.3", f'exec {shutil.which("rm")} "$@"')
         path = self.stand_in("cc", 'touch "${@: -2:1}"', "exec sleep 60")
-        given = {**self.in_folder(**path), "stdout": subprocess.DEVNULL, "stderr": subprocess.PIPE,
-                 "start_new_session": True}
+        given = {**self.in_folder(**path), "stderr": subprocess.PIPE, "start_new_session": True}
         for number in (signal.SIGTERM, signal.SIGINT, signal.SIGHUP):
             with subprocess.Popen(["make", "-s", "-C", self.folder, "out/to-din"],
                                   **given) as running:
@@ -170,7 +168,7 @@ class Compiling(ToolTest):
         for command, package in ("make", "make"), ("cc", "gcc"), ("clang", "clang"):
             env = {"PATH": str(commands), "CC": "" if command in ("make", "cc") else command}
             env = {name: value for name, value in env.items() if value}
-            ran = self.run_command(self.folder / "to-din", "addresses", env=env)
+            ran = self.run_command(self.folder / "to-din", "--build", env=env)
             self.assertEqual(ran.stderr.decode(), told.format(command, package))
             for name in "make sh mkdir cat rm mv".split():
                 if not (commands / name).exists():
@@ -183,7 +181,7 @@ class Compiling(ToolTest):
         waits = 'for ((i = 0; i < 300 && $(wc -l < "$0.done") < 2; i++)); do sleep 0.1; done'
         path = self.stand_in("cc", f'"{shutil.which("cc")}" "$@" && echo >> "$0.done" && {waits}')
         given = {**self.in_folder(**path), "stderr": subprocess.PIPE}
-        both = [subprocess.Popen([self.folder / "to-din", "addresses", os.devnull], **given) for _ in range(2)]
+        both = [subprocess.Popen([self.folder / "to-din", "--build"], **given) for _ in range(2)]
         ends = [(each.communicate(timeout=60)[1], each.returncode) for each in both]
         self.assertEqual(ends, [(b"", 0)] * 2)
         self.assertEqual(self.made(), ["to-din"])

@@ -6,6 +6,7 @@ import re
 import sys
 
 from lib import tool
+from lib.compiled import compiled
 
 
 class Arguments(argparse.ArgumentParser):
@@ -22,6 +23,15 @@ class Arguments(argparse.ArgumentParser):
         tool.write_lines(self.format_help().splitlines())
 
 
+class Build(argparse.Action):
+    """Compiles the parts in C of a tool, and ends it."""
+
+    def __call__(self, parser, *_):
+        for part in self.const:
+            compiled(part)
+        parser.exit()
+
+
 class Collected(argparse.Action):
     """Collects an option and its value, as they are to be handed on."""
 
@@ -30,10 +40,13 @@ class Collected(argparse.Action):
 
 
 class Explained(Arguments):
-    """Arguments that the text explains: it is the whole help."""
+    """Arguments that the text explains: it is the whole help. With --build, which it does not tell
+    of, the tool only compiles its `parts`."""
 
-    def __init__(self, text):
+    def __init__(self, text, *parts):
         super().__init__(text.strip(), usage=argparse.SUPPRESS, allow_abbrev=False)
+        if parts:
+            self.add_argument("--build", action=Build, nargs=0, const=parts)
 
     def add_argument(self, *names, **given):
         return super().add_argument(*names, **{**given, "help": argparse.SUPPRESS})
@@ -57,7 +70,7 @@ class Explained(Arguments):
             word = left.pop(0)
             if word == "--":
                 break
-            has_value = word not in ("-h", "--help", *flags) and "=" not in word
+            has_value = word not in ("-h", "--help", "--build", *flags) and "=" not in word
             options.append("=".join([word, *left[:has_value]]))
             del left[:has_value]
         asked, found = self.parse_known_args(options, asked)

@@ -5,6 +5,7 @@ import re
 
 from lib import files, processes, tool
 from lib.arguments import Explained
+from lib.compiled import compiled
 
 ROOM = 1 << 20  # the bytes that the log may be ahead
 CACHES = "l1-i", "l1-d", "l1-u", "l2-u"
@@ -21,10 +22,10 @@ It is read once. The OPTIONs are those of
 class Arguments(Explained):
     """Those of such a tool: the trace, options of its own, and those of `cachesim din`."""
 
-    def __init__(self, text):
+    def __init__(self, text, *parts):
         for words, told in TEXTS.items():
             text = text.replace(words, told)
-        super().__init__(text)
+        super().__init__(text, *parts)
         self.add_trace()
         self.add_argument("--format", action="append", default=[])
 
@@ -93,8 +94,9 @@ def pieces(source):
         yield held
 
 
-def counts(binary, asked, what, each):
+def counts(asked, what, each):
     """What the log of a trace has, as out/log-counts counts it: rows of words."""
+    binary = compiled("log-counts")
 
     def take(source):
         with processes.Group() as group:
