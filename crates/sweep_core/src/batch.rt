@@ -17,7 +17,8 @@ pub(crate) const BATCH: usize = 4096;
 
 /// The addresses of references that wait to be fed: the first `len` of `addrs`. `led` has room for
 /// those of them that are given to the followers of a profile only. `added` counts all references
-/// that were added so far; beside the batch it would take six instructions more for each.
+/// that were added so far. It is a field since a count beside the batch, behind a pointer, was
+/// loaded from the stack and stored twice for each reference.
 #[derive(Drop)]
 pub(crate) struct Batch {
     addrs: Vec<u64>,
