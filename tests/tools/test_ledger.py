@@ -195,7 +195,7 @@ class TheLedger(ToolTest):
             ("crates/cache_core/specs/Geometry.antt", "-- the size in", "-- no size in"),
             ("crates/cache_core/CALLING.md", "16 bytes for each line", "15 bytes for each line"),
             ("crates/sweep_core/src/feeding.rt", moved, r"\1\3\2"),
-            ("crates/sweep_core/src/pass.rt", "fn feed_kept", "fn feed_those_kept"),
+            ("crates/sweep_core/src/pass.rt", "fn feed_item", "fn feed_an_item"),
             (f"crates/{WORKED}", "fn ", "fn other_"), ("tests/limits", "# ", "# Some "),
             ("tests/cases/din.cases", "== (?=din)", "== another-"),
             ("docs/speed.md", "ways", "associativity"), ("docs/PERF.md", "a", "an"),

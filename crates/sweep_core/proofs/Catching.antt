@@ -1,5 +1,5 @@
 -- Profiles that are not fed what they find in front, and catch up.
-use Rattle.std.proofs.Common.{◌≡◌, ℕ, zero, suc, ◌+◌, ◌-◌, ◌≤◌, true, false, cond, List, [], ◌∷◌}
+use Rattle.std.proofs.Common.{◌≡◌, ℕ, zero, suc, ◌+◌, ◌-◌, ◌≤◌, true, cond, List, [], ◌∷◌}
 use Rattle.std.proofs.Common.{map, take, fold, refl, sym, ap, ◌∙◌, subst, arith}
 use Rattle.std.specs.List.{AllByRecursion as Each}
 use Rattle.std.proofs.lemmas.List.{length-map}
@@ -22,7 +22,6 @@ use Rattle.sweep_core.specs.internal.Pass.{pair_after_flush, profiles_after, kep
 use Rattle.sweep_core.specs.internal.Feeding.{HaveFollowers, AreLed, IsFresh, pair_with_fronts}
 use Rattle.sweep_core.specs.internal.Feeding.{profiles_with_fronts, FedAtMost, AreBehind}
 use Rattle.sweep_core.specs.SweepText.{configs_of}
-use Rattle.sweep_core.proofs.Passes.{all_after-nil}
 use Rattle.sweep_core.proofs.Sweeping.{empty-fed}
 
 -- the profile of a pair after a reference to an address
@@ -157,15 +156,6 @@ kept-caught n kind r xs ys behind kept fed = (
       (profiles_with_fronts n xs)) (sym kept),
   subst (FedAtMost (n + 1)) (sym fed) (few-reference n r.addr xs behind.fed behind.fit),
 )
-
-pub left-caught : (n : ℕ) (kind : Kind) (r : Ref) (xs : List PairProfile) →
-    is_kept kind r.access ≡ false
-    → profiles_with_fronts n xs ≡ profiles_after (kept_events kind (r ∷ []))
-    (profiles_with_fronts n xs)
-left-caught n kind r xs left =
-    sym (all_after-nil (profiles_with_fronts n xs)) ∙
-    ap (λ b. profiles_after (map (λ x. event.Reference x) (cond b (r ∷ []) []))
-    (profiles_with_fronts n xs)) (sym left)
 
 -- a flush
 pub caught-flush : (n : ℕ) (xs : List PairProfile) →

@@ -21,6 +21,7 @@ pub mod Waiting
 pub mod FeedingEach
 pub mod FeedingOne
 pub mod Repeated
+pub mod Items
 pub mod WorkLaws
 pub mod FullLemmas
 pub mod FullStanding

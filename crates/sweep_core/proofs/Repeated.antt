@@ -123,13 +123,14 @@ module _ (n bits : ℕ) (addrs : List ℕ) (xs : List PairProfile) (h : AreWaiti
       ∙ sym (fed-append before (a ∷ []) xs)
       ∙ ap (λ l. profiles_after_batch l xs) (sym whole)
 
-  waiting-same : AreWaiting (n + 1) addrs xs
-  waiting-same = record {
-    waiting = omega (arith, h.waiting);
+  -- more that need not wait
+  pub waiting-later : (m : ℕ) → n ≤ m → AreWaiting m addrs xs
+  waiting-later m more = record {
+    waiting = omega (arith, h.waiting, more);
     behind = λ later.
         let was = h.behind later in
         record {
-          fed = Each-weaker (λ x. _) (λ x. _) (λ x le. omega (arith, le, h.waiting))
+          fed = Each-weaker (λ x. _) (λ x. _) (λ x le. omega (arith, le, h.waiting, more))
               (profiles_after_batch later xs) was.fed;
           fit = was.fit;
           led = was.led;
@@ -140,7 +141,8 @@ module _ (n bits : ℕ) (addrs : List ℕ) (xs : List PairProfile) (h : AreWaiti
   pub waiting-with : AreWaiting (n + 1) (with_waiting bits addrs c) xs
   waiting-with =
       cases (λ b. AreWaiting (n + 1) (cond b addrs (addrs ++ c ∷ [])) xs)
-      (is_in_last_block bits addrs c) (λ t. waiting-same) (λ f. waiting-more n addrs xs h c)
+      (is_in_last_block bits addrs c) (λ t. waiting-later (n + 1) (omega arith))
+      (λ f. waiting-more n addrs xs h c)
 
   pub fed-with : profiles_after_batch (with_waiting bits addrs c) xs
       ≡ profiles_after_batch (addrs ++ c ∷ []) xs

@@ -1,18 +1,23 @@
 //! One pass over a trace: the references wait in a batch, which is fed to each profile.
-ghost use Rattle.std.specs.Prelude.{◌≡◌, ◌+◌, ◌<◌, ◌≤◌, ◌∷◌, [], map};
+ghost use Rattle.std.specs.Prelude.{◌≡◌, ◌+◌, ◌<◌, ◌≤◌, [], length, map};
 ghost use Rattle.std.specs.List.{AllByRecursion};
 ghost use Rattle.trace_core.specs.Reader.{new_progress};
+ghost use Rattle.trace_core.specs.Events.{events_of};
+ghost use Rattle.trace_core.specs.declared.events.Entry.TheVariants as entry;
 ghost use Rattle.sweep_core.specs.internal.Pass.{pair_after_flush};
-ghost use Rattle.sweep_core.specs.internal.Pass.{kept_events, profiles_after, state_after, Feeds};
+ghost use Rattle.sweep_core.specs.internal.Pass.{profiles_after, state_after, Feeds};
 ghost use Rattle.sweep_core.specs.internal.Feeding.{HaveFollowers, IsFresh};
 ghost use Rattle.sweep_core.specs.internal.Feeding.{profiles_after_batch, profiles_with_fronts};
 ghost use Rattle.sweep_core.specs.internal.Waiting.{AreWaiting, AreNoSmaller};
+ghost use Rattle.sweep_core.specs.internal.Waiting.{kept_count, kept_counts};
+ghost use Rattle.sweep_core.specs.declared.batch.TheConstants.{BATCH};
+ghost use Rattle.trace_core.specs.declared.events.Kind.{Kind};
 
 use crate::batch::Batch;
 use crate::feeding::{catch_up, finest_size};
 use crate::profiles::PairProfile;
 use profile_core::MAX_REFERENCES;
-use trace_core::{Entry, Kind, Lines, Ref, Source, TraceFault, refs_of};
+use trace_core::{Entry, Item, Kind, Lines, Op, Source, TraceFault};
 
 /// Reads a trace up to its end or its first fault, and feeds each entry to the profiles: its
 /// references of a kind, or a flush. At most one batch of references is kept in memory. A profile
@@ -59,15 +64,12 @@ fn read_entries<S: Source>(
     ensures waiting { AreWaiting batch.new.added batch.new.waiting profiles.new }
     ensures few { batch.new.added ≤ MAX_REFERENCES }
 {
+    let counts = kept_counts(kind);
     let size = finest_size(profiles);
     while let Some((_, entry)) = lines.next(source)? {
         match entry {
             Entry::Item(item) => {
-                let (first, second) = refs_of(item);
-                feed_kept(profiles, batch, size, kind, first);
-                if let Some(second) = second {
-                    feed_kept(profiles, batch, size, kind, second);
-                }
+                feed_item(profiles, batch, size, item, kept_count(&counts, item.op));
             }
             Entry::Flush => {
                 batch.feed(profiles);
@@ -78,28 +80,48 @@ fn read_entries<S: Source>(
     Ok(())
 }
 
-/// If a reference is of a kind, adds it to the batch. If the batch is full, its references are fed
-/// first. `size` is that of the smallest blocks.
+/// Adds the references of an item that are kept, so many, to the batch. If it is then full, its
+/// references are fed. `size` is that of the smallest blocks.
 #[inline(always)]
-fn feed_kept(profiles: &mut [PairProfile], batch: &mut Batch, size: u64, kind: Kind, reference: Ref)
-    requires few { batch.old.added < MAX_REFERENCES }
+fn feed_item(profiles: &mut [PairProfile], batch: &mut Batch, size: u64, item: Item, count: u64)
+    requires few { batch.old.added + count ≤ MAX_REFERENCES }
+    requires room { length batch.old.waiting < BATCH }
     requires waiting { AreWaiting batch.old.added batch.old.waiting profiles.old }
     requires finest { AreNoSmaller size profiles.old }
-    ensures caught { profiles_with_fronts batch.new.added
-        (profiles_after_batch batch.new.waiting profiles.new)
-        ≡ profiles_after (kept_events kind (reference ∷ []))
+    ensures caught { (kind : Kind) → count ≡ kept_count kind item.op →
+        profiles_with_fronts batch.new.added (profiles_after_batch batch.new.waiting profiles.new)
+        ≡ profiles_after (events_of kind (entry.Item item))
         (profiles_with_fronts batch.old.added
         (profiles_after_batch batch.old.waiting profiles.old)) }
+    ensures room { length batch.new.waiting < BATCH }
     ensures waiting { AreWaiting batch.new.added batch.new.waiting profiles.new }
     ensures finest { AreNoSmaller size profiles.new }
-    ensures more { batch.new.added ≤ batch.old.added + 1 }
+    ensures added { batch.new.added ≡ batch.old.added + count }
 {
-    if kind.keeps(reference.access) {
-        if batch.is_full() {
-            batch.feed(profiles);
-        }
-        batch.push(reference.addr, size);
+    if count > 0 && batch.push(item.addr, size, count) && batch.is_full() {
+        batch.feed(profiles);
     }
+}
+
+/// How many references of an item are of a kind, for each operation in its order. Both references
+/// of a modify have one address, so that no more than one of them waits.
+fn kept_counts(kind: Kind) -> [u64; 4]
+    ensures { result ≡ kept_counts kind }
+{
+    match kind {
+        Kind::All => [1, 1, 1, 2],
+        Kind::DataOnly => [1, 1, 0, 2],
+        Kind::FetchOnly => [0, 0, 1, 0],
+    }
+}
+
+/// How many of them an item with an operation has. It is looked up, since the operations of a trace
+/// come in no order that a processor predicts.
+#[inline(always)]
+fn kept_count(counts: &[u64; 4], op: Op) -> u64
+    ensures { (kind : Kind) → counts.now ≡ kept_counts kind → result ≡ kept_count kind op }
+{
+    counts[op as usize]
 }
 
 /// Flushes each profile.

@@ -7,10 +7,11 @@ use Rattle.std.proofs.lemmas.Bool.{false≢true, le-leb, lt-leb, le-ltb, ltb-fal
 use Rattle.std.proofs.lemmas.Bool.{leb-false}
 use Rattle.std.proofs.Common.{to_z}
 use Rattle.std.specs.Int.Signed.{le_z}
-use Rattle.std.proofs.lemmas.Int.Digits.{number_more}
+use Rattle.std.proofs.lemmas.Int.Digits.{number_more, number_lt}
 use Rattle.std.proofs.lemmas.Nat.{le-div, div_below}
 use Rattle.std.proofs.lemmas.List.{take_all}
-use Rattle.std.specs.Int.{from_be_bytes, bit_at, trailing_ones}
+use Rattle.std.specs.Int.{from_be_bytes, bit_at}
+use Rattle.std.specs.Int.{trailing_ones}
 use Rattle.std.proofs.Common.{pow_pos, subst, length-take-le, pow-suc, drop, take-append-drop}
 use Rattle.std.proofs.Common.{ltb-true, length-drop}
 use Rattle.std.specs.Str.Parse.{AllDigits, digits_value}
@@ -23,9 +24,10 @@ use Rattle.trace_core.specs.Fields.{WritesNumber}
 use Rattle.std.specs.List.{range_with_len}
 use Rattle.std.specs.Char.{digit_value, is_digit}
 use Rattle.std.specs.Int.Digits.{number_from_digits, number_from_digits_after, AllBelowBase}
-use Rattle.std.specs.Simd.Lanes.{zip2, sel_l, mask_l, top, number_l, digits_l, Each1}
+use Rattle.std.specs.Simd.Lanes.{zip2, sel_l, mask_l, top, number_l, digits_l, pick_l, Each1}
 use Rattle.std.proofs.lemmas.Simd.{tops_compared, zip2_splat, zip2-map, map-map, bitmask_splat}
-use Rattle.std.proofs.lemmas.List.{length-map, get_or-map}
+use Rattle.std.proofs.lemmas.Simd.{zip2_of_maps, get_or_narrower, Each1-get_or}
+use Rattle.std.proofs.lemmas.List.{length-map, get_or-map, map-id}
 use Rattle.std.proofs.lemmas.List.FromFn.{get_or-map-range_with_len}
 
 abbrev pub near : ℕ → ℕ → ℕ → ℕ
@@ -211,17 +213,20 @@ letters_of_capped xs ascii is fits =
 
 -- the value of a byte, if it is a digit
 abbrev pub nibble : ℕ → ℕ
-nibble c = (bit_and c 15 + bit_and (letter c) 9) % 256
+nibble c = bit_and ((c + bit_and (letter c) 9) % 256) 15
 
 pub nibbles_are : (xs : List ℕ) → length xs ≡ 16
-    → zip2 (λ a b. (a + b) % 256) (zip2 bit_and xs (replicate 16 15))
-    (zip2 bit_and (map letter xs) (replicate 16 9)) ≡ map nibble xs
+    → zip2 bit_and (zip2 (λ a b. (a + b) % 256) xs
+    (zip2 bit_and (map letter xs) (replicate 16 9))) (replicate 16 15) ≡ map nibble xs
 nibbles_are xs long =
-    let low = zip2_splat bit_and xs 16 15 long in
-    let high = zip2_splat bit_and (map letter xs) 16 9 (length-map xs letter ∙ long) ∙
+    let moved = λ (c : ℕ). (c + bit_and (letter c) 9) % 256 in
+    let nines = zip2_splat bit_and (map letter xs) 16 9 (length-map xs letter ∙ long) ∙
     map-map (λ x. bit_and x 9) letter xs in
-    (λ i. zip2 (λ a b. (a + b) % 256) (low i) (high i)) ∙ zip2-map (λ a b. (a + b) % 256)
-    (λ c. bit_and c 15) (λ c. bit_and (letter c) 9) xs
+    let sums = zip2_of_maps (λ a b. (a + b) % 256) (λ (c : ℕ). c) (λ c. bit_and (letter c) 9) xs
+    (sym (map-id xs)) nines in
+    ap (λ l. zip2 bit_and l (replicate 16 15)) sums
+    ∙ zip2_splat bit_and (map moved xs) 16 15 (length-map xs moved ∙ long)
+    ∙ map-map (λ x. bit_and x 15) moved xs
 
 nibble_small : (c : ℕ) → c < 256 → ltb (nibble c) 16 ≡ true
 nibble_small = same_on_bytes false (λ c. ltb (nibble c) 16) (λ _. true) refl
@@ -253,9 +258,12 @@ packed [] = []
 packed (a ∷ []) = []
 packed (a ∷ b ∷ ds) = (a * 16 + b) ∷ packed ds
 
--- what is made of a lane
+-- what is made of a lane, and the higher byte of that
+abbrev pub product : ℕ → ℕ
+product w = w * 4097 % 65536
+
 abbrev pub pack : ℕ → ℕ
-pack w = w * 4097 % 65536 / 256
+pack w = product w / 256
 
 joined_are : (k : ℕ) (ds : List ℕ) → length ds ≡ 2 * k → AllBelowBase 16 ds →
     digits_l 65536 k (number_l 256 ds) ≡ joined ds
@@ -316,13 +324,48 @@ eight_bytes bs long =
       all,
     )
 
-pub number_is : (ds : List ℕ) → length ds ≡ 16 → AllBelowBase 16 ds →
-    from_be_bytes w64 (map pack (digits_l 65536 8 (number_l 256 ds))) ≡ number_from_digits 16 ds
+products_fit : (ws : List ℕ) → Each1 (λ m. m < 65536) (map product ws)
+products_fit [] = tt
+products_fit (w ∷ ws) = (omega arith, products_fit ws)
+
+-- the higher byte of a lane
+higher : (ws : List ℕ) (j : ℕ) → length ws ≡ 8 → j < 8 →
+    get_or (digits_l 256 16 (number_l 65536 (map product ws))) (2 * j + 1) 0 ≡
+    get_or (map pack ws) j 0
+higher ws j long below =
+    let ms = map product ws in
+    let lanes : length ms ≡ 8 = length-map ws product ∙ long in
+    let lane : get_or ms j 0 < 65536 =
+    Each1-get_or (λ m. m < 65536) ms j 0 (omega (arith, lanes, below)) (products_fit ws) in
+    get_or_narrower 65536 2 256 16 ms j 1 refl (products_fit ws) (omega arith)
+    (omega (arith, below))
+    ∙ omega (arith, lane)
+    ∙ sym (get_or-map (λ m. m / 256) ms j 0 0 (omega (arith, lanes, below)))
+    ∙ ap (λ l. get_or l j 0) (map-map (λ m. m / 256) product ws)
+
+pub number_is : (ds : List ℕ) → length ds ≡ 16 → AllBelowBase 16 ds
+    → number_l 256 (pick_l 0 (digits_l 256 16 (number_l 65536
+    (map product (digits_l 65536 8 (number_l 256 ds)))))
+    (15 ∷ 13 ∷ 11 ∷ 9 ∷ 7 ∷ 5 ∷ 3 ∷ 1 ∷ [])) % 2 ^ 64 ≡ number_from_digits 16 ds
 number_is ds long small =
-    ap (λ ws. from_be_bytes w64 (map pack ws)) (joined_are 8 ds long small)
+    let ws = digits_l 65536 8 (number_l 256 ds) in
+    let bs = map pack ws in
+    let same = λ (j : ℕ) (below : j < 8). higher ws j refl below in
+    let turned : number_l 256 (get_or bs 7 0 ∷ get_or bs 6 0 ∷ get_or bs 5 0 ∷ get_or bs 4 0 ∷
+    get_or bs 3 0 ∷ get_or bs 2 0 ∷ get_or bs 1 0 ∷ get_or bs 0 0 ∷ []) ≡ from_be_bytes w64 bs =
+    omega arith in
+    let number =
+    (λ i. number_l 256 (same 7 (omega arith) i ∷ same 6 (omega arith) i ∷
+    same 5 (omega arith) i ∷ same 4 (omega arith) i ∷ same 3 (omega arith) i ∷
+    same 2 (omega arith) i ∷ same 1 (omega arith) i ∷ same 0 (omega arith) i ∷ []))
+    ∙ turned
+    ∙ ap (λ l. from_be_bytes w64 (map pack l)) (joined_are 8 ds long small)
     ∙ ap (from_be_bytes w64) (packed_are ds small)
     ∙ eight_bytes (packed ds) (length-packed 8 ds long)
-    ∙ packed_number 8 0 ds long
+    ∙ packed_number 8 0 ds long in
+    let fits : number_from_digits 16 ds < 2 ^ 64 =
+    subst (λ n. number_from_digits 16 ds < 16 ^ n) long (number_lt 16 ds small) in
+    ap (λ n. n % 2 ^ 64) number ∙ omega (arith, fits)
 
 -- the digits in front, of which a mask has a bit each
 abbrev hex : ℕ → Bool

@@ -94,7 +94,7 @@ module _ (reported : Option (List ℕ)) (scan : Scan) (opened : scan.state ≡ s
 
   -- the bytes that were not
   abbrev u : List ℕ
-  u = scan.buffer
+  u = scan.buffer.waiting
 
   abbrev s : ReaderState
   s = scan.state

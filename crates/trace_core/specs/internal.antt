@@ -1,4 +1,5 @@
 pub mod FastLine
 pub mod Devices
 pub mod Scan
+pub mod Buffer
 pub mod HexadecimalDigits

@@ -19,7 +19,8 @@ pub(crate) fn digit_mask(bytes: u8x16) -> u64
     digits.simd_eq(u8x16::splat(255)).to_bitmask()
 }
 
-/// The values of the bytes that are hexadecimal digits, and any below 16 for the others.
+/// The values of the bytes that are hexadecimal digits, and any below 16 for the others. A letter's
+/// lowest bits are 9 below its value.
 #[inline(always)]
 pub(crate) fn digit_values(bytes: u8x16) -> u8x16
     ensures lanes { length result ≡ 16 }
@@ -27,18 +28,20 @@ pub(crate) fn digit_values(bytes: u8x16) -> u8x16
     ensures values { (k : ℕ) → is_digit (slice_index bytes k) 16 ≡ true →
         slice_index result k ≡ digit_value (slice_index bytes k) }
 {
-    (bytes & u8x16::splat(15)) + (letters(ascii_lanes(bytes)) & u8x16::splat(9))
+    (bytes + (letters(ascii_lanes(bytes)) & u8x16::splat(9))) & u8x16::splat(15)
 }
 
-/// The number that sixteen digits write. A product brings the two of each pair together.
+/// The number that sixteen digits write. A product brings the two of each pair together, in the
+/// higher byte of their lane. These bytes are read from the last to the first, by one instruction
+/// of the processor.
 #[inline(always)]
 pub(crate) fn number_of(digits: u8x16) -> u64
     requires { AllBelowBase 16 digits }
     ensures { result ≡ number_from_digits 16 digits }
 {
     let words = u16x8::from_le_bytes(digits);
-    let pairs = (words * u16x8::splat((16 << 8) + 1)) >> u16x8::splat(8);
-    u64::from_be_bytes(pairs.cast::<u8>().to_array())
+    let pairs = (words * u16x8::splat((16 << 8) + 1)).to_le_bytes();
+    u64x1::from_le_bytes(pairs.swizzle([15, 13, 11, 9, 7, 5, 3, 1])).to_array()[0]
 }
 
 /// The bytes, where 127 stands for each that is no ASCII. That is no digit either, and lanes up to

@@ -53,7 +53,7 @@ impl Lines {
                     addr: 0,
                     size: 0,
                 },
-                room: 0,
+                plain_end: 0,
             },
         })
     }

@@ -1,7 +1,7 @@
 //! The loop of a reader: it takes the lines that a source delivers one by one, and asks for more
 //! bytes. What a line means is decided in `line`, and for the usual forms in `plain_line` and
 //! `fast_line`; `reader` shows the whole to callers.
-ghost use Rattle.std.specs.Prelude.{◌≡◌, ◌≢◌, ℕ, ◌+◌, ◌<◌, ◌≤◌, List, [], Option, None, Some};
+ghost use Rattle.std.specs.Prelude.{◌≡◌, ◌≢◌, ℕ, ◌+◌, ◌-◌, ◌<◌, ◌≤◌, List, [], Option, None, Some};
 ghost use Rattle.std.specs.Prelude.{length, drop, IfNone, IfSome, OnSome};
 ghost use Rattle.std.specs.Option.{option_to_list};
 ghost use Rattle.std.specs.Io.KnownBytes.{IsAtEnd};
@@ -10,6 +10,7 @@ ghost use Rattle.trace_core.specs.Device.{SourceView, failures_after};
 ghost use Rattle.trace_core.specs.declared.events.Entry.TheVariants as entry;
 ghost use Rattle.trace_core.specs.declared.limits.TheConstants.{MAX_LINES};
 ghost use Rattle.trace_core.specs.declared.state.ReaderState.TheVariants as reader;
+ghost use Rattle.trace_core.specs.internal.Buffer.{EndsPlain};
 
 use crate::buffer::Buffer;
 use crate::events::{Entry, Item};
@@ -38,14 +39,13 @@ pub(crate) struct Scan {
     pub(crate) state: ReaderState,
     /// The last item that `search` found.
     pub(crate) item: Item,
-    /// How many bytes may be read as lines of the plain form. They wait in the buffer, and are no
-    /// more than the lines that may follow, so a test of it stands for one of each, which saves
-    /// five instructions a line.
-    pub(crate) room: usize,
+    /// The index in the buffer before which a line may be read as one of the plain form: enough
+    /// bytes wait there, and the limit allows a line. So one test stands for both.
+    pub(crate) plain_end: usize,
     ghost limited: { limit ≤ MAX_LINES },
-    ghost within: { lines + room ≤ limit },
-    ghost waiting: { room ≤ length buffer },
-    ghost stopped: { state ≢ reader.Open → buffer ≡ [] },
+    ghost within: { lines ≤ limit },
+    ghost plain: { EndsPlain (limit - lines) buffer plain_end },
+    ghost stopped: { state ≢ reader.Open → buffer.waiting ≡ [] },
 }
 
 /// The result of `search`. The item itself is in the scan, since a result that fits in a register
@@ -98,7 +98,7 @@ impl Scan {
         ensures open { IfSome result (λ _. self.old.state ≡ ReaderState.Open) }
         ensures none { IfNone result (self.new ≡ self.old) }
     {
-        if self.room < PLAIN_ROOM {
+        if self.buffer.start() >= self.plain_end {
             return None;
         }
         let (text, _) = self.buffer.as_slice().split_at(PLAIN_ROOM);
@@ -107,17 +107,18 @@ impl Scan {
         Some(item)
     }
 
-    /// Passes over a line of so many bytes, for which there is room.
+    /// Passes over a line of so many bytes, and leaves the end of plain lines where it is: it stays
+    /// right, since each line has at least one byte.
     #[inline(always)]
     fn pass_plain_line(&mut self, len: usize)
         requires some { 1 ≤ len }
-        requires within { len ≤ self.old.room }
+        requires within { len ≤ length self.old.buffer.waiting }
+        requires below { self.old.lines < self.old.limit }
         ensures lines { self.new.lines ≡ self.old.lines + 1 }
-        ensures buffer { self.new.buffer ≡ drop len self.old.buffer }
+        ensures buffer { self.new.buffer.waiting ≡ drop len self.old.buffer.waiting }
         ensures same { (self.new.format ≡ self.old.format) × (self.new.limit ≡ self.old.limit)
             × (self.new.state ≡ self.old.state) }
     {
-        self.room -= len;
         self.buffer.consume(len);
         self.lines += 1;
     }
@@ -196,11 +197,11 @@ impl Scan {
     /// Stops for the reason that a state says, and drops the bytes that are left.
     fn stop(&mut self, state: ReaderState)
         ensures state { self.new.state ≡ state }
-        ensures buffer { self.new.buffer ≡ [] }
+        ensures buffer { self.new.buffer.waiting ≡ [] }
         ensures same { KeepsTask self.old self.new }
         ensures lines { self.new.lines ≡ self.old.lines }
     {
-        self.room = 0;
+        self.plain_end = 0;
         self.buffer.clear();
         self.state = state;
     }
@@ -208,17 +209,17 @@ impl Scan {
     /// Passes over a line of so many bytes, the LF included, and returns its number.
     #[inline(always)]
     fn pass_line(&mut self, len: usize) -> u64
-        requires within { len ≤ length self.old.buffer }
+        requires within { len ≤ length self.old.buffer.waiting }
         requires below { self.old.lines < self.old.limit }
         ensures number { result ≡ self.new.lines }
         ensures lines { self.new.lines ≡ self.old.lines + 1 }
-        ensures buffer { self.new.buffer ≡ drop len self.old.buffer }
+        ensures buffer { self.new.buffer.waiting ≡ drop len self.old.buffer.waiting }
         ensures same { (self.new.format ≡ self.old.format) × (self.new.limit ≡ self.old.limit)
             × (self.new.state ≡ self.old.state) }
     {
         self.buffer.consume(len);
         self.lines += 1;
-        self.room = room_for(self.limit - self.lines, self.buffer.as_slice().len());
+        self.plain_end = plain_end(self.limit - self.lines, &self.buffer);
         self.lines
     }
 
@@ -226,7 +227,7 @@ impl Scan {
     #[inline(always)]
     fn take_line(&mut self, at: usize) -> Option<(u64, Entry)>
         requires open { self.old.state ≡ ReaderState.Open }
-        requires line { IsFirstByte (is_byte 10) self.old.buffer (Some at) }
+        requires line { IsFirstByte (is_byte 10) self.old.buffer.waiting (Some at) }
         requires below { self.old.lines < self.old.limit }
         ensures advances { (reported : Option (List ℕ)) →
             Advances reported (progress self.old) (progress self.new) [] (option_to_list result) }
@@ -254,8 +255,8 @@ impl Scan {
     #[inline(never)]
     fn refill<S: Source>(&mut self, source: &mut S) -> Option<(u64, Entry)>
         requires open { self.old.state ≡ ReaderState.Open }
-        requires no_line { IsFirstByte (is_byte 10) self.old.buffer None }
-        requires below { 0 < length self.old.buffer → self.old.lines < self.old.limit }
+        requires no_line { IsFirstByte (is_byte 10) self.old.buffer.waiting None }
+        requires below { 0 < length self.old.buffer.waiting → self.old.lines < self.old.limit }
         ensures advances { Reads (S.view source.old) (S.view source.new) self.old self.new result }
         ensures steps { StepsScan (S.view source.old) (S.view source.new) self.old self.new result }
         ensures ends { OnSome result (self.new.state ≡ ReaderState.Ended) }
@@ -265,12 +266,11 @@ impl Scan {
             self.stop(ReaderState::Failed(TraceFault::TooLong { line }));
             return None;
         }
-        match self.buffer.refill(source) {
+        let read = self.buffer.refill(source);
+        self.plain_end = plain_end(self.limit - self.lines, &self.buffer);
+        match read {
             Ok(0) => self.finish(),
-            Ok(_) => {
-                self.room = room_for(self.limit - self.lines, self.buffer.as_slice().len());
-                None
-            }
+            Ok(_) => None,
             Err(DeviceFault) => {
                 self.stop(ReaderState::Failed(TraceFault::Read { line }));
                 None
@@ -283,9 +283,9 @@ impl Scan {
     #[inline(never)]
     fn finish(&mut self) -> Option<(u64, Entry)>
         requires open { self.old.state ≡ ReaderState.Open }
-        requires no_line { IsFirstByte (is_byte 10) self.old.buffer None }
-        requires below { 0 < length self.old.buffer → self.old.lines < self.old.limit }
-        requires short { length self.old.buffer ≤ MAX_LINE }
+        requires no_line { IsFirstByte (is_byte 10) self.old.buffer.waiting None }
+        requires below { 0 < length self.old.buffer.waiting → self.old.lines < self.old.limit }
+        requires short { length self.old.buffer.waiting ≤ MAX_LINE }
         ensures advances { (reported : Option (List ℕ)) → IsAtEnd reported →
             Advances reported (progress self.old) (progress self.new) [] (option_to_list result) }
         ensures state { self.new.state ≢ ReaderState.Open }
@@ -312,14 +312,13 @@ impl Scan {
     }
 }
 
-/// How many of the bytes that wait may be read without a test of the limit, if so many lines may
-/// follow: each line has at least one byte.
+/// The end of plain lines in a buffer, if so many lines may follow.
 #[inline]
-fn room_for(lines: u64, waiting: usize) -> usize
-    ensures lines { result ≤ lines }
-    ensures waiting { result ≤ waiting }
+fn plain_end(lines: u64, buffer: &Buffer) -> usize
+    ensures { EndsPlain lines buffer.now result }
 {
-    lines.min(waiting as u64) as usize
+    let places = buffer.as_slice().len().saturating_sub(PLAIN_ROOM - 1);
+    buffer.start() + lines.min(places as u64) as usize
 }
 
 ghost use Rattle.trace_core.specs.Reading.{judgement};

@@ -1,15 +1,30 @@
 -- References that wait to be fed.
 use Rattle.std.specs.Prelude.{◌≡◌, ℕ, Bool, ◌==◌, ◌&&◌, nat_lt, ◌≤◌, ◌-◌, ◌/◌, ◌^◌, min, fold}
-use Rattle.std.specs.Prelude.{List, [], ◌∷◌, ◌++◌, length, if◌then◌else◌, slice_index_or}
+use Rattle.std.specs.Prelude.{List, [], ◌∷◌, ◌++◌, length, map, if◌then◌else◌, slice_index_or}
 use Rattle.std.specs.List.{AllByRecursion}
+use Rattle.std.specs.Option.{option_to_list}
+use Rattle.trace_core.specs.declared.events.Kind.{Kind}
+use Rattle.trace_core.specs.declared.events.Op.{Op}
+use Rattle.trace_core.specs.declared.events.Op.TheVariants as op
+use Rattle.trace_core.specs.Events.{references_to}
 use Rattle.sweep_core.specs.declared.profiles.PairProfile.{PairProfile}
 use Rattle.sweep_core.specs.internal.Feeding.{AreAlwaysBehind}
+use Rattle.sweep_core.specs.internal.Pass.{kept_events}
 
 -- a batch of references: those that wait, and how many were added so far, also those that need not
 -- wait
 pub record Batched (A : Type 0) : Type 0 where
   pub waiting : List A
   pub added : ℕ
+
+-- how many references of an item with an operation a kind keeps
+abbrev pub kept_count : Kind → Op → ℕ
+kept_count kind op =
+    let both = references_to op 0 in length (kept_events kind (both.0 ∷ option_to_list both.1))
+
+-- that of each operation, in their order
+abbrev pub kept_counts : Kind → List ℕ
+kept_counts kind = map (kept_count kind) (op.Load ∷ op.Store ∷ op.Fetch ∷ op.Modify ∷ [])
 
 -- whether an address lies in the same block of 2^bits bytes as the last of some others
 abbrev pub is_in_last_block : ℕ → List ℕ → ℕ → Bool

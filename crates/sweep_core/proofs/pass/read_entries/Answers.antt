@@ -1,5 +1,6 @@
 -- Each entry that is read is fed, and the pass ends as the reader does.
 use Rattle.std.proofs.Common.{◌≡◌, map, ◌∷◌, ◌++◌, [], length-append, sym, ap, ◌∙◌, subst, arith}
+use Rattle.std.proofs.Common.{Ok, length}
 use Rattle.std.specs.List.{flat_map}
 use Rattle.trace_core.specs.Events.{events_of}
 use Rattle.trace_core.specs.Task.{entries_of}
@@ -8,11 +9,12 @@ use Rattle.trace_core.proofs.WholeTraces.{reads-none}
 use Rattle.sweep_core.specs.internal.Pass.{profiles_after, pair_after_flush}
 use Rattle.sweep_core.specs.internal.Feeding.{profiles_with_fronts, FedAtMost, profiles_after_batch}
 use Rattle.sweep_core.specs.internal.Waiting.{AreWaiting, AreNoFiner, finest_bits}
-use Rattle.sweep_core.proofs.Passes.{all_after-nil, all_after-append, fed-both, fed-more, fed-one}
+use Rattle.sweep_core.proofs.Passes.{all_after-nil, all_after-append, fed-more}
 use Rattle.sweep_core.proofs.Catching.{fresh-few, caught-none, caught-flush, few-flush}
 use Rattle.sweep_core.proofs.Waiting.{fed-nil, waiting-none, waiting-behind, waiting-few}
 use Rattle.sweep_core.proofs.Waiting.{waiting-led}
 use Rattle.sweep_core.proofs.Repeated.{finest-finer, no-finer-fed, no-finer-flushed}
+use Rattle.sweep_core.proofs.Items.{kept-most}
 use Rattle.sweep_core.proofs.pass.read_entries.Goals as goal
 
 pub loop-entry-init : goal.loop-entry-init
@@ -30,60 +32,58 @@ loop-entry-init g c =
       ),
       omega (arith, ap (λ p. p.lines) c.requires.begun),
       (finest_bits xs, c.finest_size-size.ensures, finest-finer xs),
+      c.kept_counts-counts.ensures,
+      omega (arith, ap (λ b. length b.waiting) c.requires.empty),
     )
 
-pub loop-entry-preserved-in-Some-second : goal.loop-entry-preserved-in-Some-second
-loop-entry-preserved-in-Some-second g c =
+pub loop-entry-preserved-in-Item : goal.loop-entry-preserved-in-Item
+loop-entry-preserved-in-Item g c =
     let so_far = c.loop-entry.invariant.0 in
     let es = entries_of so_far.read in
-    let first = c.feed_kept.ensures in
-    let second = c.feed_kept-in-Some-second.ensures in
+    let fed = c.feed_item.ensures in
+    let counted = c.kept_count.ensures c.args.kind c.loop-entry.invariant.3 in
     let old = profiles_with_fronts c.loop-entry.batch.added
     (profiles_after_batch c.loop-entry.batch.waiting c.loop-entry.profiles) in
-    let mid = profiles_with_fronts c.feed_kept.new.batch.added
-    (profiles_after_batch c.feed_kept.new.batch.waiting c.feed_kept.new.profiles) in
-    let new = profiles_with_fronts c.feed_kept-in-Some-second.new.batch.added
-    (profiles_after_batch c.feed_kept-in-Some-second.new.batch.waiting
-    c.feed_kept-in-Some-second.new.profiles) in
-    let fed = fed-both profiles_after all_after-append c.args.kind old mid new c.in-Item.is
-    c.refs_of-second.ensures
-    c.in-Some-second.is first.caught second.caught in (
+    let new = profiles_with_fronts c.feed_item.new.batch.added
+    (profiles_after_batch c.feed_item.new.batch.waiting c.feed_item.new.profiles) in
+    let caught : new ≡ profiles_after (events_of c.args.kind c.in-Some.entry) old =
+    subst (λ e. new ≡ profiles_after (events_of c.args.kind e) old) (sym c.in-Item.is)
+    (fed.caught c.args.kind counted) in (
       reads-more so_far c.next.ensures.reached c.next.ensures.entry c.in_ok-entry.was c.in-Some.is (
         fed-more profiles_after all_after-append c.args.kind c.args.profiles.now old new es
-            c.in-Some.entry so_far.holds.0 fed,
-        second.waiting,
+            c.in-Some.entry so_far.holds.0 caught,
+        fed.waiting,
         omega (
           arith,
           so_far.holds.2,
-          first.more,
-          second.more,
+          fed.added,
+          counted,
+          kept-most c.args.kind c.in-Item.item.op,
           length-append es (c.in-Some.entry ∷ []),
         ),
       ),
       omega (arith, c.next.ensures.within, c.next.ensures.limited),
-      second.finest,
+      fed.finest,
+      c.loop-entry.invariant.3,
+      fed.room,
     )
 
-pub loop-entry-preserved-in_default-second : goal.loop-entry-preserved-in_default-second
-loop-entry-preserved-in_default-second g c =
+-- a kind keeps two references at most
+pub feed_item-requires-clause-few : goal.feed_item-requires-clause-few
+feed_item-requires-clause-few g c =
     let so_far = c.loop-entry.invariant.0 in
-    let es = entries_of so_far.read in
-    let one = c.feed_kept.ensures in
-    let old = profiles_with_fronts c.loop-entry.batch.added
-    (profiles_after_batch c.loop-entry.batch.waiting c.loop-entry.profiles) in
-    let new = profiles_with_fronts c.feed_kept.new.batch.added
-    (profiles_after_batch c.feed_kept.new.batch.waiting c.feed_kept.new.profiles) in
-    let fed = fed-one profiles_after all_after-append c.args.kind old new c.in-Item.is
-    c.refs_of-second.ensures
-    c.in_default-second.is one.caught in (
-      reads-more so_far c.next.ensures.reached c.next.ensures.entry c.in_ok-entry.was c.in-Some.is (
-        fed-more profiles_after all_after-append c.args.kind c.args.profiles.now old new es
-            c.in-Some.entry so_far.holds.0 fed,
-        one.waiting,
-        omega (arith, so_far.holds.2, one.more, length-append es (c.in-Some.entry ∷ [])),
-      ),
-      omega (arith, c.next.ensures.within, c.next.ensures.limited),
-      one.finest,
+    let counted = c.kept_count.ensures c.args.kind c.loop-entry.invariant.3 in
+    let bears = c.next.ensures.entry in
+    let further = (rw (c.in_ok-entry.was ∙ ap Ok c.in-Some.is) at bears).1 in
+    omega (
+      arith,
+      so_far.holds.2,
+      so_far.few,
+      further,
+      c.next.ensures.within,
+      c.next.ensures.limited,
+      counted,
+      kept-most c.args.kind c.in-Item.item.op,
     )
 
 -- at a flush those that wait are fed first
@@ -141,6 +141,8 @@ loop-entry-preserved g c =
             (no-finer-fed bits c.loop-entry.batch.waiting c.loop-entry.profiles
             c.loop-entry.invariant.2.2)),
       ),
+      c.loop-entry.invariant.3,
+      omega (arith, ap length c.feed.ensures.none),
     )
 
 pub returns-in_err-entry-clause-fed : goal.returns-in_err-entry-clause-fed
