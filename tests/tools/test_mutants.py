@@ -58,28 +58,19 @@ class TheTable(ToolTest):
 
     def setUp(self):
         super().setUp()
-        text = (TOP / "docs/proofs.md").read_text().partition("\nWrong body | ")[2]
+        text = (TOP / "docs/proofs.md").read_text().partition("\nWrong body: ")[2]
         self.rows = [line.split(" | ") for line in text.partition("\n\n")[0].splitlines()[2:]]
 
     def test_each_edit_has_its_row(self):
         """No edit is lost without its row, no row without its edit, and both name one goal."""
         edits = [f"`{path.parts[-3]}/{path.stem}` | `{goal_of(path)}`"
                  for path in TOP.glob("crates/*/must-fail/*.edit")]
-        rows = [" | ".join(row[1:]) for row in self.rows if "/" in row[1].split(",")[0]]
+        rows = [f"{edit[1]} | {goal}" for told, goal in self.rows
+                if (edit := re.match(r"(`\w+/\w+`)(?:: |$)", told))]
         self.assertEqual(sorted(rows), sorted(edits))
-        self.assertEqual([row for row in self.rows if len(row) != 3], [])
-
-    def test_a_row_is_of_its_edit(self):
-        """Both are of one thing: the row has a word of the edit's name."""
-        short = {"a", "as", "at", "by", "every", "for", "is", "it", "no", "of", "the"}
-        for told, edit, *_ in self.rows:
-            if "/" in edit.split(",")[0]:
-                words = {word[:4] for word in edit.strip("`").split("/")[1].split("_")} - short
-                found = {word[:4] for word in re.findall(r"\w+", told.lower())}
-                self.assertNotEqual(words & found, set(), (told, edit))
 
     def test_each_test_is_there(self):
-        tests = [found for row in self.rows for found in re.findall(r"`(\w+)::(\w+)`", row[1])]
+        tests = [found for row in self.rows for found in re.findall(r"`([a-z]\w*)::(\w+)`", row[0])]
         self.assertGreater(len(tests), 0)
         for module, name in tests:
             source = next(TOP.glob(f"crates/worked_*/src/{module}.rt")).read_text()
