@@ -328,6 +328,19 @@ fact("docs/cookbook.md", r"split of at most (\d+) KiB",
      lambda: shown("docs/cookbook.md", r"--up-to (\d+)k --measure cycles"))
 
 
+def samples():
+    """How many samples are shown, the least and the greatest of their estimates, and the misses."""
+    text = (common.TOP / "docs/cookbook.md").read_text()
+    rows = text.partition("$ cat samples.csv\n")[2].partition("$ ")[0].split()
+    misses = [int(row.split(",")[5]) for row in rows]
+    estimates = [len(misses) * count for count in misses]
+    return [f"{it}" for it in (len(misses), min(estimates), max(estimates), sum(misses))]
+
+
+fact("docs/cookbook.md", rf"estimates the misses as {NUMBER} times its own, here as {NUMBER} to "
+     rf"{NUMBER} instead of {NUMBER}:", samples)
+
+
 def sizes():
     """Of the two caches that are shown: KiB and ways, and MiB and ways."""
     first, second = (shown("docs/cookbook.md", sign) for sign in (
@@ -349,8 +362,6 @@ def last_level():
 
 
 fact("docs/cookbook.md", rf"A last level of {NUMBER} MiB behind two levels", last_level)
-fact("docs/cookbook.md", r"for a cache in which pages have (\d+) colours",
-     lambda: shown("docs/cookbook.md", r"mix\(address >> 12\) % (\d+) \* 64 "))
 fact("docs/cookbook.md", r"LRU caches of any number of sets, here (\d+)\.",
      lambda: shown("docs/cookbook.md", r"any-index examples/sort\.din --bsize 16 --sets (\d+) "))
 fact("docs/cookbook.md", r"For (\d+) sets, in a cache of (\d+):",
