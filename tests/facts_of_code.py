@@ -96,10 +96,9 @@ fact("docs/DECISIONS.md", r"a reader's limit is at most (2\^\d+)", lambda: [powe
 fact("docs/DECISIONS.md", r"An index begins at (\d+) ways\*\*", lambda: [f"{indexed()}"])
 fact("docs/DECISIONS.md", r"Profiles of (\d+) ways or more have deep lists",
      lambda: [f"{deep()}"])
-fact("docs/manual.md", r"with A of (\d+) or more at most", lambda: [f"{full_deep('DEEP')}"])
-fact("docs/manual.md",
-     r"whatever S and A are\. If S is more than ([\d,]+) and A is (\d+) to (\d+), a",
-     lambda: [*sparse_from()])
+fact("docs/manual.md", r"^(\d+) or more \| any \| at most", lambda: [f"{full_deep('DEEP')}"])
+fact("docs/manual.md", r"^(\d+) to (\d+) \| above ([\d,]+) \|",
+     lambda: [*sparse_from()[1:], sparse_from()[0]])
 fact("crates/full_profile/CALLING.md",
      r"With a depth of (\d+) to (\d+) and more than ([\d,]+) sets it takes",
      lambda: [*sparse_from()[1:], sparse_from()[0]])
@@ -165,7 +164,7 @@ def of_caches():
 
 def of_slots():
     """The bytes of a set's slots, and those of them that are written for a third block."""
-    *_, formula, late = limits_memory.told_by_the_manual(limits_memory.SLOTS)
+    *_, formula, late, _ = limits_memory.told_by_the_manual(limits_memory.SLOTS)
     return [formula.partition("*")[0], f"{late:g}"]
 
 
