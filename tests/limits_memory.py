@@ -33,9 +33,8 @@ ALL_PAIRS = f"Sweeping all {PAIRS} pairs with one way takes {NUMBER} MB"
 BUFFERS = f"a run has two buffers of {NUMBER} KiB, and a sweep {NUMBER} KiB for references"
 CACHES = (
     f"`csim`, `din` and `log` take {NUMBER} bytes per line of a cache and {NUMBER} per set; with "
-    f"{NUMBER} ways or more they take, instead of that, {NUMBER} bytes per line, {NUMBER} per set "
-    f"and {NUMBER} more, and under random replacement {NUMBER} bytes per line, {NUMBER} per set "
-    f"and {NUMBER} more"
+    f"{NUMBER} ways or more {NUMBER} per line, {NUMBER} per set and {NUMBER} more, and under "
+    f"random replacement {NUMBER} per line, {NUMBER} per set and {NUMBER} more"
 )
 
 
