@@ -96,10 +96,9 @@ fact("docs/DECISIONS.md", r"a reader's limit is at most (2\^\d+)", lambda: [powe
 fact("docs/DECISIONS.md", r"An index begins at (\d+) ways\*\*", lambda: [f"{indexed()}"])
 fact("docs/DECISIONS.md", r"Profiles of (\d+) ways or more have deep lists",
      lambda: [f"{deep()}"])
-fact("docs/manual.md", r"with A of (\d+) or more at most", lambda: [f"{full_deep('DEEP')}"])
-fact("docs/manual.md",
-     r"whatever S and A are\. If S is more than ([\d,]+) and A is (\d+) to (\d+), a",
-     lambda: [*sparse_from()])
+fact("docs/manual.md", r"^(\d+) or more \| any \| at most", lambda: [f"{full_deep('DEEP')}"])
+fact("docs/manual.md", r"^(\d+) to (\d+) \| above ([\d,]+) \|",
+     lambda: [*sparse_from()[1:], sparse_from()[0]])
 fact("crates/full_profile/CALLING.md",
      r"With a depth of (\d+) to (\d+) and more than ([\d,]+) sets it takes",
      lambda: [*sparse_from()[1:], sparse_from()[0]])
@@ -165,7 +164,7 @@ def of_caches():
 
 def of_slots():
     """The bytes of a set's slots, and those of them that are written for a third block."""
-    *_, formula, late = limits_memory.told_by_the_manual(limits_memory.SLOTS)
+    *_, formula, late, _ = limits_memory.told_by_the_manual(limits_memory.SLOTS)
     return [formula.partition("*")[0], f"{late:g}"]
 
 
@@ -328,6 +327,19 @@ fact("docs/cookbook.md", r"split of at most (\d+) KiB",
      lambda: shown("docs/cookbook.md", r"--up-to (\d+)k --measure cycles"))
 
 
+def samples():
+    """How many samples are shown, the least and the greatest of their estimates, and the misses."""
+    text = (common.TOP / "docs/cookbook.md").read_text()
+    rows = text.partition("$ cat samples.csv\n")[2].partition("$ ")[0].split()
+    misses = [int(row.split(",")[5]) for row in rows]
+    estimates = [len(misses) * count for count in misses]
+    return [f"{it}" for it in (len(misses), min(estimates), max(estimates), sum(misses))]
+
+
+fact("docs/cookbook.md", rf"estimates the misses as {NUMBER} times its own, here as {NUMBER} to "
+     rf"{NUMBER} instead of {NUMBER}:", samples)
+
+
 def sizes():
     """Of the two caches that are shown: KiB and ways, and MiB and ways."""
     first, second = (shown("docs/cookbook.md", sign) for sign in (
@@ -349,8 +361,6 @@ def last_level():
 
 
 fact("docs/cookbook.md", rf"A last level of {NUMBER} MiB behind two levels", last_level)
-fact("docs/cookbook.md", r"for a cache in which pages have (\d+) colours",
-     lambda: shown("docs/cookbook.md", r"mix\(address >> 12\) % (\d+) \* 64 "))
 fact("docs/cookbook.md", r"LRU caches of any number of sets, here (\d+)\.",
      lambda: shown("docs/cookbook.md", r"any-index examples/sort\.din --bsize 16 --sets (\d+) "))
 fact("docs/cookbook.md", r"For (\d+) sets, in a cache of (\d+):",

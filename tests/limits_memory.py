@@ -14,33 +14,27 @@ LISTED, ALL_LISTED = 4096, 2**20
 ALL = ["sweep", "--bsize", "1-1m", "--sets", "1-1m", "--assoc", "1", "--size", "1-1024g"]
 # sentences of the manual on memory, with their numbers and formulas
 NUMBER, FORMULA = r"([\d.,]+)", r"`([\d.*+ SA-]+)`"
-ROWS = f"`sweep` takes {FORMULA} bytes for each"
-SPARSE = (
-    f"If S is more than {NUMBER} and A is {NUMBER} to {NUMBER}, it takes {FORMULA} bytes more, but "
-    f"{FORMULA} of the pair's bytes are written only as"
-)
+# rows of its table, whose last cell is of full tables
+ROWS = rf"otherwise \| any \| {FORMULA} \| {FORMULA}"
+MORE = f"{FORMULA} more than otherwise, late {FORMULA}"
+SPARSE = rf"{NUMBER} to {NUMBER} \| above {NUMBER} \| {MORE} \| {MORE}"
 SLOTS = (
-    f"If S is at most {NUMBER} and A is {NUMBER} to {NUMBER}, it takes {FORMULA} bytes, of which "
-    f"{NUMBER} for each set are written only when"
+    rf"{NUMBER} to {NUMBER} \| up to {NUMBER} \| {FORMULA}, late {NUMBER} per set \| {FORMULA}"
 )
 LONG_LISTS = (
-    f"If A is {NUMBER} or more, it takes at most {FORMULA} bytes: {NUMBER} MB for one set of "
-    f"65,536 ways, {NUMBER} MB for the largest pair"
+    rf"{NUMBER} or more \| any \| at most {FORMULA}: {NUMBER} MB for one set of 65,536 ways, "
+    rf"{NUMBER} MB for the largest pair \| at most {FORMULA}"
 )
-FULL = (
-    f"With `--full` a pair takes {FORMULA} bytes instead, with slots {FORMULA}, with A of {NUMBER} "
-    f"or more at most {FORMULA}, and all pairs together {NUMBER} KiB, whatever S and A are. If S "
-    f"is more than {NUMBER} and A is {NUMBER} to {NUMBER}, a pair takes {FORMULA} bytes more"
+BATCH = (
+    f"All pairs together take {NUMBER} KiB more for waiting references, with `--full` {NUMBER} KiB"
 )
-BATCH = f"All pairs together take {NUMBER} KiB more"
 # of docs/speed.md
 ALL_PAIRS = f"Sweeping all {PAIRS} pairs with one way takes {NUMBER} MB"
 BUFFERS = f"a run has two buffers of {NUMBER} KiB, and a sweep {NUMBER} KiB for references"
 CACHES = (
     f"`csim`, `din` and `log` take {NUMBER} bytes per line of a cache and {NUMBER} per set; with "
-    f"{NUMBER} ways or more they take, instead of that, {NUMBER} bytes per line, {NUMBER} per set "
-    f"and {NUMBER} more, and under random replacement {NUMBER} bytes per line, {NUMBER} per set "
-    f"and {NUMBER} more"
+    f"{NUMBER} ways or more {NUMBER} per line, {NUMBER} per set and {NUMBER} more, and under "
+    f"random replacement {NUMBER} per line, {NUMBER} per set and {NUMBER} more"
 )
 
 
@@ -58,30 +52,18 @@ def value(formula, sets, ways):
     return eval(formula, {"S": sets, "A": ways})
 
 
-def told_of_pair(sets, ways):
+def told_of_pair(sets, ways, is_full=False):
     """The bytes of a pair of a sweep, for so many sets and the most lines per set."""
-    [formula], [deep, most, *_] = told_by_the_manual(ROWS), told_by_the_manual(LONG_LISTS)
-    many, sparse_from, sparse_to, more, _ = told_by_the_manual(SPARSE)
-    few, slots_from, slots_to, slots, _ = told_by_the_manual(SLOTS)
+    formulas, (deep, most, *_, full_most) = map(told_by_the_manual, (ROWS, LONG_LISTS))
+    sparse_from, sparse_to, many, more, _, full_more, _ = told_by_the_manual(SPARSE)
+    slots_from, slots_to, few, slots, _, full_slots = told_by_the_manual(SLOTS)
+    formula = formulas[is_full]
     if ways >= deep:
-        formula = most
+        formula = full_most if is_full else most
     elif sets <= few and slots_from <= ways <= slots_to:
-        formula = slots
+        formula = full_slots if is_full else slots
     elif sets > many and sparse_from <= ways <= sparse_to:
-        formula = f"{formula} + {more}"
-    return value(formula, sets, ways)
-
-
-def told_of_full_pair(sets, ways):
-    """The same with --full."""
-    few, slots_from, slots_to, *_ = told_by_the_manual(SLOTS)
-    formula, slots, deep, most, _, many, sparse_from, sparse_to, more = told_by_the_manual(FULL)
-    if ways >= deep:
-        formula = most
-    elif sets <= few and slots_from <= ways <= slots_to:
-        formula = slots
-    elif sets > many and sparse_from <= ways <= sparse_to:
-        formula = f"{formula} + {more}"
+        formula = f"{formula} + {full_more if is_full else more}"
     return value(formula, sets, ways)
 
 
@@ -103,7 +85,7 @@ def pair(sets, ways):
 def full_pair(sets, ways):
     """The same of the full table."""
     words, _ = pair(sets, ways)
-    return [*words, "--full"], told_of_full_pair(sets, ways)
+    return [*words, "--full"], told_of_pair(sets, ways, is_full=True)
 
 
 def cache(command, sets, ways, policy="l"):
@@ -142,7 +124,7 @@ def bytes_of_pairs(limits, told):
     ):
         name = f"a sweep with S = {sets} and A = {ways}"
         seen[sets, ways] = limits.takes(name, pair(sets, ways), pair(16, 1), told, least=least)
-    *_, one, largest = told_by_the_manual(LONG_LISTS)
+    *_, one, largest, _ = told_by_the_manual(LONG_LISTS)
     for name, sets, most, digit in (
         ("one set of 65,536 ways", 1, one, 0.1), ("the largest pair", 64, largest, 1),
     ):
@@ -199,9 +181,8 @@ def bytes_of_caches(limits, told):
 
 
 def bytes_of_buffers(limits, large):
-    [batch] = told_by_the_manual(BATCH)
+    [batch, of_full] = told_by_the_manual(BATCH)
     [buffer, same] = told_by_the_manual(BUFFERS, "docs/speed.md")
-    of_full = told_by_the_manual(FULL)[4]
     runs = pair(1, 1)[0], full_pair(1, 1)[0], cache("din", 1, 1)[0], ["--help"]
     sweep, full, din, none = (limits.asked(arguments, large)[0] / 1024 for arguments in runs)
     limits.equal("KiB of two buffers", din - none, 2 * buffer)
