@@ -54,6 +54,21 @@ CROSS = "gcc-aarch64-linux-gnu", "libc6-dev-arm64-cross"
 PLAIN = bool(os.environ.get("CACHESIM_PLAIN_TESTS"))
 
 
+HANDOUT = TOP / "tests/cases/inputs/handout.lackey"  # yi.trace of the cache lab
+SPACE = "--bsize 16 --sets 1-4 --assoc 1-2 --size 64".split()
+CACHE = "-l1-dsize 128 -l1-dbsize 16 -l1-dassoc 2".split()
+# the words of each tool that reads a din trace, which is INPUT
+OVER_A_TRACE = {
+    **{tool: ["INPUT", *CACHE] for tool in ("by-line", "by-page", "prefetch", "second-level")},
+    **{tool: ["INPUT", *SPACE] for tool in ("optimal", "three-c")},
+    "any-index": ["INPUT", *"--bsize 16 --sets 3 --assoc 1-2".split()],
+    "din-table": ["2", "INPUT", *CACHE[:2], "-l1-dbsize", "16,32"],
+    "over-time": ["INPUT", *CACHE, "--each", "50"],
+    "sweep-parallel": ["2", "INPUT", *SPACE], "warm": ["9", "INPUT", *SPACE],
+}
+# those whose output is a trace: after a fault its last line is one that no simulator takes
+WRITES_A_TRACE = "lab/lab-trace", "second-level", "to-din", "trace"
+
 # the model of the program, which shares nothing with it
 sys.path.append(str(TOP / "tests"))
 model = importlib.import_module("model")
@@ -161,9 +176,13 @@ class Lru:
         self.sets = [[] for _ in range(sets)]
         self.went = collections.Counter()
 
+    def place(self, block):
+        """The number of its set."""
+        return block % len(self.sets)
+
     def access(self, address):
         block = address // self.bsize
-        held = self.sets[block % len(self.sets)]
+        held = self.sets[self.place(block)]
         outcome = "hit" if block in held else "miss" if len(held) < self.assoc else "miss eviction"
         if outcome == "hit":
             held.remove(block)

@@ -17,8 +17,8 @@ import subprocess
 import tempfile
 import time
 
-from base import (EXAMPLES, PLAIN, PROGRAM, TOOLS, TOP, ToolTest, adopt_orphans, catches, comes,
-                  needs)
+from base import (EXAMPLES, HANDOUT, PLAIN, PROGRAM, TOOLS, WRITES_A_TRACE, ToolTest, adopt_orphans,
+                  catches, comes, needs)
 from lab_base import STUDENTS, TRANS, running
 from trace_base import TRACED, program_of
 
@@ -56,7 +56,6 @@ OF_PACKAGES = {
     "trace": ["./program"],
     "trace lackey": ["--with", "lackey", "./program"],
 }
-WRITES_A_TRACE = "lab/lab-trace", "second-level", "to-din", "trace"
 WRITES_BY_AND_BY = "lab/grade", "lab/grade-class"  # what is judged, line by line
 VARIES = "lab/lab-trace", "trace", "trace lackey"  # the stack is elsewhere in each run
 SIGNALS = "HUP INT QUIT TERM USR1 USR2 ALRM XCPU PIPE KILL".split()
@@ -91,7 +90,7 @@ class Place:
 
     def fill(self):
         folder = self.folder
-        shutil.copy(TOP / "tests/cases/inputs/handout.lackey", folder)
+        shutil.copy(HANDOUT, folder)
         (folder / "long.din").write_bytes((EXAMPLES / "sort.din").read_bytes() * 4)
         (folder / "long.lackey").write_bytes((EXAMPLES / "transpose.lackey").read_bytes() * 90)
         subprocess.run(["gzip", "-k", folder / "long.din"], check=True)

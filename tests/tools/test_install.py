@@ -9,7 +9,7 @@ import shutil
 import subprocess
 import tempfile
 
-from base import PROGRAM, TOP, ToolTest, comes, ended
+from base import HANDOUT, PROGRAM, TOP, ToolTest, comes, ended
 from test_make import MakeTest, copy_repository, put_program
 
 
@@ -229,7 +229,7 @@ class Installed(ToolTest):
         din, lackey = TOP / "examples/sort.din", TOP / "examples/blocks.lackey"
         self.executable("cachesim", "exit 9")
         env = {"CACHESIM": "", "PATH": f"{self.folder}:/usr/bin:/bin"}
-        replayed = ("-s", 1, "-E", 2, "-b", 4, "-t", TOP / "tests/cases/inputs/handout.lackey")
+        replayed = ("-s", 1, "-E", 2, "-b", 4, "-t", HANDOUT)
         one = "--pow2 --bsize 16 --sets 1 --assoc 1-4 --size 0-1k".split()
         shown = self.run_tool("lab/replay", *replayed).stdout.decode()
         csim, judged = TOP / "tests/tools/lab/csim.py", "15 of 15 right\n"

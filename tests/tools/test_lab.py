@@ -8,14 +8,13 @@ import subprocess
 import sys
 import time
 
-from base import EXAMPLES, PROGRAM, TOP, catches, ended, needs
+from base import EXAMPLES, HANDOUT, PROGRAM, catches, ended, needs
 from lab_base import LAB, STUDENTS, LabTest, StudentTest, comes, is_running, running
 
-YI = TOP / "tests/cases/inputs/handout.lackey"
 ONE = "-s 4 -E 1 -b 4 -t"
 LAST = "lab-trace failed: what stands above is not all\n"
 TRACES = {
-    "yi.trace": YI.read_text(),
+    "yi.trace": HANDOUT.read_text(),
     "order.trace": "I  400,3\n L 10,1\n L 20,1\nI  403,2\n L 10,1\n S 30,8\n L 20,1\n",
     "wide.trace": " L 10,1\n L 100000010,1\n",
 }
@@ -135,7 +134,7 @@ class Grade(StudentTest):
 
     def test_an_interrupt(self):
         student = self.student("LOOPS")
-        command = [LAB / "grade", "--seconds", "30", student, YI]
+        command = [LAB / "grade", "--seconds", "30", student, HANDOUT]
         self.interrupted(command, lambda: is_running(student))
 
     def test_an_interrupt_as_a_run_begins(self):

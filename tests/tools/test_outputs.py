@@ -11,12 +11,11 @@ import signal
 import subprocess
 import time
 
-from base import EXAMPLES, PROGRAM, TOOLS, TOP, ToolTest, comes, ended, needs
+from base import EXAMPLES, HANDOUT, PROGRAM, TOOLS, ToolTest, comes, ended, needs
 from test_trace import QEMU
 from trace_base import TRACED, program_of
 
 SPACE = "--bsize 16-64 --sets 1-16 --assoc 1-4 --size 16-4k".split()
-YI = TOP / "tests/cases/inputs/handout.lackey"
 ROOM = 4096  # bytes of a file that may not grow further
 FULL = "No space left on device"
 # tools that write lines: the words of each, its status, and that for a fault
@@ -36,7 +35,7 @@ class Outputs(ToolTest):
     def setUp(self):
         super().setUp()
         self.write("table.csv", self.sweep(*SPACE, "-t", EXAMPLES / "sort.din"))
-        shutil.copy(YI, self.folder / "yi.trace")
+        shutil.copy(HANDOUT, self.folder / "yi.trace")
         (self.folder / "students/ann").mkdir(parents=True)
         self.executable("students/ann/csim", "echo hits:1 misses:2 evictions:3")
 

@@ -13,27 +13,12 @@ import termios
 import time
 import unittest
 
-from base import (EXAMPLES, PROGRAM, TOOLS, ToolTest, all_processes, catches, comes, copy_tools,
-                  ended)
+from base import (EXAMPLES, OVER_A_TRACE, PROGRAM, SPACE, TOOLS, WRITES_A_TRACE, ToolTest,
+                  all_processes, catches, comes, copy_tools, ended)
 
-SPACE = "--bsize 16 --sets 1-4 --assoc 1-2 --size 64".split()
-CACHE = "-l1-dsize 128 -l1-dbsize 16 -l1-dassoc 2".split()
 PAGES = "sweep-parallel", "--pages", "2", *SPACE
-# tools that read a trace, each with the arguments around it
-READERS = {
-    "three-c": ([], SPACE),
-    "warm": (["2"], SPACE),
-    "optimal": ([], SPACE),
-    "any-index": ([], "--bsize 16 --sets 3 --assoc 1-2".split()),
-    "prefetch": ([], CACHE),
-    "second-level": ([], CACHE),
-    "over-time": ([], [*CACHE, "--each", "2"]),
-    "by-page": ([], CACHE),
-    "sweep-parallel": (["2"], SPACE),
-    "din-table": (["2"], [*CACHE, "--l1-dwback", "a,n"]),
-    "by-line": ([], CACHE),
-    "to-din": (["addresses"], []),
-}
+# tools that read a trace
+READERS = {**OVER_A_TRACE, "to-din": ["addresses", "INPUT"]}
 # those that run the program while they read, and how many processes there are then
 JOINING = {"three-c": 4, "warm": 3, "second-level": 3, "optimal": 3, "over-time": 3, "by-page": 3,
            "any-index": 3, "prefetch": 2, "sweep-parallel": 3, "din-table": 3}
@@ -55,8 +40,8 @@ def mark_of(tool):
 class Shared(ToolTest):
     def reading(self, tool, *trace):
         """The words of a call of a tool over a trace."""
-        before, behind = READERS[tool]
-        return [TOOLS / tool, *before, *trace, *behind]
+        at = READERS[tool].index("INPUT")
+        return [TOOLS / tool, *READERS[tool][:at], *trace, *READERS[tool][at + 1:]]
 
     def read_by(self, tool, trace, **given):
         return self.run_command(*self.reading(tool, trace), **given)
@@ -75,7 +60,7 @@ class Traces(Shared):
         (self.folder / "cut.gz").write_bytes(cut[: len(cut) // 2])
         for tool in TRACES:
             for words in (["none"], ["none.gz"], ["cut.gz"], [".", "x", "y"], ["--nosuch"], []):
-                call = self.reading(tool, *words) if words else [TOOLS / tool, *READERS[tool][1]]
+                call = self.reading(tool, *words) if words else [TOOLS / tool]
                 line = " ".join(map(str, [*call, "| cachesim sweep", *SPACE]))
                 ran = self.run_command("bash", "-c", line)
                 told = "gzip: " if words == ["cut.gz"] else f"{tool}: "
@@ -214,7 +199,7 @@ class Beginning(Shared):
                 (folder / f"{module}.py").write_text(interrupt)
         for tool in tools:
             ran = self.run_command(tool, "--help")
-            is_trace = tool.name in ("lab-trace", "second-level", "to-din", "trace")
+            is_trace = str(tool.relative_to(copy)) in WRITES_A_TRACE
             last = f"{tool.name} failed: what stands above is not all\n" * is_trace
             got = ran.returncode, ran.stdout.decode(), ran.stderr
             self.assertEqual(got, (-signal.SIGINT, last, b""), tool)

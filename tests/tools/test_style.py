@@ -115,7 +115,7 @@ class Pythons(base.ToolTest):
                 told = ran.stderr.decode()
                 line = rf"\A{path.name}: Python 3\.9 or later is needed, and .* is 3\.8\n\Z"
                 self.assertRegex(told, line)
-                is_trace = path.name in ("lab-trace", "second-level", "to-din", "trace")
+                is_trace = os.path.relpath(path, base.TOOLS) in base.WRITES_A_TRACE
                 status = 125 if path.name in ("lab-trace", "profile", "trace") else 1
                 self.ends(ran, status, told, told * is_trace)
 
