@@ -218,6 +218,13 @@ def copy_tools(to, *tools):
         shutil.copy(TOOLS / tool, to)
 
 
+def copy_scripts(top, *names):
+    """Copies scripts of tests/, and what they import, to the top of another repository."""
+    (top / "tests").mkdir(parents=True, exist_ok=True)
+    for name in names:
+        shutil.copy(TOP / "tests" / name, top / "tests")
+
+
 def is_there(package):
     shown_by = PACKAGES[package]
     if shown_by.startswith("/"):

@@ -7,7 +7,6 @@ What needs no package is among the plain tests, of which `some` leaves out a par
 import concurrent.futures
 import os
 import pathlib
-import platform
 import shutil
 import subprocess
 import tempfile
@@ -15,10 +14,8 @@ import tempfile
 from base import (EXAMPLES, HANDOUT, OVER_A_TRACE, PLAIN, PROGRAM, SPACE, TOOLS, WRITES_A_TRACE,
                   ToolTest, comes, copy_tools, processes)
 from lab_base import STUDENTS
-from trace_base import TRACED, program_of
+from trace_base import FAKE, QEMU, TRACED, program_of
 
-QEMU = f"qemu-{platform.machine()}"
-FAKE = {"FAKE_VERSION": "7.2.22", "FAKE_HELP": "-plugin ..", "FAKE_START": "0"}
 # what each tool is given: files, and in the place of INPUT a trace, and of MAIN how far a function
 # is behind the start of the code. Behind a blank stands what it is asked for beside its usual work,
 # by options that call other commands. Those that need packages are in test_failures_packages.py

@@ -12,8 +12,7 @@ import subprocess
 import time
 
 from base import EXAMPLES, HANDOUT, PROGRAM, TOOLS, ToolTest, comes, ended, needs
-from test_trace import QEMU
-from trace_base import TRACED, program_of
+from trace_base import FAKE, QEMU, TRACED, program_of
 
 SPACE = "--bsize 16-64 --sets 1-16 --assoc 1-4 --size 16-4k".split()
 ROOM = 4096  # bytes of a file that may not grow further
@@ -111,8 +110,7 @@ class CutTraces(ToolTest):
             "bin/valgrind", 'for word; do case $word in --log-fd=*) log=${word#*=} ;; esac; done',
             'exec cat >&"$log"')
         (lackey.parent / QEMU).symlink_to(program_of(TRACED / "fake_qemu.c", "-rdynamic"))
-        self.env = self.in_folder(PATH=f"{lackey.parent}:{os.environ['PATH']}", FAKE_HELP="-plugin",
-                                  FAKE_VERSION="7.2.22", FAKE_START="0")
+        self.env = self.in_folder(PATH=f"{lackey.parent}:{os.environ['PATH']}", **FAKE)
         for tool in ("to-din", "second-level", "trace"):
             self.run_tool(tool, "--build")
 

@@ -2,7 +2,6 @@
 
 import os
 import pathlib
-import platform
 import pty
 import random
 import shlex
@@ -11,9 +10,7 @@ import signal
 import subprocess
 
 from base import EXAMPLES, PROGRAM, TOOLS, comes, copy_tools
-from trace_base import SPACE, TRACED, TraceTest, program_of
-
-QEMU = f"qemu-{platform.machine()}"
+from trace_base import FAKE, QEMU, SPACE, TRACED, TraceTest, program_of
 
 
 class StandIn(TraceTest):
@@ -27,8 +24,7 @@ class StandIn(TraceTest):
         self.program = self.folder / "a program"
         shutil.copy(shutil.which("true"), self.program)
         path = f"{self.folder}/bin:{PROGRAM.parent}:{os.environ['PATH']}"
-        self.told = {"PATH": path, "PROGRAM": str(self.program), "FAKE_VERSION": "7.2.22",
-                     "FAKE_HELP": "-plugin ..", "FAKE_START": "0"}
+        self.told = {"PATH": path, "PROGRAM": str(self.program), **FAKE}
 
     def run_command(self, *arguments, env=None, **given):
         return super().run_command(*arguments, env={**self.told, **(env or {})}, **given)
