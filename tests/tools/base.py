@@ -256,6 +256,12 @@ def needs(*packages):
     return marked
 
 
+# lines of Python whose `stop`, in a thread, has it get a signal a little later
+STOPPED_SOON = (
+    "import signal, threading, time", "def stop():", "    time.sleep(0.3)",
+    "    signal.pthread_kill(threading.get_ident(), signal.SIGTERM)")
+
+
 class ToolTest(unittest.TestCase):
     """A test with a folder of its own, `self.folder`, in which the tools are run."""
 
@@ -279,6 +285,11 @@ class ToolTest(unittest.TestCase):
     def run_tool(self, tool, *arguments, **given):
         """Runs a tool of tools/."""
         return self.run_command(TOOLS / tool, *arguments, **given)
+
+    def run_python(self, *lines, folder=TOOLS, **given):
+        """Runs lines of Python for which the modules of a folder are there."""
+        text = "\n".join(("import sys", f"sys.path.insert(0, {str(folder)!r})", *lines))
+        return self.run_command(sys.executable, "-B", "-c", text, seconds=40, **given)
 
     def on_full_device(self, tool, *arguments, told="write failed"):
         """Runs a tool whose output has no room, which it must tell."""

@@ -106,8 +106,6 @@ class FailureTest(ToolTest):
         with open(given / "trace.gz", "wb") as file:
             subprocess.run(["gzip", "-c", given / "trace.din"], stdout=file, check=True)
         shutil.copy(HANDOUT, given)
-        shutil.copy(EXAMPLES / "sort.din", given / "long.din")
-        shutil.copy(EXAMPLES / "transpose.lackey", given / "long.lackey")
         shutil.copy(shutil.which("true"), given / "program")
         (given / "students/ann").mkdir(parents=True)
         for name in ("csim", "students/ann/csim"):
@@ -319,17 +317,3 @@ class Limits(FailureTest):
                     self.assertTrue(ran.returncode or after == "| true", told)
                     self.assertTrue(least <= told.count("\n") <= 1, told)
                     self.assertNotIn("Traceback", told)
-
-    def test_a_trace_that_is_cut(self):
-        """In a file that may not grow it ends in a line that no simulator takes."""
-        for tool in sorted(self.runs.keys() & {*WRITES_A_TRACE, "trace lackey"}):
-            with self.subTest(tool):
-                longer = {"many:100": "many:900000", "handout.lackey": "long.lackey"}
-                words = [longer.get(word, word) for word in self.words(tool, "long.din")]
-                blocks = {"second-level": 1, "to-din": 1, "trace": 4000}.get(tool, 16)
-                after = "> cut; /bin/cat cut; exit 1"
-                ran = self.run_in("cut", words, f"ulimit -f {blocks};", after)
-                self.assert_no_trace(ran.stdout, ran.stderr)
-                self.assertGreater(len(ran.stdout), 0)
-                last = rb"\n[\w-]+ failed: what stands above is not all *\n\Z"
-                self.assertRegex(ran.stdout, last)

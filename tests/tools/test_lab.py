@@ -5,10 +5,9 @@ import re
 import shutil
 import signal
 import subprocess
-import sys
 import time
 
-from base import EXAMPLES, HANDOUT, PROGRAM, catches, ended, needs
+from base import EXAMPLES, HANDOUT, PROGRAM, STOPPED_SOON, catches, ended, needs
 from lab_base import LAB, STUDENTS, LabTest, StudentTest, comes, is_running, running
 
 ONE = "-s 4 -E 1 -b 4 -t"
@@ -145,18 +144,14 @@ class Grade(StudentTest):
 
     def test_a_signal_just_before_a_wait(self):
         """Python takes note of it, and waits all the same: as of one that another thread got."""
-        lines = ("import signal, sys, threading, time",
-                 f"sys.path.insert(0, {str(LAB)!r})",
-                 "from parts.student import Limited",
-                 "from lib.signals import stop_at_signals",
-                 "def stop():",
-                 "    time.sleep(0.3)",
-                 "    signal.pthread_kill(threading.get_ident(), signal.SIGTERM)",
-                 "stop_at_signals()",
-                 "with Limited(['sleep', '60'], 1 << 26, 50) as run:",
-                 "    threading.Thread(target=stop).start()",
-                 "    run.status()")
-        ran = self.run_command(sys.executable, "-B", "-c", "\n".join(lines), seconds=40)
+        ran = self.run_python(
+            *STOPPED_SOON,
+            "from parts.student import Limited",
+            "from lib.signals import stop_at_signals",
+            "stop_at_signals()",
+            "with Limited(['sleep', '60'], 1 << 26, 50) as run:",
+            "    threading.Thread(target=stop).start()",
+            "    run.status()", folder=LAB)
         self.ends(ran, 143, "")
         self.assertTrue(comes(lambda: not running()))
 
