@@ -10,7 +10,9 @@ import subprocess
 import tempfile
 
 from base import HANDOUT, PROGRAM, TOP, ToolTest, comes, ended
+from lab_base import STUDENTS
 from test_make import MakeTest, copy_repository, put_program
+from trace_base import program_of
 
 
 @functools.cache
@@ -232,14 +234,13 @@ class Installed(ToolTest):
         replayed = ("-s", 1, "-E", 2, "-b", 4, "-t", HANDOUT)
         one = "--pow2 --bsize 16 --sets 1 --assoc 1-4 --size 0-1k".split()
         shown = self.run_tool("lab/replay", *replayed).stdout.decode()
-        csim, judged = TOP / "tests/tools/lab/csim.py", "15 of 15 right\n"
-        note = "note: no .csim_results was written; the lab's printSummary would have done so\n"
+        csim, judged = program_of(STUDENTS / "student.c"), "15 of 15 right\n"
         for arguments, text in (
             (("bin/cachesim-sweep-parallel", 2, din, *space), self.sweep(*space, "-t", din)),
             (("bin/cachesim-sweep-parallel", "--pages", 1, *one), f"{' '.join(one)} --rows 3\n"),
             (("bin/cachesim-replay", *replayed), shown),
-            (("bin/cachesim-grade", csim, lackey), note + judged),
-            (("lib/cachesim/lab/grade", csim, lackey), note + judged),
+            (("bin/cachesim-grade", csim, lackey), judged),
+            (("lib/cachesim/lab/grade", csim, lackey), judged),
         ):
             ran = self.run_command(installed() / arguments[0], *arguments[1:], env=env)
             self.ends(ran, 0, "", text)

@@ -168,8 +168,3 @@ class Traced(Sharing):
             tables = [self.good(self.run_command(*words, trace, *more))
                       for trace in ("with.din", "without.din")]
             self.assertEqual(*tables)
-
-    def test_not_for_lackey(self):
-        ran = self.run_tool("trace", "--with", "lackey", "--threads", "-o", "t.din", "true")
-        self.refused(ran, 125, "trace: --from, --to, --during, --libraries, --any-version, --map "
-                     "and --threads are for QEMU")

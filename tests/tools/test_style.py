@@ -174,9 +174,3 @@ class Linters(unittest.TestCase):
         self.assertGreater(len(paths), 20)
         options = ("--isolated", "--max-line-length", "100", "--extend-ignore", "E203")
         self.clean("flake8", *options, *sorted(set(paths)))
-
-    @base.needs("gcc")
-    def test_c(self):
-        for path in scripts():
-            if path.endswith(".c") and path.startswith(str(base.TOOLS)):
-                self.clean("gcc", "-std=gnu11", "-O2", "-Wall", "-Wextra", "-fsyntax-only", path)

@@ -1,6 +1,7 @@
 """What the tools share."""
 
 import argparse
+import itertools
 import os
 import shutil
 import signal
@@ -8,7 +9,7 @@ import subprocess
 import unittest
 
 import common
-from base import TOOLS, ToolTest, comes, copy_tools, processes
+from base import CACHE, TOOLS, ToolTest, comes, copy_tools, processes
 from lib import tool
 from lib.compiled import Make
 
@@ -148,15 +149,16 @@ class Compiling(ToolTest):
 
     def test_a_compiler_that_fails(self):
         """Nothing of a part is left, which would be taken for the whole."""
-        copy_tools(self.folder, "to-din")
+        copy_tools(self.folder, "to-din", "second-level")
         into = 'echo "cc1: no memory" >&2; echo > "${@: -2:1}"'
-        for end in ("exit 1", "kill -KILL $$"):
+        calls = ("to-din", "addresses"), ("second-level", "-", *CACHE)
+        for (name, *words), end in itertools.product(calls, ("exit 1", "kill -KILL $$")):
             path = self.stand_in("cc", into, end)
-            ran = self.run_command(self.folder / "to-din", "addresses", env=path)
-            told = f"to-din: {self.folder}/out/to-din can't be compiled\n"
+            ran = self.run_command(self.folder / name, *words, env=path)
+            told = f"{name}: {self.folder}/out/{name} can't be compiled\n"
             lines = ran.stderr.decode().splitlines(keepends=True)
             self.assertEqual((ran.returncode, lines[0], lines[-1]), (1, "cc1: no memory\n", told))
-            self.assertIn(b"what stands above is not all", ran.stdout)
+            self.assertEqual(ran.stdout.decode(), f"{name} failed: what stands above is not all\n")
             self.assertEqual(self.made(), [])
 
     def test_what_is_missing(self):

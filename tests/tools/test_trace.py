@@ -341,6 +341,7 @@ class StandIn(TraceTest):
             ("--count= true", "--count"), ("--count=00 true", "--count: '00' is no number above 0"),
             ("--count 0 true", "--count: '0' is no number above 0"), ("--with pin true", "--with"),
             ("--with lackey --libraries / true", "for QEMU"),
+            ("--with lackey --threads true", "--map and --threads are for QEMU"),
             *((f"--with lackey {part} main true", "for QEMU")
               for part in ("--from", "--to", "--during")),
             ("--from '' true", "--from: '' is no function's name"),
