@@ -35,10 +35,13 @@ def command_of(option, at=0):
 
 
 class FromDinero(base.ToolTest):
-    def run_line(self, option, at=0):
-        """What a command of the table writes for the example's trace."""
+    def setUp(self):
+        super().setUp()
         self.write("trace.din", "".join(LINES))
         (self.folder / "tools").symlink_to(base.TOOLS)
+
+    def run_line(self, option, at=0):
+        """What a command of the table writes for the example's trace."""
         line = command_of(option, at).replace(" ..", f" {' '.join(CACHES)}")
         return self.good(self.run_command("bash", "-c", f"set -o pipefail; {line}"))
 
@@ -64,11 +67,18 @@ class FromDinero(base.ToolTest):
         misses = {row.split(",")[0]: int(row.split(",")[2]) for row in rows}
         self.assertEqual(sum(misses.values()), self.misses_of(LINES))
 
-    def test_informat_d(self):
-        labels = {"0": "r", "1": "w", "2": "i"}
+    def test_reports(self):
+        """Of a trace in another form, and of a part of it."""
         self.write("trace.xdin", "".join(
-            f"{labels[line[0]]} 0x{line[2:-1]} 4\n" for line in LINES))
-        self.assertEqual(self.run_line("-informat D"), self.report(LINES))
+            f"{'rwi'[int(line[0])]} 0x{line[2:-1]} 4\n" for line in LINES))
+        flushed = [line + "4 0\n" * (number % 1000 == 0) for number, line in enumerate(LINES, 1)]
+        for option, lines in (
+            ("-informat D", LINES), ("-skipcount", LINES[1000:]), ("-maxcount", LINES[:1000]),
+            ("-flushcount", flushed), ("-on-trigger", LINES[TRIGGER:]),
+            ("-off-trigger", LINES[:TRIGGER + 1]),
+        ):
+            with self.subTest(option):
+                self.assertEqual(self.run_line(option), self.report(lines))
 
     def test_ccc(self):
         header, row, *more = self.run_line("-lN-Tccc").splitlines()
@@ -78,16 +88,6 @@ class FromDinero(base.ToolTest):
         self.assertEqual(header.split(",")[-3:], ["compulsory", "capacity", "conflict"])
         self.assertEqual((row.split(",")[5:6] + row.split(",")[-3:], more), (
             [str(count) for count in (all_misses, first, full - first, all_misses - full)], []))
-
-    def test_skipcount(self):
-        self.assertEqual(self.run_line("-skipcount"), self.report(LINES[1000:]))
-
-    def test_maxcount(self):
-        self.assertEqual(self.run_line("-maxcount"), self.report(LINES[:1000]))
-
-    def test_flushcount(self):
-        lines = [line + "4 0\n" * (number % 1000 == 0) for number, line in enumerate(LINES, 1)]
-        self.assertEqual(self.run_line("-flushcount"), self.report(lines))
 
     def misses_of(self, lines):
         report = self.report(lines).partition("memory")[0]
@@ -104,12 +104,6 @@ class FromDinero(base.ToolTest):
 
     def test_stat_idcombine(self):
         self.assertEqual(int(self.run_line("-stat-idcombine")), self.misses_of(LINES))
-
-    def test_on_trigger(self):
-        self.assertEqual(self.run_line("-on-trigger"), self.report(LINES[TRIGGER:]))
-
-    def test_off_trigger(self):
-        self.assertEqual(self.run_line("-off-trigger"), self.report(LINES[:TRIGGER + 1]))
 
     def sent(self, caches):
         """What caches send on, by the model's log."""
