@@ -325,6 +325,14 @@ class ToolTest(unittest.TestCase):
         folder = self.executable(f"stand-ins/{command}", *lines).parent
         return {"PATH": f"{folder}:{PROGRAM.parent}:{os.environ['PATH']}"}
 
+    def few_commands(self, *names):
+        """A folder with these commands alone, which may get more."""
+        folder = self.folder / "few"
+        folder.mkdir(exist_ok=True)
+        for name in names:
+            (folder / name).symlink_to(shutil.which(name))
+        return folder
+
     def packed(self, trace):
         """Puts a trace into the folder, packed by xz and by zstd."""
         (self.folder / "t.xz").write_bytes(self.run_command("xz", "-c", trace).stdout)

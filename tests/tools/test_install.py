@@ -9,7 +9,7 @@ import shutil
 import subprocess
 import tempfile
 
-from base import HANDOUT, PROGRAM, TOP, ToolTest, comes, ended
+from base import HANDOUT, PROGRAM, TOP, ToolTest, comes, ended, script
 from lab_base import STUDENTS
 from test_make import MakeTest, copy_repository, put_program
 from trace_base import program_of
@@ -206,14 +206,12 @@ class Installed(ToolTest):
         there = self.below()
         for path in there:
             self.assertNotRegex(str(path), r"\.[ch]$|/package(/|$)|\.md$|Makefile")
-        paths = [*(TOP / "tools").glob("*"), *(TOP / "tools/lab").glob("*")]
-        for path in paths:
-            if path.is_file() and os.access(path, os.X_OK):
-                link = installed() / "bin" / f"cachesim-{path.name}"
-                self.assertTrue(link.resolve().is_file(), link)
-                for completion in (f"bash-completion/completions/{link.name}",
-                                   f"fish/vendor_completions.d/{link.name}.fish"):
-                    self.assertIn(link.name, (installed() / "share" / completion).read_text())
+        for name in script("check").tools():
+            link = installed() / "bin" / f"cachesim-{name}"
+            self.assertTrue(link.resolve().is_file(), link)
+            for completion in (f"bash-completion/completions/{link.name}",
+                               f"fish/vendor_completions.d/{link.name}.fish"):
+                self.assertIn(link.name, (installed() / "share" / completion).read_text())
         for link in (installed() / "bin").glob("cachesim-*"):
             env = {"PATH": f"{link.parent}:{os.environ['PATH']}", "PYTHONDONTWRITEBYTECODE": ""}
             ran = self.run_command(link, "--help", env=env)

@@ -127,10 +127,7 @@ class GradeClass(ClassTest):
     def test_nobody_can_be_judged(self):
         self.enrol("ann", self.student())
         (self.folder / "bad.trace").write_text(" X 10,1\n")
-        bare = self.folder / "bare"
-        bare.mkdir()
-        for name in ("python3", "stdbuf"):
-            (bare / name).symlink_to(shutil.which(name))
+        bare = self.few_commands("python3", "stdbuf")
         label = "-s 1 -E 1 -b 1 -t bad.trace: line 1: bad label\n"
         no_bwrap = "bwrap is missing: apt-get install bubblewrap\n"
         for arguments, env, message in (

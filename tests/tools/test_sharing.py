@@ -141,7 +141,7 @@ class Traced(Sharing):
 
     def test_numbers(self):
         """The third field of a line is the thread, in the order in which they begin, and the fourth
-        of a data reference its bytes. Without them the trace has the same lines."""
+        of a data reference its bytes."""
         program = program_of(TRACED / "counters.c", "-g")
         self.good(self.run_tool("trace", "--threads", "-o", "t.din", program))
         lines = [line.split() for line in (self.folder / "t.din").read_text().splitlines()]

@@ -164,17 +164,15 @@ class Compiling(ToolTest):
     def test_what_is_missing(self):
         """make and the compiler are named with their packages."""
         copy_tools(self.folder, "to-din")
-        commands = self.folder / "commands"
-        commands.mkdir()
+        commands = self.few_commands()
         told = "to-din: {} is missing: apt-get install {}\n"
         for command, package in ("make", "make"), ("cc", "gcc"), ("clang", "clang"):
             env = {"PATH": str(commands), "CC": "" if command in ("make", "cc") else command}
             env = {name: value for name, value in env.items() if value}
             ran = self.run_command(self.folder / "to-din", "--build", env=env)
             self.assertEqual(ran.stderr.decode(), told.format(command, package))
-            for name in "make sh mkdir cat rm mv".split():
-                if not (commands / name).exists():
-                    (commands / name).symlink_to(shutil.which(name))
+            if command == "make":
+                self.few_commands(*"make sh mkdir cat rm mv".split())
 
     def test_two_at_once(self):
         """Each compiles to a file of its own, which then takes its place: in a copy of the tool."""

@@ -274,10 +274,7 @@ class StandIn(TraceTest):
         self.assertEqual(self.good(self.run_command(tools / "trace", self.program, "2:1")), "2 1\n")
 
     def test_what_is_missing(self):
-        few = self.folder / "few"
-        few.mkdir()
-        for name in ("bash", "cat", "make", "mkdir", "mv", "rm", "sh"):
-            os.symlink(shutil.which(name), few / name)
+        few = self.few_commands("bash", "cat", "make", "mkdir", "mv", "rm", "sh")
         env, missing = {"PATH": str(few)}, "is missing: apt-get install"
         self.fails(f"{QEMU} {missing} qemu-user", env=env)
         self.fails(f"valgrind {missing} valgrind", options=("--with", "lackey"), env=env)
