@@ -31,8 +31,9 @@ class Drawn(PlotTest):
         return (self.folder / arguments[-1]).read_bytes()
 
     def test_png(self):
-        drawn = self.drawn("--title", "Eight", "eight.csv", "an out.png")
-        self.assertEqual(png_of(drawn), (920, 800))
+        """96 dots an inch, or for print 300."""
+        for words, size in ((["--size", "3.3x2.5in"], (990, 750)), (["--title", "8"], (920, 800))):
+            self.assertEqual(png_of(self.drawn(*words, "eight.csv", "an out.png")), size)
         words = ("--only", "size", "--", "eight.csv", "-a.png")
         self.assertEqual(png_of(self.drawn(*words)), (860, 480))
         mask = os.umask(0)
