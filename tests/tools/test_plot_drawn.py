@@ -32,8 +32,10 @@ class Drawn(PlotTest):
 
     def test_png(self):
         """96 dots an inch, or for print 300."""
-        for words, size in ((["--size", "3.3x2.5in"], (990, 750)), (["--title", "8"], (920, 800))):
-            self.assertEqual(png_of(self.drawn(*words, "eight.csv", "an out.png")), size)
+        for words, size in (("--size 3.3x2.5in --only size", (990, 750)),
+                            ("--title 8", (920, 800))):
+            drawn = self.drawn(*words.split(), "eight.csv", "an out.png")
+            self.assertEqual(png_of(drawn), size)
         words = ("--only", "size", "--", "eight.csv", "-a.png")
         self.assertEqual(png_of(self.drawn(*words)), (860, 480))
         mask = os.umask(0)
