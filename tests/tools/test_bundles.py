@@ -2,7 +2,7 @@
 
 import re
 
-from test_mutants import MutantsTest
+from base import ToolTest, copy_scripts
 
 SOURCE = """\
 //! Parts of a number, in braces: '{'.
@@ -108,9 +108,34 @@ def refused(function, goal="value"):
     return f"note: src/lib.rt:{before.count(chr(10)) + 2}:5: {why}\n"
 
 
-class Bundles(MutantsTest):
+class MutantsTest(ToolTest):
+    """A test with a small repository, where the crate `low` has a source and a stored proof."""
+
     SOURCE, RT, STORED = SOURCE, RT, "proofs/Half/of/Answers.antt"
 
+    def setUp(self):
+        super().setUp()
+        self.top = self.folder / "a copy"
+        self.crate = self.top / "crates/low"
+        self.stored = self.crate / self.STORED
+        for folder in ("src", "must-fail", "out/incremental", self.stored.parent):
+            (self.crate / folder).mkdir(parents=True)
+        copy_scripts(self.top, "try-mutants", "bundles.py", "common.py", "contracts.py", "edits.py",
+                     "prover.py")
+        (self.top / "tests/mutants").mkdir()
+        (self.crate / "src/lib.rt").write_text(self.SOURCE)
+        self.stored.write_text("an answer\n")
+        (self.top / "crates.txt").write_text("low:\n")
+        (self.top / "HANDLES").write_text("Handles allowed: none.\n")
+        self.write("rt", self.RT).chmod(0o755)
+
+    def try_mutants(self, *arguments):
+        stand_in = {"RT": str(self.folder / "rt"), "STAND_IN": str(self.folder)}
+        words = ("--jobs", "1", *arguments)
+        return self.run_command(self.top / "tests/try-mutants", *words, env=stand_in)
+
+
+class Bundles(MutantsTest):
     def setUp(self):
         super().setUp()
         self.edits = self.top / "tests/mutants/low.edits"

@@ -3,7 +3,8 @@
 import collections
 import re
 
-from base import TOP, ToolTest, copy_scripts, script
+from base import TOP, ToolTest, script
+from test_bundles import MutantsTest
 
 SOURCE = """\
 //! Half of a number.
@@ -96,34 +97,9 @@ def goal_of(path):
     return re.search(r"^goal: (.*)$", path.read_text(), re.M)[1]
 
 
-class MutantsTest(ToolTest):
-    """A test with a small repository, where the crate `low` has a source and a stored proof."""
-
+class Mutants(MutantsTest):
     SOURCE, RT, STORED = SOURCE, RT, STORED
 
-    def setUp(self):
-        super().setUp()
-        self.top = self.folder / "a copy"
-        self.crate = self.top / "crates/low"
-        self.stored = self.crate / self.STORED
-        for folder in ("src", "must-fail", "out/incremental", self.stored.parent):
-            (self.crate / folder).mkdir(parents=True)
-        copy_scripts(self.top, "try-mutants", "bundles.py", "common.py", "contracts.py", "edits.py",
-                     "prover.py")
-        (self.top / "tests/mutants").mkdir()
-        (self.crate / "src/lib.rt").write_text(self.SOURCE)
-        self.stored.write_text("an answer\n")
-        (self.top / "crates.txt").write_text("low:\n")
-        (self.top / "HANDLES").write_text("Handles allowed: none.\n")
-        self.write("rt", self.RT).chmod(0o755)
-
-    def try_mutants(self, *arguments):
-        stand_in = {"RT": str(self.folder / "rt"), "STAND_IN": str(self.folder)}
-        words = ("--jobs", "1", *arguments)
-        return self.run_command(self.top / "tests/try-mutants", *words, env=stand_in)
-
-
-class Mutants(MutantsTest):
     def setUp(self):
         super().setUp()
         self.mutant = self.top / "tests/mutants/low/a_third.edit"
