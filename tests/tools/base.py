@@ -54,6 +54,21 @@ CROSS = "gcc-aarch64-linux-gnu", "libc6-dev-arm64-cross"
 PLAIN = bool(os.environ.get("CACHESIM_PLAIN_TESTS"))
 
 
+HANDOUT = TOP / "tests/cases/inputs/handout.lackey"  # yi.trace of the cache lab
+SPACE = "--bsize 16 --sets 1-4 --assoc 1-2 --size 64".split()
+CACHE = "-l1-dsize 128 -l1-dbsize 16 -l1-dassoc 2".split()
+# the words of each tool that reads a din trace, which is INPUT
+OVER_A_TRACE = {
+    **{tool: ["INPUT", *CACHE] for tool in ("by-line", "by-page", "prefetch", "second-level")},
+    **{tool: ["INPUT", *SPACE] for tool in ("optimal", "three-c")},
+    "any-index": ["INPUT", *"--bsize 16 --sets 3 --assoc 1-2".split()],
+    "din-table": ["2", "INPUT", *CACHE[:2], "-l1-dbsize", "16,32"],
+    "over-time": ["INPUT", *CACHE, "--each", "50"],
+    "sweep-parallel": ["2", "INPUT", *SPACE], "warm": ["9", "INPUT", *SPACE],
+}
+# those whose output is a trace: after a fault its last line is one that no simulator takes
+WRITES_A_TRACE = "lab/lab-trace", "second-level", "to-din", "trace"
+
 # the model of the program, which shares nothing with it
 sys.path.append(str(TOP / "tests"))
 model = importlib.import_module("model")
@@ -161,9 +176,13 @@ class Lru:
         self.sets = [[] for _ in range(sets)]
         self.went = collections.Counter()
 
+    def place(self, block):
+        """The number of its set."""
+        return block % len(self.sets)
+
     def access(self, address):
         block = address // self.bsize
-        held = self.sets[block % len(self.sets)]
+        held = self.sets[self.place(block)]
         outcome = "hit" if block in held else "miss" if len(held) < self.assoc else "miss eviction"
         if outcome == "hit":
             held.remove(block)
@@ -199,6 +218,13 @@ def copy_tools(to, *tools):
         shutil.copy(TOOLS / tool, to)
 
 
+def copy_scripts(top, *names):
+    """Copies scripts of tests/, and what they import, to the top of another repository."""
+    (top / "tests").mkdir(parents=True, exist_ok=True)
+    for name in names:
+        shutil.copy(TOP / "tests" / name, top / "tests")
+
+
 def is_there(package):
     shown_by = PACKAGES[package]
     if shown_by.startswith("/"):
@@ -230,6 +256,12 @@ def needs(*packages):
     return marked
 
 
+# lines of Python whose `stop`, in a thread, has it get a signal a little later
+STOPPED_SOON = (
+    "import signal, threading, time", "def stop():", "    time.sleep(0.3)",
+    "    signal.pthread_kill(threading.get_ident(), signal.SIGTERM)")
+
+
 class ToolTest(unittest.TestCase):
     """A test with a folder of its own, `self.folder`, in which the tools are run."""
 
@@ -253,6 +285,11 @@ class ToolTest(unittest.TestCase):
     def run_tool(self, tool, *arguments, **given):
         """Runs a tool of tools/."""
         return self.run_command(TOOLS / tool, *arguments, **given)
+
+    def run_python(self, *lines, folder=TOOLS, **given):
+        """Runs lines of Python for which the modules of a folder are there."""
+        text = "\n".join(("import sys", f"sys.path.insert(0, {str(folder)!r})", *lines))
+        return self.run_command(sys.executable, "-B", "-c", text, seconds=40, **given)
 
     def on_full_device(self, tool, *arguments, told="write failed"):
         """Runs a tool whose output has no room, which it must tell."""
@@ -287,6 +324,14 @@ class ToolTest(unittest.TestCase):
         """Puts a script for bash instead of a command. Returns the path to be searched."""
         folder = self.executable(f"stand-ins/{command}", *lines).parent
         return {"PATH": f"{folder}:{PROGRAM.parent}:{os.environ['PATH']}"}
+
+    def few_commands(self, *names):
+        """A folder with these commands alone, which may get more."""
+        folder = self.folder / "few"
+        folder.mkdir(exist_ok=True)
+        for name in names:
+            (folder / name).symlink_to(shutil.which(name))
+        return folder
 
     def packed(self, trace):
         """Puts a trace into the folder, packed by xz and by zstd."""

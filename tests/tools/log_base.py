@@ -13,30 +13,34 @@ PLANS = [tuple(plan.split()) for plan in (
     "l1-u", "l1-d", "l1-i", "l1-i l1-d", "l1-u l2-u", "l1-d l2-u", "l1-i l1-d l2-u")]
 
 
-def arrivals(text, options):
-    """What comes to each cache and to memory, by the machines of the model: the place, the
-    reference, and whether it misses.
-
-    The options are those of din. A flush, which empties all caches, has no place."""
+def steps(text, options):
+    """Each reference, and what comes to each cache and to memory then, by the machines of the
+    model: the place, the reference, and whether it misses. Nothing comes of what no first-level
+    cache takes; None stands for a flush, which empties all caches. The options are those of din."""
     job = base.model.parse(["din", *map(str, options)])[1]
     caches = base.model.machines_of(job)
     for event in base.references(text, job["format"]):
         if event is base.model.FLUSH:
             for cache in caches.values():
                 cache.flush()
-            yield "", event, False
+            yield event, None
             continue
         first = "l1-u", "l1-i" if event.access == "fetch" else "l1-d"
         first = [name for name in first if name in caches]
-        came = [event] if first else []
+        came, arrived = [event] if first else [], []
         for name in [*first, *(["l2-u"] if "l2-u" in caches else [])]:
             sent = []
             for reference in came:
                 sent += caches[name].step(reference)
-                yield name, reference, caches[name].went != "hit"
+                arrived.append((name, reference, caches[name].went != "hit"))
             came = sent
-        for reference in came:
-            yield "memory", reference, False
+        yield event, arrived + [("memory", reference, False) for reference in came]
+
+
+def arrivals(text, options):
+    """The same one by one; a flush has no place."""
+    for event, arrived in steps(text, options):
+        yield from [("", event, False)] if arrived is None else arrived
 
 
 def shape(name, bsize, sets, ways):

@@ -3,10 +3,9 @@
 import random
 
 import base
-import reading_base
 from lib import table
+from reading_base import SORT, Reading
 
-SORT = (base.EXAMPLES / "sort.din").read_bytes()
 WORD = (1 << 64) - 1
 
 
@@ -45,24 +44,14 @@ class Indexed(base.Lru):
     """A cache whose sets are chosen by a function."""
 
     def __init__(self, bsize, sets, assoc, function):
-        super().__init__(1, sets, assoc)
-        self.block, self.function = bsize, function
+        super().__init__(bsize, sets, assoc)
+        self.function = function
 
-    def access(self, address):
-        """As its own set has it: each set is a list by itself."""
-        block = address // self.block
-        place = self.function(block, len(self.sets), self.block)
-        held = self.sets[place]
-        outcome = "hit" if block in held else "miss" if len(held) < self.assoc else "miss eviction"
-        if outcome == "hit":
-            held.remove(block)
-        elif outcome == "miss eviction":
-            held.pop(0)
-        held.append(block)
-        self.went[outcome] += 1
+    def place(self, block):
+        return self.function(block, len(self.sets), self.bsize)
 
 
-class AnyIndex(reading_base.Reading, base.ToolTest):
+class AnyIndex(Reading, base.ToolTest):
     TOOL = "any-index"
     OPTIONS = "--bsize 16 --sets 12 --assoc 1-4".split()
 

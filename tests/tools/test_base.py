@@ -43,7 +43,13 @@ class Judges(base.ToolTest):
             with base.ended(sleeping):
                 self.assertEqual(base.processes(sleeping.pid), [f"{sleeping.pid} (sleep"])
         self.assertEqual(base.processes(sleeping.pid), [])
-        self.assertFalse(base.comes(lambda: False, 0))
+
+    def test_what_comes_for_a_moment(self):
+        """What is true once is not asked again, and what never is, is not."""
+        answers = iter((False, True, False))
+        self.assertIs(base.comes(lambda: next(answers)), True)
+        self.assertIs(next(answers), False)
+        self.assertIs(base.comes(lambda: [], seconds=0), False)
 
     def test_a_package_that_is_missing(self):
         """Its tests fail and name it, or are left out where that is asked for."""

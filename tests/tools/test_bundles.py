@@ -1,9 +1,8 @@
 """Mutants that are tried in one check, in a small repository with a stand-in for the kit's rt."""
 
 import re
-import shutil
 
-from base import TOP, ToolTest
+from base import ToolTest, copy_scripts
 
 SOURCE = """\
 //! Parts of a number, in braces: '{'.
@@ -109,23 +108,36 @@ def refused(function, goal="value"):
     return f"note: src/lib.rt:{before.count(chr(10)) + 2}:5: {why}\n"
 
 
-class Bundles(ToolTest):
+class MutantsTest(ToolTest):
+    """A test with a small repository, where the crate `low` has a source and a stored proof."""
+
+    SOURCE, RT, STORED = SOURCE, RT, "proofs/Half/of/Answers.antt"
+
     def setUp(self):
         super().setUp()
         self.top = self.folder / "a copy"
         self.crate = self.top / "crates/low"
-        for folder in "src", "proofs/Half/of", "out/incremental":
+        self.stored = self.crate / self.STORED
+        for folder in ("src", "must-fail", "out/incremental", self.stored.parent):
             (self.crate / folder).mkdir(parents=True)
-        (self.top / "tests/mutants").mkdir(parents=True)
-        for name in ("try-mutants", "bundles.py", "common.py", "contracts.py", "edits.py",
-                     "prover.py"):
-            shutil.copy(TOP / "tests" / name, self.top / "tests")
-        (self.crate / "src/lib.rt").write_text(SOURCE)
-        (self.crate / "proofs/Half/of/Answers.antt").write_text("an answer\n")
+        copy_scripts(self.top, "try-mutants", "bundles.py", "common.py", "contracts.py", "edits.py",
+                     "prover.py")
+        (self.top / "tests/mutants").mkdir()
+        (self.crate / "src/lib.rt").write_text(self.SOURCE)
+        self.stored.write_text("an answer\n")
         (self.top / "crates.txt").write_text("low:\n")
         (self.top / "HANDLES").write_text("Handles allowed: none.\n")
-        (self.folder / "rt").write_text(RT)
-        (self.folder / "rt").chmod(0o755)
+        self.write("rt", self.RT).chmod(0o755)
+
+    def try_mutants(self, *arguments):
+        stand_in = {"RT": str(self.folder / "rt"), "STAND_IN": str(self.folder)}
+        words = ("--jobs", "1", *arguments)
+        return self.run_command(self.top / "tests/try-mutants", *words, env=stand_in)
+
+
+class Bundles(MutantsTest):
+    def setUp(self):
+        super().setUp()
         self.edits = self.top / "tests/mutants/low.edits"
 
     def edit(self, name, function, old=None, new=None, goal=None, right=None):
@@ -140,9 +152,7 @@ class Bundles(ToolTest):
     def tried(self, *arguments):
         """The lines of a run, without the times, and what each check after the first had in it."""
         (self.folder / "calls").unlink(missing_ok=True)
-        stand_in = {"RT": str(self.folder / "rt"), "STAND_IN": str(self.folder)}
-        words = ("--jobs", "1", *arguments)
-        ran = self.run_command(self.top / "tests/try-mutants", *words, env=stand_in)
+        ran = self.try_mutants(*arguments)
         self.assertEqual(ran.stderr, b"")
         lines = re.sub(r" \(\d+ s\)", "", ran.stdout.decode()).splitlines()
         self.assertEqual(ran.returncode, int(not lines[-1].endswith(" 0 failed")))
@@ -270,8 +280,7 @@ class Bundles(ToolTest):
         lemmas.write_text("use Rattle.other.proofs.Half.of.Answers.{returns}\n"
                           "use Rattle.low.proofs.Half.Lemmas.{half}\n")
         (self.crate / "proofs/Half/Lemmas.antt").write_text("lemmas\n")
-        own = self.crate / "proofs/Half/of/Answers.antt"
-        own.write_text("use Rattle.low.proofs.Half.of.Goals as goal\n")
+        self.stored.write_text("use Rattle.low.proofs.Half.of.Goals as goal\n")
         self.assertEqual(self.tried()[1], [f"{TOGETHER}: a b c"])
 
     def test_many(self):

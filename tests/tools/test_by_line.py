@@ -10,6 +10,7 @@ import base
 import reading_base
 import trace_base
 from base import cache
+from test_three_c import random_trace
 
 SORT = base.EXAMPLES / "sort.din"
 COUNTS = ("references", "misses", "compulsory", "capacity", "conflict")
@@ -75,18 +76,13 @@ class Totals(ByLineTest):
         columns = "fetches reads writes", "fetch-misses read-misses write-misses"
         return [sum(numbers[name] for name in names.split()) for names in columns]
 
-    def random_trace(self):
-        drawn, text = random.Random(4), []
-        for number in range(6000):
-            far, near = drawn.randrange(64) * 512, 0x9000 + drawn.randrange(40)
-            place = drawn.choice((number % 300 * 16, far, near))
-            text.append("4 0" if drawn.random() < 0.002 else f"{drawn.choice('012')} {place:x}")
-        return self.write("random.din", "\n".join(text) + "\n")
+    def traces(self):
+        return SORT, self.write("random.din", random_trace(6000, True))
 
     def test_of_din(self):
         data = f"{CACHE} -l1-dassoc 2"
         split = f"{data} -l1-isize 128 -l1-ibsize 16 -l2-usize 1k -l2-ubsize 32 -l2-uassoc 4"
-        for trace in (SORT, self.random_trace()):
+        for trace in self.traces():
             for place, options in (
                 ("l1-d", data),
                 ("l1-d", f"{data} -l1-drepl f -l1-dwalloc n -l1-dwback n"),
@@ -102,7 +98,7 @@ class Totals(ByLineTest):
                     self.assertEqual(self.sums(rows)[:2], self.report(trace, options, place))
 
     def test_of_three_c(self):
-        for trace in (SORT, self.random_trace()):
+        for trace in self.traces():
             for sets, assoc in ((8, 2), (1, 16), (16, 1), (4, 3), (1, 12)):
                 swept = f"--kind d --bsize 16 --sets {sets} --assoc {assoc} --size 0-1k".split()
                 table = self.good(self.run_tool("three-c", trace, *swept))

@@ -1,10 +1,9 @@
 """What a change needs before a commit, by tests/check."""
 
 import re
-import shutil
 import sys
 
-from base import PROGRAM, TOP, ToolTest, script
+from base import PROGRAM, TOP, ToolTest, copy_scripts, script
 
 # what is asked of each tool
 OF_EACH = "failures_packages.Tools named_options check.Check.test_each_test_is_there"
@@ -85,8 +84,7 @@ class Check(ToolTest):
         """A copy in which all that is called is a stand-in, and git tells two files."""
         for folder in ("tests/tools", "tests/cases", "crates/low/src"):
             (self.folder / folder).mkdir(parents=True, exist_ok=True)
-        for name in ("check", "steps.py", "common.py"):
-            shutil.copy(TOP / "tests" / name, self.folder / "tests")
+        copy_scripts(self.folder, "check", "steps.py", "common.py")
         for name in ("ledger", "test-tools", "spec-names", "run"):
             self.write(f"tests/{name}", STAND_IN.format(failing))
         self.write("tests/cases/new one.cases", "")

@@ -19,7 +19,7 @@ TRACE = EXAMPLES / "sort.din"
 # Runs the tasks of a job at once, and a job that depends on another only where all tasks of that
 # one ended well. Each job is noted with its options. A task that is to be spoiled does nothing;
 # before another one a script may run.
-SBATCH = """#!/bin/bash
+SBATCH = """\
 set -eu
 note=$(dirname "$0") tasks= after=
 number=7
@@ -50,15 +50,9 @@ done
 class Submitting(ToolTest):
     def setUp(self):
         super().setUp()
-        self.note = self.folder / "bin"
-        self.note.mkdir()
-        self.command("sbatch", SBATCH)
-        self.command("scancel", f'#!/bin/sh\necho "$@" >> {self.note}/cancelled\n')
-        self.command("squeue", "#!/bin/sh\nexit 1\n")
-
-    def command(self, name, text):
-        (self.note / name).write_text(text)
-        (self.note / name).chmod(0o755)
+        self.note = self.executable("bin/sbatch", SBATCH).parent
+        self.executable("bin/scancel", f'echo "$@" >> {self.note}/cancelled')
+        self.executable("bin/squeue", "exit 1")
 
     def submit(self, *arguments, **env):
         path = f"{self.note}:{PROGRAM.parent}:{os.environ['PATH']}"
@@ -225,9 +219,9 @@ class Submitting(ToolTest):
         self.good(self.submit("run", 2, TRACE, *THREE))
         self.refused(self.submit("--again", "run"), 1, "run/table.csv is there: no page is missing")
         (self.folder / "run/table.csv").unlink()
-        self.command("squeue", "#!/bin/sh\n[ \"$*\" != '-h -j 7,8' ] || echo 7 main\n")
+        self.executable("bin/squeue", "[ \"$*\" != '-h -j 7,8' ] || echo 7 main")
         self.refused(self.submit("--again", "run"), 1, "submit: job 7 or 8 has not ended\n")
-        self.command("squeue", "#!/bin/sh\nexit 1\n")
+        self.executable("bin/squeue", "exit 1")
         (self.note / "refuse-9").touch()
         told = "sbatch: error: refused\nsubmit: no job was submitted\n"
         self.refused(self.submit("--again", "run"), 1, told)

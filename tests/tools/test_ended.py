@@ -9,7 +9,6 @@ import itertools
 import multiprocessing
 import os
 import pathlib
-import platform
 import random
 import shutil
 import signal
@@ -17,14 +16,13 @@ import subprocess
 import tempfile
 import time
 
-from base import (EXAMPLES, PLAIN, PROGRAM, TOOLS, TOP, ToolTest, adopt_orphans, catches, comes,
-                  needs)
+from base import (EXAMPLES, HANDOUT, PLAIN, PROGRAM, TOOLS, WRITES_A_TRACE, ToolTest, adopt_orphans,
+                  catches, comes, needs)
 from lab_base import STUDENTS, TRANS, running
-from trace_base import TRACED, program_of
+from trace_base import FAKE, QEMU, TRACED, program_of
 
 SPACE = "--bsize 16-64 --sets 1-64 --assoc 1-8 --size 16-8k".split()
 CACHE = "-l1-dsize 128 -l1-dbsize 16 -l1-dassoc 2 -l1-isize 16 -l1-ibsize 16".split()
-FAKE = {"FAKE_VERSION": "7.2.22", "FAKE_HELP": "-plugin ..", "FAKE_START": "0"}
 # what each tool is given; behind a blank stands what sets a run apart, as that of a stand-in for
 # QEMU. These need Python, a C compiler and bash, ..
 RUNS = {
@@ -56,7 +54,6 @@ OF_PACKAGES = {
     "trace": ["./program"],
     "trace lackey": ["--with", "lackey", "./program"],
 }
-WRITES_A_TRACE = "lab/lab-trace", "second-level", "to-din", "trace"
 WRITES_BY_AND_BY = "lab/grade", "lab/grade-class"  # what is judged, line by line
 VARIES = "lab/lab-trace", "trace", "trace lackey"  # the stack is elsewhere in each run
 SIGNALS = "HUP INT QUIT TERM USR1 USR2 ALRM XCPU PIPE KILL".split()
@@ -91,7 +88,7 @@ class Place:
 
     def fill(self):
         folder = self.folder
-        shutil.copy(TOP / "tests/cases/inputs/handout.lackey", folder)
+        shutil.copy(HANDOUT, folder)
         (folder / "long.din").write_bytes((EXAMPLES / "sort.din").read_bytes() * 4)
         (folder / "long.lackey").write_bytes((EXAMPLES / "transpose.lackey").read_bytes() * 90)
         subprocess.run(["gzip", "-k", folder / "long.din"], check=True)
@@ -104,7 +101,7 @@ class Place:
         (folder / "table.csv").write_bytes(subprocess.check_output(sweep))
         fake = program_of(TRACED / "fake_qemu.c", "-rdynamic")
         (folder / "fake").mkdir()
-        (folder / f"fake/qemu-{platform.machine()}").symlink_to(fake)
+        (folder / "fake" / QEMU).symlink_to(fake)
 
     def given(self, tool, private):
         fake = f"{self.folder}/fake:" if tool.endswith(" fake") else ""

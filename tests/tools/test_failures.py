@@ -7,45 +7,31 @@ What needs no package is among the plain tests, of which `some` leaves out a par
 import concurrent.futures
 import os
 import pathlib
-import platform
 import shutil
 import subprocess
 import tempfile
 
-from base import EXAMPLES, PLAIN, PROGRAM, TOOLS, TOP, ToolTest, comes, copy_tools, processes
+from base import (EXAMPLES, HANDOUT, OVER_A_TRACE, PLAIN, PROGRAM, SPACE, TOOLS, WRITES_A_TRACE,
+                  ToolTest, comes, copy_tools, processes)
 from lab_base import STUDENTS
-from trace_base import TRACED, program_of
+from trace_base import FAKE, QEMU, TRACED, program_of
 
-SPACE = "--bsize 16 --sets 1-4 --assoc 1-2 --size 64".split()
-CACHE = "-l1-dsize 128 -l1-dbsize 16 -l1-dassoc 2".split()
-QEMU = f"qemu-{platform.machine()}"
-FAKE = {"FAKE_VERSION": "7.2.22", "FAKE_HELP": "-plugin ..", "FAKE_START": "0"}
 # what each tool is given: files, and in the place of INPUT a trace, and of MAIN how far a function
 # is behind the start of the code. Behind a blank stands what it is asked for beside its usual work,
 # by options that call other commands. Those that need packages are in test_failures_packages.py
 RUNS = {
-    "any-index": ["INPUT", *"--bsize 16 --sets 3 --assoc 1-2".split()],
+    **{tool: words for tool, words in OVER_A_TRACE.items() if tool != "by-line"},
     "best": ["table.csv"],
-    "by-page": ["INPUT", *CACHE],
     "cluster/submit": ["run", "2", "INPUT", *SPACE],
-    "din-table": ["2", "INPUT", *CACHE[:2], "-l1-dbsize", "16,32"],
     "lab/grade": ["./csim", "handout.lackey", "--geometry", "1,1,4"],
     "lab/grade-class": ["students/ann", "--trace", "handout.lackey", "--geometry", "1,1,4"],
     "lab/replay": "-s 1 -E 2 -b 4 -t handout.lackey --text".split(),
-    "optimal": ["INPUT", *SPACE],
-    "over-time": ["INPUT", *CACHE, "--each", "50"],
     "plot": ["table.csv", "-"],
-    "prefetch": ["INPUT", *CACHE],
-    "second-level": ["INPUT", *CACHE],
-    "sweep-parallel": ["2", "INPUT", *SPACE],
-    "three-c": ["INPUT", *SPACE],
     "to-din": ["lackey", "handout.lackey"],
     "trace": ["./program", "2:1", "many:100"],
-    "warm": ["9", "INPUT", *SPACE],
 }
 UNPACKS = [tool for tool, words in RUNS.items() if "INPUT" in words and tool != "cluster/submit"]
 OWN_COMMANDS = "optimal", "second-level", "to-din"  # parts in C
-WRITES_A_TRACE = ("lab/lab-trace", "second-level", "to-din", "trace")
 TO_A_FILE = {"plot page", "plot png"}  # which is all that they write
 OF_VALGRIND = ("lab/lab-trace", "lab/lab-transpose", "trace lackey")  # no room in some limits
 # what they run is limited as they are, and judged
@@ -119,9 +105,7 @@ class FailureTest(ToolTest):
         (given / "trace.din").write_bytes(b"".join(lines[:2000]))
         with open(given / "trace.gz", "wb") as file:
             subprocess.run(["gzip", "-c", given / "trace.din"], stdout=file, check=True)
-        shutil.copy(TOP / "tests/cases/inputs/handout.lackey", given)
-        shutil.copy(EXAMPLES / "sort.din", given / "long.din")
-        shutil.copy(EXAMPLES / "transpose.lackey", given / "long.lackey")
+        shutil.copy(HANDOUT, given)
         shutil.copy(shutil.which("true"), given / "program")
         (given / "students/ann").mkdir(parents=True)
         for name in ("csim", "students/ann/csim"):
@@ -333,17 +317,3 @@ class Limits(FailureTest):
                     self.assertTrue(ran.returncode or after == "| true", told)
                     self.assertTrue(least <= told.count("\n") <= 1, told)
                     self.assertNotIn("Traceback", told)
-
-    def test_a_trace_that_is_cut(self):
-        """In a file that may not grow it ends in a line that no simulator takes."""
-        for tool in sorted(self.runs.keys() & {*WRITES_A_TRACE, "trace lackey"}):
-            with self.subTest(tool):
-                longer = {"many:100": "many:900000", "handout.lackey": "long.lackey"}
-                words = [longer.get(word, word) for word in self.words(tool, "long.din")]
-                blocks = {"second-level": 1, "to-din": 1, "trace": 4000}.get(tool, 16)
-                after = "> cut; /bin/cat cut; exit 1"
-                ran = self.run_in("cut", words, f"ulimit -f {blocks};", after)
-                self.assert_no_trace(ran.stdout, ran.stderr)
-                self.assertGreater(len(ran.stdout), 0)
-                last = rb"\n[\w-]+ failed: what stands above is not all *\n\Z"
-                self.assertRegex(ran.stdout, last)

@@ -6,7 +6,7 @@ import subprocess
 
 import test_ended
 import test_failures
-from base import TOOLS, ToolTest, needs
+from base import CACHE, OVER_A_TRACE, TOOLS, ToolTest, needs
 from lab_base import TRANS
 from lib.trace.functions import start_of_code
 from test_style import tools
@@ -14,12 +14,11 @@ from trace_base import TRACED, program_of, symbols_of
 
 # as those of test_failures.py
 RUNS = {
-    "by-line": ["INPUT", *test_failures.CACHE],
-    "by-line names": ["lines.din", *test_failures.CACHE, "--program", "traced",
-                      "--callgrind", "counts"],
+    "by-line": OVER_A_TRACE["by-line"],
+    "by-line names": ["lines.din", *CACHE, "--program", "traced", "--callgrind", "counts"],
     "lab/lab-trace": ["./program"],
     "lab/lab-transpose": ["--size", "8x8", "trans.c"],
-    "profile": [*test_failures.CACHE, "--by", "object", "./program", "2:1", "many:100"],
+    "profile": [*CACHE, "--by", "object", "./program", "2:1", "many:100"],
     "plot png": ["table.csv", "a.png"],
     "plot page": ["table.csv", "a.html"],
     "trace from": ["--from", "main", "./traced", "2:1", "2:MAIN", "many:100"],

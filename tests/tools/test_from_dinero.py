@@ -15,6 +15,7 @@ TRIGGER = [line.endswith(" 1fff000558\n") for line in LINES].index(True)
 CACHES = "-l1-isize 256 -l1-ibsize 16 -l1-dsize 256 -l1-dbsize 16 -l1-dassoc 2".split()
 FIRST = "1 2 3 4 5".split()
 OF_A_CACHE = "size bsize sbsize assoc repl fetch pfdist pfabort walloc wback ccc".split()
+# these are taken: random_options of log_base.py has each of them
 HERE = {f"-{cache}{name}" for cache in ("l1-i", "l1-d", "l1-u", "l2-u")
         for name in ("size", "bsize", "assoc", "repl", "walloc", "wback")}
 # all of dineroIV -help, of caches of each level and kind, and the others except -help
@@ -34,10 +35,13 @@ def command_of(option, at=0):
 
 
 class FromDinero(base.ToolTest):
-    def run_line(self, option, at=0):
-        """What a command of the table writes for the example's trace."""
+    def setUp(self):
+        super().setUp()
         self.write("trace.din", "".join(LINES))
         (self.folder / "tools").symlink_to(base.TOOLS)
+
+    def run_line(self, option, at=0):
+        """What a command of the table writes for the example's trace."""
         line = command_of(option, at).replace(" ..", f" {' '.join(CACHES)}")
         return self.good(self.run_command("bash", "-c", f"set -o pipefail; {line}"))
 
@@ -63,11 +67,18 @@ class FromDinero(base.ToolTest):
         misses = {row.split(",")[0]: int(row.split(",")[2]) for row in rows}
         self.assertEqual(sum(misses.values()), self.misses_of(LINES))
 
-    def test_informat_d(self):
-        labels = {"0": "r", "1": "w", "2": "i"}
+    def test_reports(self):
+        """Of a trace in another form, and of a part of it."""
         self.write("trace.xdin", "".join(
-            f"{labels[line[0]]} 0x{line[2:-1]} 4\n" for line in LINES))
-        self.assertEqual(self.run_line("-informat D"), self.report(LINES))
+            f"{'rwi'[int(line[0])]} 0x{line[2:-1]} 4\n" for line in LINES))
+        flushed = [line + "4 0\n" * (number % 1000 == 0) for number, line in enumerate(LINES, 1)]
+        for option, lines in (
+            ("-informat D", LINES), ("-skipcount", LINES[1000:]), ("-maxcount", LINES[:1000]),
+            ("-flushcount", flushed), ("-on-trigger", LINES[TRIGGER:]),
+            ("-off-trigger", LINES[:TRIGGER + 1]),
+        ):
+            with self.subTest(option):
+                self.assertEqual(self.run_line(option), self.report(lines))
 
     def test_ccc(self):
         header, row, *more = self.run_line("-lN-Tccc").splitlines()
@@ -77,16 +88,6 @@ class FromDinero(base.ToolTest):
         self.assertEqual(header.split(",")[-3:], ["compulsory", "capacity", "conflict"])
         self.assertEqual((row.split(",")[5:6] + row.split(",")[-3:], more), (
             [str(count) for count in (all_misses, first, full - first, all_misses - full)], []))
-
-    def test_skipcount(self):
-        self.assertEqual(self.run_line("-skipcount"), self.report(LINES[1000:]))
-
-    def test_maxcount(self):
-        self.assertEqual(self.run_line("-maxcount"), self.report(LINES[:1000]))
-
-    def test_flushcount(self):
-        lines = [line + "4 0\n" * (number % 1000 == 0) for number, line in enumerate(LINES, 1)]
-        self.assertEqual(self.run_line("-flushcount"), self.report(lines))
 
     def misses_of(self, lines):
         report = self.report(lines).partition("memory")[0]
@@ -104,12 +105,6 @@ class FromDinero(base.ToolTest):
     def test_stat_idcombine(self):
         self.assertEqual(int(self.run_line("-stat-idcombine")), self.misses_of(LINES))
 
-    def test_on_trigger(self):
-        self.assertEqual(self.run_line("-on-trigger"), self.report(LINES[TRIGGER:]))
-
-    def test_off_trigger(self):
-        self.assertEqual(self.run_line("-off-trigger"), self.report(LINES[:TRIGGER + 1]))
-
     def sent(self, caches):
         """What caches send on, by the model's log."""
         text = "".join(LINES).encode()
@@ -126,17 +121,6 @@ class FromDinero(base.ToolTest):
         side = "-l1-usize 1k -l1-ubsize 32".split()
         fetches = self.sent("-l1-isize 256 -l1-ibsize 16".split())
         self.assertEqual(self.run_line("-l2-isize"), self.report(fetches, side))
-
-    def test_what_is_here_is_taken(self):
-        values = {"repl": "l", "walloc": "a", "wback": "a", "size": "64", "bsize": "16",
-                  "assoc": "1"}
-        for option in sorted(HERE):
-            name = option[5:]
-            words = [word for each in {"size": 0, "bsize": 0, name: 0}
-                     for word in (f"{option[:5]}{each}", values[each])]
-            first = [] if "-l1-" in option else "-l1-usize 16 -l1-ubsize 16".split()
-            ran = self.run_command(base.PROGRAM, "din", *first, *words, "-informat", "d")
-            self.assertIn("memory", self.good(ran), option)
 
     def test_refused(self):
         """The first is named whole, with no tip, and the last line says where to look."""

@@ -5,38 +5,24 @@ import shutil
 from pathlib import Path
 
 import trace_base
-from base import EXAMPLES, TOOLS, TOP, ToolTest, needs
+from base import CACHE, EXAMPLES, HANDOUT, OVER_A_TRACE, SPACE, TOOLS, ToolTest, needs
 
-SPACE = "--bsize 16 --sets 1-4 --assoc 1-2 --size 64".split()
-CACHE = "-l1-dsize 128 -l1-dbsize 16 -l1-dassoc 2".split()
 TABLE = "bsize,sets,assoc,size,hits,misses,evictions\n16,1,1,16,5,5,4\n16,1,2,32,6,4,2\n"
-# tools that read a file or standard input, and their words; FILE stands for its name or '-'
+# tools that read a file or standard input, and their words; INPUT stands for its name or '-'
 READERS = {
-    "any-index": ("d", ["FILE", *"--bsize 16 --sets 3 --assoc 1-2".split()]),
-    "best": (TABLE, ["FILE"]),
-    "by-line": ("d", ["FILE", *CACHE]),
-    "by-page": ("d", ["FILE", *CACHE]),
-    "din-table": ("d", ["2", "FILE", *CACHE[:2], "-l1-dbsize", "16,32"]),
-    "optimal": ("d", ["FILE", *SPACE]),
-    "over-time": ("d", ["FILE", *CACHE, "--each", "50"]),
-    "plot": (TABLE, ["FILE", "-"]),
-    "prefetch": ("d", ["FILE", *CACHE]),
-    "second-level": ("d", ["FILE", *CACHE]),
-    "sweep-parallel": ("d", ["2", "FILE", *SPACE]),
-    "three-c": ("d", ["FILE", *SPACE]),
-    "to-din": ("10\n20\n", ["addresses", "FILE"]),
-    "warm": ("d", ["9", "FILE", *SPACE]),
+    **{tool: ("d", words) for tool, words in OVER_A_TRACE.items()},
+    "best": (TABLE, ["INPUT"]), "plot": (TABLE, ["INPUT", "-"]),
+    "to-din": ("10\n20\n", ["addresses", "INPUT"]),
 }
-LAB = "-s 1 -E 2 -b 4 -t FILE".split()
 # those that read a file alone
 OF_A_FILE = {
-    "lab/grade": ("l", ["/bin/true", "FILE"]),
-    "lab/grade-class": ("l", ["--trace", "FILE", "."]),
-    "lab/lab-transpose": ("int x;\n", ["FILE"]),
-    "lab/replay": ("l", [*LAB, "--text"]),
+    "lab/grade": ("l", ["/bin/true", "INPUT"]),
+    "lab/grade-class": ("l", ["--trace", "INPUT", "."]),
+    "lab/lab-transpose": ("int x;\n", ["INPUT"]),
+    "lab/replay": ("l", "-s 1 -E 2 -b 4 -t INPUT --text".split()),
 }
 TEXTS = {"d": "".join(f"0 {16 * number:x}\n" for number in range(200)),
-         "l": (TOP / "tests/cases/inputs/handout.lackey").read_text()}
+         "l": HANDOUT.read_text()}
 
 
 class InputTest(ToolTest):
@@ -65,7 +51,7 @@ class StandardOutput(InputTest):
         form, words = {**READERS, **OF_A_FILE}[tool]
         text = self.text(form).encode()
         self.write(place, gzip.compress(text) if place.endswith(".gz") else text)
-        line = f'"$0" {" ".join(words).replace("FILE", name)} {read} >> {place}'
+        line = f'"$0" {" ".join(words).replace("INPUT", name)} {read} >> {place}'
         status = 2 if tool.startswith(("lab/grade", "lab/lab-transpose")) else 1  # of each fault
         told = "standard input" if name == "-" else name
         self.kept(tool, line, f"{told} is standard output too", status, place)

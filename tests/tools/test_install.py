@@ -9,8 +9,10 @@ import shutil
 import subprocess
 import tempfile
 
-from base import PROGRAM, TOP, ToolTest, comes, ended
+from base import HANDOUT, PROGRAM, TOP, ToolTest, comes, ended, script
+from lab_base import STUDENTS
 from test_make import MakeTest, copy_repository, put_program
+from trace_base import program_of
 
 
 @functools.cache
@@ -204,14 +206,12 @@ class Installed(ToolTest):
         there = self.below()
         for path in there:
             self.assertNotRegex(str(path), r"\.[ch]$|/package(/|$)|\.md$|Makefile")
-        paths = [*(TOP / "tools").glob("*"), *(TOP / "tools/lab").glob("*")]
-        for path in paths:
-            if path.is_file() and os.access(path, os.X_OK):
-                link = installed() / "bin" / f"cachesim-{path.name}"
-                self.assertTrue(link.resolve().is_file(), link)
-                for completion in (f"bash-completion/completions/{link.name}",
-                                   f"fish/vendor_completions.d/{link.name}.fish"):
-                    self.assertIn(link.name, (installed() / "share" / completion).read_text())
+        for name in script("check").tools():
+            link = installed() / "bin" / f"cachesim-{name}"
+            self.assertTrue(link.resolve().is_file(), link)
+            for completion in (f"bash-completion/completions/{link.name}",
+                               f"fish/vendor_completions.d/{link.name}.fish"):
+                self.assertIn(link.name, (installed() / "share" / completion).read_text())
         for link in (installed() / "bin").glob("cachesim-*"):
             env = {"PATH": f"{link.parent}:{os.environ['PATH']}", "PYTHONDONTWRITEBYTECODE": ""}
             ran = self.run_command(link, "--help", env=env)
@@ -229,17 +229,16 @@ class Installed(ToolTest):
         din, lackey = TOP / "examples/sort.din", TOP / "examples/blocks.lackey"
         self.executable("cachesim", "exit 9")
         env = {"CACHESIM": "", "PATH": f"{self.folder}:/usr/bin:/bin"}
-        replayed = ("-s", 1, "-E", 2, "-b", 4, "-t", TOP / "tests/cases/inputs/handout.lackey")
+        replayed = ("-s", 1, "-E", 2, "-b", 4, "-t", HANDOUT)
         one = "--pow2 --bsize 16 --sets 1 --assoc 1-4 --size 0-1k".split()
         shown = self.run_tool("lab/replay", *replayed).stdout.decode()
-        csim, judged = TOP / "tests/tools/lab/csim.py", "15 of 15 right\n"
-        note = "note: no .csim_results was written; the lab's printSummary would have done so\n"
+        csim, judged = program_of(STUDENTS / "student.c"), "15 of 15 right\n"
         for arguments, text in (
             (("bin/cachesim-sweep-parallel", 2, din, *space), self.sweep(*space, "-t", din)),
             (("bin/cachesim-sweep-parallel", "--pages", 1, *one), f"{' '.join(one)} --rows 3\n"),
             (("bin/cachesim-replay", *replayed), shown),
-            (("bin/cachesim-grade", csim, lackey), note + judged),
-            (("lib/cachesim/lab/grade", csim, lackey), note + judged),
+            (("bin/cachesim-grade", csim, lackey), judged),
+            (("lib/cachesim/lab/grade", csim, lackey), judged),
         ):
             ran = self.run_command(installed() / arguments[0], *arguments[1:], env=env)
             self.ends(ran, 0, "", text)

@@ -5,17 +5,15 @@ import re
 import shutil
 import signal
 import subprocess
-import sys
 import time
 
-from base import EXAMPLES, PROGRAM, TOP, catches, ended, needs
+from base import EXAMPLES, HANDOUT, PROGRAM, STOPPED_SOON, catches, ended, needs
 from lab_base import LAB, STUDENTS, LabTest, StudentTest, comes, is_running, running
 
-YI = TOP / "tests/cases/inputs/handout.lackey"
 ONE = "-s 4 -E 1 -b 4 -t"
 LAST = "lab-trace failed: what stands above is not all\n"
 TRACES = {
-    "yi.trace": YI.read_text(),
+    "yi.trace": HANDOUT.read_text(),
     "order.trace": "I  400,3\n L 10,1\n L 20,1\nI  403,2\n L 10,1\n S 30,8\n L 20,1\n",
     "wide.trace": " L 10,1\n L 100000010,1\n",
 }
@@ -135,7 +133,7 @@ class Grade(StudentTest):
 
     def test_an_interrupt(self):
         student = self.student("LOOPS")
-        command = [LAB / "grade", "--seconds", "30", student, YI]
+        command = [LAB / "grade", "--seconds", "30", student, HANDOUT]
         self.interrupted(command, lambda: is_running(student))
 
     def test_an_interrupt_as_a_run_begins(self):
@@ -146,18 +144,14 @@ class Grade(StudentTest):
 
     def test_a_signal_just_before_a_wait(self):
         """Python takes note of it, and waits all the same: as of one that another thread got."""
-        lines = ("import signal, sys, threading, time",
-                 f"sys.path.insert(0, {str(LAB)!r})",
-                 "from parts.student import Limited",
-                 "from lib.signals import stop_at_signals",
-                 "def stop():",
-                 "    time.sleep(0.3)",
-                 "    signal.pthread_kill(threading.get_ident(), signal.SIGTERM)",
-                 "stop_at_signals()",
-                 "with Limited(['sleep', '60'], 1 << 26, 50) as run:",
-                 "    threading.Thread(target=stop).start()",
-                 "    run.status()")
-        ran = self.run_command(sys.executable, "-B", "-c", "\n".join(lines), seconds=40)
+        ran = self.run_python(
+            *STOPPED_SOON,
+            "from parts.student import Limited",
+            "from lib.signals import stop_at_signals",
+            "stop_at_signals()",
+            "with Limited(['sleep', '60'], 1 << 26, 50) as run:",
+            "    threading.Thread(target=stop).start()",
+            "    run.status()", folder=LAB)
         self.ends(ran, 143, "")
         self.assertTrue(comes(lambda: not running()))
 

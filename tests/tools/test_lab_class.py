@@ -6,7 +6,7 @@ import re
 import shutil
 
 from base import EXAMPLES, PROGRAM, TOOLS, copy_tools, needs
-from lab_base import LAB, STUDENTS, StudentTest, comes, is_running, running, traces
+from lab_base import LAB, StudentTest, comes, is_running, running, traces
 
 TRACES = "order mixed wide rows blocks long".split()
 BLOCKS = EXAMPLES / "blocks.lackey"
@@ -44,9 +44,10 @@ class GradeClass(ClassTest):
     ONE = [*SHORT, "--trace", BLOCKS]
 
     def test_all_traces(self):
-        """Right ones, that one in Python too; and a mistake, which is in the caches with more ways
-        than one, nine of fifteen."""
-        right = {"stamps": self.student(), "python": STUDENTS / "csim.py"}
+        """Right ones, a script too; and a mistake, which is in the caches with more ways than one,
+        nine of fifteen."""
+        right = {"stamps": self.student(), "script": self.executable(
+            "script", f'exec {self.student()} "$@"')}
         folders = [self.enrol(*each) for each in {**right, "FIFO": self.student("FIFO")}.items()]
         rows = self.table(self.grade_class(*folders))
         wrong = rows.pop("FIFO")
@@ -126,10 +127,7 @@ class GradeClass(ClassTest):
     def test_nobody_can_be_judged(self):
         self.enrol("ann", self.student())
         (self.folder / "bad.trace").write_text(" X 10,1\n")
-        bare = self.folder / "bare"
-        bare.mkdir()
-        for name in ("python3", "stdbuf"):
-            (bare / name).symlink_to(shutil.which(name))
+        bare = self.few_commands("python3", "stdbuf")
         label = "-s 1 -E 1 -b 1 -t bad.trace: line 1: bad label\n"
         no_bwrap = "bwrap is missing: apt-get install bubblewrap\n"
         for arguments, env, message in (

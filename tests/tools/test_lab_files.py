@@ -21,19 +21,17 @@ KEEPS = (
     ("lab-transpose", ["--size", "8x8", "--keep", "kept", "trans.c"], "kept/8x8-2.trace"),
     ("grade-class", [*ONE, "ann", "bob"], "bob/grade.txt"),
 )
-# the same, of a file that is read too: its name, and the words, for bash
+# the same, of a file that is read too: its name, and the words, for bash. Those that are only read
+# are in test_inputs.py
 READ_TOO = (
     ("grade", "kept/order.trace", "--keep kept kept/order.trace"),
     ("grade", "kept/order.trace", "--keep kept right >> kept/order.trace"),
     ("grade", "right", "right short.trace >> right"),
-    ("grade", "short.trace", "right short.trace >> short.trace"),
     ("lab-transpose", "kept/8x8-1.trace", "--size 8x8 --keep kept kept/8x8-1.trace"),
     ("lab-transpose", "kept/8x8-1.trace", "--size 8x8 --keep kept trans.c >> kept/8x8-1.trace"),
-    ("lab-transpose", "trans.c", "trans.c >> trans.c"),
     ("grade-class", "ann/grade.txt", "--trace ann/grade.txt ann bob"),
     ("grade-class", "bob/grade.txt", "bob ann >> bob/grade.txt"),
     ("grade-class", "bob/grade.txt", "ann bob/ linked"),
-    ("grade-class", "short.trace", "--trace short.trace ann >> short.trace"),
 )
 # a tool that waits, and what it is given; each but replay has a private folder then
 WAITING = (

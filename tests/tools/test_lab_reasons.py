@@ -1,6 +1,5 @@
 """What `grade` says of right simulators with one mistake each, which reasons.edits puts in."""
 
-import concurrent.futures
 import re
 import subprocess
 
@@ -10,12 +9,12 @@ NAMES = "order.trace", "mixed.trace", "wide.trace", "rows.trace"
 
 
 def edits():
-    """Names of mistakes, what is said of each, and its pairs of old and new lines."""
+    """What is said of each mistake, and its pairs of old and new lines."""
     text = (STUDENTS / "reasons.edits").read_text()
     for case in text.split("\n== ")[1:]:
-        name, said, *lines = case.rstrip().splitlines()
+        said, *lines = case.rstrip().splitlines()
         pairs = re.findall(r"((?:-.*\n)+)((?:\+.*\n)+)", "".join(f"{line}\n" for line in lines))
-        yield name, said.removeprefix("why "), [tuple(map(unmarked, pair)) for pair in pairs]
+        yield said, [tuple(map(unmarked, pair)) for pair in pairs]
 
 
 def unmarked(lines):
@@ -31,14 +30,13 @@ class Reasons(StudentTest):
         traces.write(self.folder)
         self.right = (STUDENTS / "csim.c").read_text()
 
-    def made(self, name, pairs):
+    def made(self, pairs):
         """The program with a mistake."""
         text = self.right
         for old, new in pairs:
-            self.assertEqual(text.count(old), 1, (name, old))
+            self.assertEqual(text.count(old), 1, old)
             text = text.replace(old, new)
-        source = self.write(f"{name}.c", text)
-        program = self.folder / name
+        program, source = self.folder / "csim", self.write("csim.c", text)
         subprocess.run(["cc", "-w", "-O1", "-o", program, source], check=True)
         return program
 
@@ -47,14 +45,12 @@ class Reasons(StudentTest):
         return ran.stdout.decode()
 
     def test_without_a_mistake(self):
-        self.assertEqual(self.grade(self.made("right", [])), "60 of 60 right\n")
+        self.assertEqual(self.grade(self.made([])), "60 of 60 right\n")
 
     def test_each(self):
         cases = list(edits())
         self.assertGreaterEqual(len(cases), 40)
-        with concurrent.futures.ThreadPoolExecutor(1) as pool:
-            told = pool.map(lambda case: self.grade(self.made(case[0], case[2])), cases)
-            for (name, words, _), said in zip(cases, told):
-                with self.subTest(name):
-                    reasons = re.findall("^why: (.*)", said, re.M)
-                    self.assertIn(words, "".join(reasons), said)
+        for words, pairs in cases:
+            with self.subTest(words):
+                said = self.grade(self.made(pairs))
+                self.assertIn(words, "".join(re.findall("^why: (.*)", said, re.M)), said)

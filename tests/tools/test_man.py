@@ -7,7 +7,7 @@ import re
 import sys
 from unittest import mock
 
-from base import PACKAGING, TOOLS, TOP, ToolTest, needs
+from base import PACKAGING, TOOLS, TOP, ToolTest, needs, script
 from test_install import installed
 
 sys.path.append(str(PACKAGING))
@@ -138,14 +138,11 @@ class ToolPages(ToolTest):
 
     @needs("man-db")
     def test_each_tool_has_a_page(self):
-        paths = [*TOOLS.iterdir(), *(TOOLS / "lab").iterdir()]
-        tools = [path for path in sorted(paths) if path.is_file() and os.access(path, os.X_OK)]
-        self.assertTrue(tools)
-        for tool in tools:
-            with self.subTest(tool.name):
-                self.write("page.1", page_of(f"cachesim-{tool.name}"))
+        for tool in script("check").tools():
+            with self.subTest(tool):
+                self.write("page.1", page_of(f"cachesim-{tool}"))
                 named = self.good(self.run_command("lexgrog", "page.1"))
-                self.assertIn(f'"cachesim-{tool.name} - ', named)
+                self.assertIn(f'"cachesim-{tool} - ', named)
                 self.good(self.run_command("man", "--warnings", "-l", "page.1", env=SHOWN))
 
     def test_each_file_that_is_named_is_there(self):

@@ -2,9 +2,9 @@
 
 import collections
 import re
-import shutil
 
 from base import TOP, ToolTest, script
+from test_bundles import MutantsTest
 
 SOURCE = """\
 //! Half of a number.
@@ -88,34 +88,20 @@ def goal_of(path):
     return re.search(r"^goal: (.*)$", path.read_text(), re.M)[1]
 
 
-class Mutants(ToolTest):
+class Mutants(MutantsTest):
+    SOURCE, RT, STORED = SOURCE, RT, STORED
+
     def setUp(self):
         super().setUp()
-        self.top = self.folder / "a copy"
-        for folder in ("tests/mutants/low", "crates/low/src", "crates/low/must-fail",
-                       "crates/low/out/incremental"):
-            (self.top / folder).mkdir(parents=True)
-        for name in ("try-mutants", "bundles.py", "common.py", "contracts.py", "edits.py",
-                     "prover.py"):
-            shutil.copy(TOP / "tests" / name, self.top / "tests")
-        (self.top / "crates/low/src/lib.rt").write_text(SOURCE)
-        (self.top / "crates.txt").write_text("low:\n")
-        (self.top / "HANDLES").write_text("Handles allowed: none.\n")
         self.mutant = self.top / "tests/mutants/low/a_third.edit"
+        self.mutant.parent.mkdir()
         self.mutant.write_text("goal: Half::of value\n" + EDIT)
-        (self.folder / "rt").write_text(RT)
-        (self.folder / "rt").chmod(0o755)
         (self.folder / "whole").write_text(PROVED)
-        self.stored = self.top / "crates/low/proofs/lib/Half/of/Answers.antt"
-        self.stored.parent.mkdir(parents=True)
-        self.stored.write_text("an answer\n")
 
     def tried(self, said, *arguments):
         """The last two lines, and the status, where the prover says this of the mutant."""
         (self.folder / "mutant").write_text(said)
-        stand_in = {"RT": str(self.folder / "rt"), "STAND_IN": str(self.folder)}
-        words = ("--jobs", "1", *arguments)
-        ran = self.run_command(self.top / "tests/try-mutants", *words, env=stand_in)
+        ran = self.try_mutants(*arguments)
         self.assertEqual(ran.stderr, b"")
         return ran.stdout.decode().splitlines()[-2:], ran.returncode
 
@@ -149,8 +135,7 @@ class Mutants(ToolTest):
         """It is told that it takes long."""
         (self.top / "crates/low/out/incremental").rmdir()
         (self.folder / "mutant").write_text(IN_CODE + REFUSED)
-        stand_in = {"RT": str(self.folder / "rt"), "STAND_IN": str(self.folder)}
-        ran = self.run_command(self.top / "tests/try-mutants", "--jobs", "1", env=stand_in)
+        ran = self.try_mutants()
         self.assertEqual(ran.stderr.decode(), (
             "each copy of low first proves it and all crates below it, which takes long: "
             "(cd crates/low && rt check) does so once\n"))

@@ -19,43 +19,11 @@ class Belady:
 
     def __init__(self, bsize, sets, ways):
         self.bsize, self.ways = bsize, ways
-        self.sets = [[] for _ in range(sets)]
+        self.sets = [{} for _ in range(sets)]  # by block where its next reference is
         self.hits = self.misses = self.evictions = 0
 
-    def distance(self, block, future):
-        """How far away the next reference to a block is that is held until then."""
-        for far, event in enumerate(future()):
-            if event is base.model.FLUSH:
-                break
-            if event.addr // self.bsize == block:
-                return far
-        return FAR
-
-    def take(self, event, future):
-        block = event.addr // self.bsize
-        held = self.sets[block % len(self.sets)]
-        if block in held:
-            self.hits += 1
-            return
-        self.misses += 1
-        if len(held) == self.ways:
-            held.remove(max(held, key=lambda one: self.distance(one, future)))
-            self.evictions += 1
-        held.append(block)
-
-    def counts(self, events):
-        for now, event in enumerate(events):
-            if event is base.model.FLUSH:
-                self.sets = [[] for _ in self.sets]
-            else:
-                self.take(event, functools.partial(itertools.islice, events, now + 1, None))
-        return self.hits, self.misses, self.evictions
-
-
-class Nearest(Belady):
-    """The same, by when each block is referenced next, for longer traces."""
-
-    def counts(self, events):
+    def coming(self, events):
+        """Of each event where its block's next reference is before a flush, or FAR."""
         uses, future = {}, [FAR] * len(events)
         for now in range(len(events) - 1, -1, -1):
             if events[now] is base.model.FLUSH:
@@ -63,19 +31,20 @@ class Nearest(Belady):
                 continue
             block = events[now].addr // self.bsize
             future[now], uses[block] = uses.get(block, FAR), now
-        held = [{} for _ in self.sets]
-        for event, after in zip(events, future):
+        return future
+
+    def counts(self, events):
+        for event, after in zip(events, self.coming(events)):
             if event is base.model.FLUSH:
-                held = [{} for _ in self.sets]
+                self.sets = [{} for _ in self.sets]
                 continue
             block = event.addr // self.bsize
-            blocks = held[block % len(held)]
-            self.hits, self.misses = self.hits + (block in blocks), self.misses + (
-                block not in blocks)
-            if block not in blocks and len(blocks) == self.ways:
-                del blocks[max(blocks, key=blocks.get)]
+            held = self.sets[block % len(self.sets)]
+            self.hits, self.misses = self.hits + (block in held), self.misses + (block not in held)
+            if block not in held and len(held) == self.ways:
+                del held[max(held, key=held.get)]
                 self.evictions += 1
-            blocks[block] = after
+            held[block] = after
         return self.hits, self.misses, self.evictions
 
 
@@ -123,13 +92,13 @@ class Optimal(reading_base.Reading, base.ToolTest):
         self.assertEqual(header, table.HEADER)
         return [tuple(map(int, line.split(","))) for line in lines]
 
-    def judge(self, kind, text, *options, format="d", of="u"):
-        """Compares all rows with a model of some kind. Returns the table's misses."""
+    def judge(self, text, *options, format="d", of="u"):
+        """Compares all rows with the model. Returns the table's misses."""
         options = (*options, "--format", format, "--kind", of)
         rows, events = self.rows(text, *options), base.references(text, format, of)
         for bsize, sets, ways, size, *counts in rows:
             self.assertEqual(size, bsize * sets * ways)
-            self.assertEqual(tuple(counts), kind(bsize, sets, ways).counts(events), rows)
+            self.assertEqual(tuple(counts), Belady(bsize, sets, ways).counts(events), rows)
         swept = self.sweep(*options, "-t", "/dev/stdin", stdin=text).splitlines()[1:]
         self.assertEqual([row[:4] for row in rows],
                          [tuple(map(int, line.split(",")[:4])) for line in swept])
@@ -149,15 +118,15 @@ class Optimal(reading_base.Reading, base.ToolTest):
         for name, format, kind in (("sort.din", "d", "u"), ("sort.din", "d", "i"),
                                    ("transpose.lackey", "l", "d"), ("blocks.lackey", "l", "u")):
             text = (base.EXAMPLES / name).read_bytes()
-            self.assertGreater(len(self.judge(Nearest, text, *space, format=format, of=kind)), 20)
+            self.assertGreater(len(self.judge(text, *space, format=format, of=kind)), 20)
 
     def test_random_traces(self):
         drawn = random.Random(3)
         for span, flushes in itertools.product((40, 400, 4000), (0, 0.02)):
-            self.judge(Belady, random_trace(drawn, 250, span, flushes), "--bsize", "1-4", "--sets",
-                       "1-4", "--assoc", "1-5", "--size", "0-1m")
-            self.judge(Nearest, random_trace(drawn, 4000, span, flushes / 5), "--bsize", "4-16",
-                       "--sets", "1-8", "--assoc", "1-40", "--size", "0-1m", "--pow2")
+            self.judge(random_trace(drawn, 250, span, flushes), "--bsize", "1-4", "--sets", "1-4",
+                       "--assoc", "1-5", "--size", "0-1m")
+            self.judge(random_trace(drawn, 4000, span, flushes / 5), "--bsize", "4-16", "--sets",
+                       "1-8", "--assoc", "1-40", "--size", "0-1m", "--pow2")
 
     def test_no_replacement_is_better(self):
         """Compared with all choices of what is evicted."""
@@ -173,11 +142,11 @@ class Optimal(reading_base.Reading, base.ToolTest):
         """More than there is room for at first; addresses at both ends."""
         text = "".join(f"0 {number * 0xfffffffffff:x}\n" for number in range(1 << 18))
         rows = self.rows(text.encode() * 2, *"--bsize 1 --sets 64k --assoc 3 --size 192k".split())
-        wanted = Nearest(1, 1 << 16, 3).counts(base.references(text.encode() * 2))
+        wanted = Belady(1, 1 << 16, 3).counts(base.references(text.encode() * 2))
         self.assertEqual(rows, [(1, 1 << 16, 3, 3 << 16, *wanted)])
         text = b"0 0\n1 ffffffffffffffff\n2 0\n0 fffffffffffffff0\n"
-        self.assertEqual(self.judge(Belady, text, *"--bsize 1-16 --sets 1 --assoc 1-2 --size "
-                                    "0-1m --pow2".split())[-2:], [4, 2])
+        words = "--bsize 1-16 --sets 1 --assoc 1-2 --size 0-1m --pow2".split()
+        self.assertEqual(self.judge(text, *words)[-2:], [4, 2])
 
     def test_pages_and_empty_tables(self):
         """Of a page, of no row, of an empty trace; a fault where there is no row, too."""

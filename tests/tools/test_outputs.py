@@ -11,12 +11,10 @@ import signal
 import subprocess
 import time
 
-from base import EXAMPLES, PROGRAM, TOOLS, TOP, ToolTest, comes, ended, needs
-from test_trace import QEMU
-from trace_base import TRACED, program_of
+from base import EXAMPLES, HANDOUT, PROGRAM, TOOLS, ToolTest, comes, ended, needs
+from trace_base import FAKE, QEMU, TRACED, program_of
 
 SPACE = "--bsize 16-64 --sets 1-16 --assoc 1-4 --size 16-4k".split()
-YI = TOP / "tests/cases/inputs/handout.lackey"
 ROOM = 4096  # bytes of a file that may not grow further
 FULL = "No space left on device"
 # tools that write lines: the words of each, its status, and that for a fault
@@ -36,7 +34,7 @@ class Outputs(ToolTest):
     def setUp(self):
         super().setUp()
         self.write("table.csv", self.sweep(*SPACE, "-t", EXAMPLES / "sort.din"))
-        shutil.copy(YI, self.folder / "yi.trace")
+        shutil.copy(HANDOUT, self.folder / "yi.trace")
         (self.folder / "students/ann").mkdir(parents=True)
         self.executable("students/ann/csim", "echo hits:1 misses:2 evictions:3")
 
@@ -112,8 +110,7 @@ class CutTraces(ToolTest):
             "bin/valgrind", 'for word; do case $word in --log-fd=*) log=${word#*=} ;; esac; done',
             'exec cat >&"$log"')
         (lackey.parent / QEMU).symlink_to(program_of(TRACED / "fake_qemu.c", "-rdynamic"))
-        self.env = self.in_folder(PATH=f"{lackey.parent}:{os.environ['PATH']}", FAKE_HELP="-plugin",
-                                  FAKE_VERSION="7.2.22", FAKE_START="0")
+        self.env = self.in_folder(PATH=f"{lackey.parent}:{os.environ['PATH']}", **FAKE)
         for tool in ("to-din", "second-level", "trace"):
             self.run_tool(tool, "--build")
 

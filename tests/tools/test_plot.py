@@ -215,12 +215,6 @@ class Drawn(PlotTest):
         self.shows("t.csv", texts=["Miss ratio by cache size: blocks of 128 bytes",
                                    "Miss ratio by block size: 6 ways"])
 
-    def test_pages_without_a_header_from_standard_input(self):
-        drawn = self.good(self.plot("eight.csv", "-"))
-        self.assertEqual(self.good(self.plot("-", "-", stdin=EIGHT.encode())), drawn)
-        marked = f"\ufeff{table.HEADER}\n{EIGHT}".encode()
-        self.assertEqual(self.good(self.plot("-", "-", stdin=marked)), drawn)
-
     def test_a_line_is_cut_where_a_size_is_missing(self):
         # no direct-mapped cache has 4 sets, but one of two ways has; none at all has 32
         two = "64,4,2,512,500,500,0\n"

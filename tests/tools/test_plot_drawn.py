@@ -31,8 +31,11 @@ class Drawn(PlotTest):
         return (self.folder / arguments[-1]).read_bytes()
 
     def test_png(self):
-        drawn = self.drawn("--title", "Eight", "eight.csv", "an out.png")
-        self.assertEqual(png_of(drawn), (920, 800))
+        """96 dots an inch, or for print 300."""
+        for words, size in (("--size 3.3x2.5in --only size", (990, 750)),
+                            ("--title 8", (920, 800))):
+            drawn = self.drawn(*words.split(), "eight.csv", "an out.png")
+            self.assertEqual(png_of(drawn), size)
         words = ("--only", "size", "--", "eight.csv", "-a.png")
         self.assertEqual(png_of(self.drawn(*words)), (860, 480))
         mask = os.umask(0)

@@ -6,7 +6,6 @@ import re
 import base
 from base import needs
 from test_plot import PlotTest, rows_of
-from test_plot_drawn import png_of
 
 # Where each text of a page stands, and whether one is cut or two of one axis or legend touch
 LOOK = """<script>
@@ -179,11 +178,6 @@ class Looks(LooksTest):
         places = re.findall(r'xMin="(.*)" yMin="(.*)" xMax="(.*)" yMax="(.*)">', boxes)
         for left, top, right, bottom in (map(float, place) for place in places):
             self.assertTrue(left >= 0 and top >= 0 and right <= 238 and bottom <= 173, boxes)
-
-    def test_png_for_print(self):
-        """300 pixels an inch; the title and the legend are on it."""
-        self.good(self.plot("--size", "3.3x2.5in", "din.csv", "a.png"))
-        self.assertEqual(png_of((self.folder / "a.png").read_bytes()), (990, 750))
 
     def test_no_warning_where_the_language_is_c(self):
         env = {"LC_ALL": "C", "LANG": "C"}

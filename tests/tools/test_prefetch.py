@@ -46,30 +46,6 @@ class Expected:
                 yield f"{self.place},{name},{self.misses},{found},{percent:.3f}\n"
 
 
-def steps(text, options):
-    """Each reference with what comes to caches then, by the machines of the model, as a name, a
-    reference and whether it misses; None for a flush."""
-    job = base.model.parse(["din", *map(str, options)])[1]
-    caches = base.model.machines_of(job)
-    for event in base.references(text, job["format"]):
-        if event is base.model.FLUSH:
-            for cache in caches.values():
-                cache.flush()
-            yield event, None
-            continue
-        first = "l1-u", "l1-i" if event.access == "fetch" else "l1-d"
-        came, arrived = [event], []
-        for name in [name for name in (*first, "l2-u") if name in caches]:
-            sent = []
-            if name == "l2-u" and not arrived:
-                break  # what no first-level cache takes
-            for reference in came:
-                sent += caches[name].step(reference)
-                arrived.append((name, reference, caches[name].went != "hit"))
-            came = sent
-        yield event, arrived
-
-
 class Prefetch(log_base.Filtering, base.ToolTest):
     TOOL = "prefetch"
 
@@ -86,7 +62,7 @@ class Prefetch(log_base.Filtering, base.ToolTest):
                   for name in (*FIRST, "l2-u") if f"-{name}bsize" in given
                   and name.startswith(place or "l1-")}
         histories, instruction = {}, None
-        for event, arrived in steps(text, options):
+        for event, arrived in log_base.steps(text, options):
             if arrived is None:
                 for cache in caches.values():
                     cache.asked = []

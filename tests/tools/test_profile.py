@@ -41,14 +41,6 @@ SHAPES = (("Data", 1, 64, 64, 12), ("Instruction", 1, 64, 128, 4), ("Unified", 2
           ("Unified", 3, 64, 40960, 11))
 
 
-WAITS = """\
-#include <unistd.h>
-int main(void) {
-    return write(1, "ready\\n", 6) + pause();
-}
-"""
-
-
 def built(name, text):
     source = trace_base.built() / f"{name}.c"
     source.write_text(text)
@@ -130,13 +122,13 @@ class Profile(base.ToolTest):
 
     def test_signals(self):
         """One ends the tool and the program; nothing is left."""
-        words = [base.TOOLS / "profile", *CACHE, built("waits", WAITS)]
+        words = [base.TOOLS / "profile", *CACHE, program_of(TRACED / "ends.c", "-g"), "interrupt"]
         private = self.folder / "private"
         private.mkdir()
         given = self.in_folder(TMPDIR=str(private))
         with base.ended(subprocess.Popen(words, stdout=subprocess.PIPE, stderr=subprocess.PIPE,
                                          start_new_session=True, **given)) as running:
-            self.assertEqual(running.stderr.readline(), b"ready\n")
+            self.assertEqual(running.stderr.readline(), b"spins\n")
             os.kill(running.pid, signal.SIGTERM)
             self.assertEqual(running.wait(20), -signal.SIGTERM)
             self.assertTrue(base.comes(lambda: not base.processes(running.pid)))

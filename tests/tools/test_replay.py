@@ -5,9 +5,8 @@ import itertools
 import json
 import re
 
-from base import EXAMPLES, PROGRAM, TOP, ToolTest, model, needs
+from base import EXAMPLES, HANDOUT, PROGRAM, ToolTest, model, needs
 
-HANDOUT = TOP / "tests/cases/inputs/handout.lackey"
 LAB = ("-s", 1, "-E", 2, "-b", 4)
 OF_HANDOUT = (*LAB, "-t", HANDOUT)
 ONE_LINE = ("-s", 1, "-E", 1, "-b", 4)

@@ -1,10 +1,9 @@
 """The runners of cases and of tests, tests/run and tests/test-tools: what fails and what passes."""
 
 import re
-import shutil
 import sys
 
-from base import PROGRAM, TOP, ToolTest, script
+from base import PROGRAM, TOP, ToolTest, copy_scripts, script
 
 EMPTY = "$ cachesim sweep --bsize 16 --sets 1 --assoc 1 --size 16\n"
 HEADER, ROW = "> bsize,sets,assoc,size,hits,misses,evictions\n", "> 16,1,1,16,0,0,0\n"
@@ -76,6 +75,13 @@ class Run(ToolTest):
         self.assertRegex(ran.stdout.decode(), r"^1 cases? .*left out.*\n1 passed, 0 failed\n$")
 
 
+def copied(folder):
+    """The words by which a copy of the runner is called, which has no tests yet."""
+    copy_scripts(folder, "test-tools", "common.py")
+    (folder / "tests/tools").mkdir(exist_ok=True)
+    return folder / "tests/test-tools", "--program", "/bin/true"
+
+
 class TestTools(ToolTest):
     """The runner of the tests of the tools."""
 
@@ -90,9 +96,7 @@ class TestTools(ToolTest):
     def test_an_error_counts(self):
         """Of a test that ends in an exception, one that is left out, and one that is passed. They
         know the program, and whether those are left out that need a package."""
-        (self.folder / "tests/tools").mkdir(parents=True)
-        for name in ("test-tools", "common.py"):
-            shutil.copy(TOP / "tests" / name, self.folder / "tests")
+        given = copied(self.folder)
         self.write("tests/tools/test_bad.py", """\
 import os
 import unittest
@@ -122,7 +126,6 @@ class Fails(Bad):
 class LeftOut(Bad):
     pass
 """)
-        given = self.folder / "tests/test-tools", "--program", "/bin/true"
         for option, plain, failed in ((), "", 8), (("--plain",), "1", 3):
             words = (*given, *option, "bad")
             ran = self.run_command(*words)
@@ -141,12 +144,9 @@ class LeftOut(Bad):
 
     def test_names_are_compared(self):
         """Of a whole run without what needs packages, with those that are kept."""
-        (self.folder / "tests/tools").mkdir(parents=True)
-        for name in ("test-tools", "common.py"):
-            shutil.copy(TOP / "tests" / name, self.folder / "tests")
+        words = copied(self.folder)
         self.write("tests/tools/test_one.py", "import unittest\n\n\nclass One(unittest.TestCase):\n"
                    "    def test_one(self):\n        pass\n")
-        words = self.folder / "tests/test-tools", "--program", "/bin/true"
         names = "tests/test-tools: One.test_one\n"
         for count, kept, status in ((1, names, 0), (2, names, 1), (1, names * 2, 0), (1, "", 1),
                                     (1, names.replace("one", "two"), 1)):
@@ -256,11 +256,9 @@ class SideBySide(ToolTest):
 
     def run_several(self, text, *words):
         """The lines that tell of tests, and the status."""
-        (self.folder / "tests/tools").mkdir(parents=True, exist_ok=True)
-        for name in ("test-tools", "common.py"):
-            shutil.copy(TOP / "tests" / name, self.folder / "tests")
+        given = copied(self.folder)
         self.write("tests/tools/test_several.py", text)
-        ran = self.run_command(self.folder / "tests/test-tools", "--program", "/bin/true", *words)
+        ran = self.run_command(*given, *words)
         self.assertEqual(ran.stderr, b"")
         text = re.sub(r" \(\d+ s\)$", "", ran.stdout.decode(), flags=re.M)
         told = re.findall(r"^(?:ok |FAILED |it |\d+ passed).*\n", text, re.M)

@@ -2,7 +2,6 @@
 
 import os
 import re
-import shutil
 
 import base
 from test_tables import table
@@ -32,10 +31,8 @@ class Scripts(base.ToolTest):
     def test_spec_names(self):
         """A name that two modules define is found."""
         modules = self.folder / "crates/low/specs"
-        for folder in (modules, self.folder / "tests"):
-            folder.mkdir(parents=True)
-        for name in ("spec-names", "common.py"):
-            shutil.copy(base.TOP / "tests" / name, self.folder / "tests")
+        modules.mkdir(parents=True)
+        base.copy_scripts(self.folder, "spec-names", "common.py")
         (modules / "One.antt").write_text("abbrev pub half : ℕ → ℕ\nhalf n = n / 2\n\n"
                                           "abbrev pub third : ℕ\nthird = 3\n")
         (modules / "Other.antt").write_text("pub record half : Type 0 where\n")

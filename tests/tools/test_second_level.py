@@ -2,7 +2,6 @@
 
 import itertools
 import re
-import shutil
 
 import base
 import log_base
@@ -99,15 +98,3 @@ class SecondLevel(log_base.Filtering, base.ToolTest):
         ran = self.run_on("-", *SPLIT, env={"CACHESIM": str(wrong)})
         self.assertEqual((ran.returncode, ran.stdout), (1, LAST))
         self.assertRegex(ran.stderr, rb"\Asecond-level: what cachesim writes is not a log\n")
-
-    def test_compiling(self):
-        copy, commands = self.folder / "a copy", self.folder / "commands"
-        base.copy_tools(copy, "second-level")
-        commands.mkdir()
-        for command in "cat make mkdir mv rm sh".split():
-            (commands / command).symlink_to(shutil.which(command))
-        arguments, given = [copy / "second-level", "-", *self.CACHE], {"stdin": b"0 18\n"}
-        ran = self.run_command(*arguments, **given, env={"PATH": str(commands)})
-        told = b"second-level: cc is missing: apt-get install gcc\n"
-        self.assertEqual((ran.returncode, ran.stdout, ran.stderr), (1, LAST, told))
-        self.assertEqual(self.good(self.run_command(*arguments, **given)), "0 10\n")

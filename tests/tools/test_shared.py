@@ -8,32 +8,15 @@ import shutil
 import signal
 import struct
 import subprocess
-import sys
 import termios
 import time
-import unittest
 
-from base import (EXAMPLES, PROGRAM, TOOLS, ToolTest, all_processes, catches, comes, copy_tools,
-                  ended)
+from base import (EXAMPLES, OVER_A_TRACE, PROGRAM, SPACE, STOPPED_SOON, TOOLS, WRITES_A_TRACE,
+                  ToolTest, all_processes, catches, comes, copy_tools, ended)
 
-SPACE = "--bsize 16 --sets 1-4 --assoc 1-2 --size 64".split()
-CACHE = "-l1-dsize 128 -l1-dbsize 16 -l1-dassoc 2".split()
 PAGES = "sweep-parallel", "--pages", "2", *SPACE
-# tools that read a trace, each with the arguments around it
-READERS = {
-    "three-c": ([], SPACE),
-    "warm": (["2"], SPACE),
-    "optimal": ([], SPACE),
-    "any-index": ([], "--bsize 16 --sets 3 --assoc 1-2".split()),
-    "prefetch": ([], CACHE),
-    "second-level": ([], CACHE),
-    "over-time": ([], [*CACHE, "--each", "2"]),
-    "by-page": ([], CACHE),
-    "sweep-parallel": (["2"], SPACE),
-    "din-table": (["2"], [*CACHE, "--l1-dwback", "a,n"]),
-    "by-line": ([], CACHE),
-    "to-din": (["addresses"], []),
-}
+# tools that read a trace
+READERS = {**OVER_A_TRACE, "to-din": ["addresses", "INPUT"]}
 # those that run the program while they read, and how many processes there are then
 JOINING = {"three-c": 4, "warm": 3, "second-level": 3, "optimal": 3, "over-time": 3, "by-page": 3,
            "any-index": 3, "prefetch": 2, "sweep-parallel": 3, "din-table": 3}
@@ -55,8 +38,8 @@ def mark_of(tool):
 class Shared(ToolTest):
     def reading(self, tool, *trace):
         """The words of a call of a tool over a trace."""
-        before, behind = READERS[tool]
-        return [TOOLS / tool, *before, *trace, *behind]
+        at = READERS[tool].index("INPUT")
+        return [TOOLS / tool, *READERS[tool][:at], *trace, *READERS[tool][at + 1:]]
 
     def read_by(self, tool, trace, **given):
         return self.run_command(*self.reading(tool, trace), **given)
@@ -71,14 +54,18 @@ class Shared(ToolTest):
 class Traces(Shared):
     def test_no_table_of_a_trace_that_failed(self):
         """A sweep at the other end of a pipe fails too, whatever the fault."""
-        cut = gzip.compress(LINES * 99)
-        (self.folder / "cut.gz").write_bytes(cut[: len(cut) // 2])
         for tool in TRACES:
-            for words in (["none"], ["none.gz"], ["cut.gz"], [".", "x", "y"], ["--nosuch"], []):
-                call = self.reading(tool, *words) if words else [TOOLS / tool, *READERS[tool][1]]
+            packed = gzip.compress(lines_for(tool) * 99)
+            self.write("cut.gz", packed[: len(packed) // 2])
+            self.write("more.gz", packed + b"more")
+            for words, told in (
+                ("none", f"{tool}: "), ("none.gz", f"{tool}: "), ("cut.gz", "gzip: "),
+                ("more.gz", "trailing garbage"), (". x y", f"{tool}: "), ("--nosuch", f"{tool}: "),
+                ("", f"{tool}: "),
+            ):
+                call = self.reading(tool, words) if words else [TOOLS / tool]
                 line = " ".join(map(str, [*call, "| cachesim sweep", *SPACE]))
                 ran = self.run_command("bash", "-c", line)
-                told = "gzip: " if words == ["cut.gz"] else f"{tool}: "
                 self.refused(ran, 1, told, "cachesim: line ", ": bad label\n")
             helped = self.good(self.run_tool(tool, "--help"))
             self.assertNotIn("failed", helped.replace(f"{tool} failed: ..", ""))
@@ -98,15 +85,6 @@ class Traces(Shared):
 def is_drained(pipe):
     """Whether all that was written to a pipe has been read."""
     return fcntl.ioctl(pipe, termios.FIONREAD, bytes(4)) == struct.pack("i", 0)
-
-
-class Waiting(unittest.TestCase):
-    def test_what_comes_for_a_moment(self):
-        """What is true once is not asked again, and what never is, is not."""
-        answers = iter((False, True, False))
-        self.assertIs(comes(lambda: next(answers)), True)
-        self.assertIs(next(answers), False)
-        self.assertIs(comes(lambda: [], seconds=0), False)
 
 
 class Signals(Shared):
@@ -152,37 +130,31 @@ class Signals(Shared):
         not by a status or a fault."""
         for moment in ("    signals.put_off_stops(); signals.stop(15, None)",
                        "    type('Made', (), {'it': Sets()})"):
-            lines = ("import sys", f"sys.path.insert(0, {str(TOOLS)!r})",
-                     "from lib import signals, tool",
-                     "class Sets:", "    def __set_name__(self, *_): signals.stop(15, None)",
-                     "def main():", moment, "tool.run(main)")
-            ran = self.run_command(sys.executable, "-B", "-c", "\n".join(lines))
+            ran = self.run_python(
+                "from lib import signals, tool",
+                "class Sets:", "    def __set_name__(self, *_): signals.stop(15, None)",
+                "def main():", moment, "tool.run(main)")
             self.assertEqual((ran.returncode, ran.stdout, ran.stderr), (-15, b"", b""), moment)
 
     def test_a_signal_just_before_a_wait(self):
         """Python takes note of it, and waits all the same: as of one that another thread got."""
-        lines = ("import signal, sys, threading, time", f"sys.path.insert(0, {str(TOOLS)!r})",
-                 "from lib import processes, tool",
-                 "def stop():",
-                 "    time.sleep(0.3)",
-                 "    signal.pthread_kill(threading.get_ident(), signal.SIGTERM)",
-                 "def main():",
-                 "    with processes.Group() as group:",
-                 "        threading.Thread(target=stop).start()",
-                 "        group.start(processes.Helper, ['sleep', '60']).wait()",
-                 "tool.run(main)")
-        ran = self.run_command(sys.executable, "-B", "-c", "\n".join(lines), seconds=40,
-                               env={"TMPDIR": str(self.folder)})
+        ran = self.run_python(
+            *STOPPED_SOON,
+            "from lib import processes, tool",
+            "def main():",
+            "    with processes.Group() as group:",
+            "        threading.Thread(target=stop).start()",
+            "        group.start(processes.Helper, ['sleep', '60']).wait()",
+            "tool.run(main)", env={"TMPDIR": str(self.folder)})
         self.ends(ran, -signal.SIGTERM, "")
         self.assertTrue(comes(lambda: not self.waiting()))
 
     def test_a_slow_end(self):
         """What looks each second does not end the tool as Python ends."""
-        lines = ("import sys, time", f"sys.path.insert(0, {str(TOOLS)!r})",
-                 "from lib import signals",
-                 "class Slow:", "    def __del__(self, sleep=time.sleep): sleep(1.5)",
-                 "signals.stop_at_signals()", "slow = Slow()")
-        self.ends(self.run_command(sys.executable, "-B", "-c", "\n".join(lines)), 0, "")
+        self.ends(self.run_python(
+            "import time", "from lib import signals",
+            "class Slow:", "    def __del__(self, sleep=time.sleep): sleep(1.5)",
+            "signals.stop_at_signals()", "slow = Slow()"), 0, "")
 
     def started(self, tool, stdin):
         """A tool over standard input, whose folder for temporary files is that of this test."""
@@ -214,20 +186,13 @@ class Beginning(Shared):
                 (folder / f"{module}.py").write_text(interrupt)
         for tool in tools:
             ran = self.run_command(tool, "--help")
-            is_trace = tool.name in ("lab-trace", "second-level", "to-din", "trace")
+            is_trace = str(tool.relative_to(copy)) in WRITES_A_TRACE
             last = f"{tool.name} failed: what stands above is not all\n" * is_trace
             got = ran.returncode, ran.stdout.decode(), ran.stderr
             self.assertEqual(got, (-signal.SIGINT, last, b""), tool)
 
 
 class PackedTraces(Shared):
-    def test_bytes_behind_the_end(self):
-        """A fault of the trace, as in other tools."""
-        self.write("t.gz", gzip.compress(lines_for("to-din")) + b"more")
-        ran = self.read_by("to-din", "t.gz")
-        self.assertEqual(ran.returncode, 1)
-        self.assertIn(b"trailing garbage", ran.stderr)
-
     def test_an_unpacker_that_is_killed(self):
         """By whatever signal: what came before is no whole trace."""
         for number in ("KILL", "PIPE", "TERM"):

@@ -141,7 +141,7 @@ class Traced(Sharing):
 
     def test_numbers(self):
         """The third field of a line is the thread, in the order in which they begin, and the fourth
-        of a data reference its bytes. Without them the trace has the same lines."""
+        of a data reference its bytes."""
         program = program_of(TRACED / "counters.c", "-g")
         self.good(self.run_tool("trace", "--threads", "-o", "t.din", program))
         lines = [line.split() for line in (self.folder / "t.din").read_text().splitlines()]
@@ -168,8 +168,3 @@ class Traced(Sharing):
             tables = [self.good(self.run_command(*words, trace, *more))
                       for trace in ("with.din", "without.din")]
             self.assertEqual(*tables)
-
-    def test_not_for_lackey(self):
-        ran = self.run_tool("trace", "--with", "lackey", "--threads", "-o", "t.din", "true")
-        self.refused(ran, 125, "trace: --from, --to, --during, --libraries, --any-version, --map "
-                     "and --threads are for QEMU")

@@ -115,7 +115,7 @@ class Pythons(base.ToolTest):
                 told = ran.stderr.decode()
                 line = rf"\A{path.name}: Python 3\.9 or later is needed, and .* is 3\.8\n\Z"
                 self.assertRegex(told, line)
-                is_trace = path.name in ("lab-trace", "second-level", "to-din", "trace")
+                is_trace = os.path.relpath(path, base.TOOLS) in base.WRITES_A_TRACE
                 status = 125 if path.name in ("lab-trace", "profile", "trace") else 1
                 self.ends(ran, status, told, told * is_trace)
 
@@ -174,9 +174,3 @@ class Linters(unittest.TestCase):
         self.assertGreater(len(paths), 20)
         options = ("--isolated", "--max-line-length", "100", "--extend-ignore", "E203")
         self.clean("flake8", *options, *sorted(set(paths)))
-
-    @base.needs("gcc")
-    def test_c(self):
-        for path in scripts():
-            if path.endswith(".c") and path.startswith(str(base.TOOLS)):
-                self.clean("gcc", "-std=gnu11", "-O2", "-Wall", "-Wextra", "-fsyntax-only", path)

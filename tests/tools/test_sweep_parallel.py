@@ -10,7 +10,7 @@ import shlex
 import subprocess
 
 import reading_base
-from base import EXAMPLES, PROGRAM, TOOLS, TOP, ToolTest, ended, needs
+from base import EXAMPLES, PROGRAM, TOOLS, ToolTest, ended, needs
 from lib import paging
 
 HEADER = "bsize,sets,assoc,size,hits,misses,evictions\n"
@@ -162,13 +162,6 @@ class SameBytes(ParallelTest):
         told = self.good(self.run_tool("sweep-parallel", most, trace, *arguments, **given))
         self.assertEqual(told, wanted)
         return wanted
-
-    def test_by_hand(self):
-        nine = TOP / "tests/cases/inputs/nine-references.din"
-        table = HEADER + "16,1,1,16,3,6,5\n16,1,2,32,4,5,3\n16,2,1,32,4,5,3\n16,2,2,64,4,5,2\n"
-        for most in (1, 2, 4):
-            arguments = (most, nine, *"--bsize 16 --sets 1-2 --assoc 1-2 --size 16-64".split())
-            self.assertEqual(self.good(self.run_tool("sweep-parallel", *arguments)), table)
 
     def test_spaces(self):
         for space, most in itertools.product(SPACES, (1, 2, 4)):

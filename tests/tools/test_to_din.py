@@ -2,19 +2,17 @@
 
 import atexit
 import functools
-import gzip
 import os
 import pathlib
 import random
 import re
 import shutil
-import signal
 import struct
 import subprocess
 import tempfile
 from itertools import chain
 
-from base import EXAMPLES, PROGRAM, TOOLS, ToolTest, needs
+from base import EXAMPLES, TOOLS, ToolTest, needs
 
 SAMPLES = EXAMPLES / "formats"
 SPACE = "--bsize 16-64 --sets 1-16 --assoc 1-4 --size 64-4k".split()
@@ -353,14 +351,6 @@ class Streams(ToDin):
 
 
 class Faults(ToDin):
-    def test_a_pipe_without_pipefail_gives_no_table(self):
-        self.write("cut.gz", gzip.compress((SAMPLES / "pin.txt").read_bytes() * 999)[:-99])
-        for words in ("pin", "pin cut.gz", "pin missing", "pin missing.xz", "pin .", "", "pin a b",
-                      "valgrind", "valgrind cut.gz"):
-            pipe = f"{TOOLS}/to-din {words} | {PROGRAM} sweep {' '.join(SPACE)}"
-            ran = self.run_command("bash", "-c", pipe, stdin=b"0x401000:\n")
-            self.refused(ran, 1, "to-din: ", "cachesim: line ", ": bad label")
-
     def test_a_place_that_takes_no_more(self):
         (self.folder / "trace").write_bytes(b"0x401000: R 0x10\n" * 99999)
         call = f"{TOOLS}/to-din pin trace"
@@ -399,11 +389,3 @@ class Faults(ToDin):
         self.assertEqual(compared | others | {"addresses"}, set(entries))
         by_tools = (SAMPLES / "README.md").read_text().partition("The others show")[0]
         self.assertEqual(compared, set(re.findall(r"`(\w+)\.txt` \|", by_tools)))
-
-    def test_an_interrupt(self):
-        pipes = dict.fromkeys(("stdin", "stdout", "stderr"), subprocess.PIPE)
-        with subprocess.Popen([TOOLS / "to-din", "pin"], **pipes) as run:
-            run.stdin.write(b"0x401000: R 0x10\n" * 9999)
-            run.stdin.flush()
-            run.send_signal(signal.SIGTERM)
-            self.assertEqual((run.wait(9), run.stderr.read()), (-signal.SIGTERM, b""))

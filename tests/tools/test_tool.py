@@ -1,6 +1,7 @@
 """What the tools share."""
 
 import argparse
+import itertools
 import os
 import shutil
 import signal
@@ -8,7 +9,7 @@ import subprocess
 import unittest
 
 import common
-from base import TOOLS, ToolTest, comes, copy_tools, processes
+from base import CACHE, TOOLS, ToolTest, comes, copy_tools, processes
 from lib import tool
 from lib.compiled import Make
 
@@ -148,31 +149,30 @@ class Compiling(ToolTest):
 
     def test_a_compiler_that_fails(self):
         """Nothing of a part is left, which would be taken for the whole."""
-        copy_tools(self.folder, "to-din")
+        copy_tools(self.folder, "to-din", "second-level")
         into = 'echo "cc1: no memory" >&2; echo > "${@: -2:1}"'
-        for end in ("exit 1", "kill -KILL $$"):
+        calls = ("to-din", "addresses"), ("second-level", "-", *CACHE)
+        for (name, *words), end in itertools.product(calls, ("exit 1", "kill -KILL $$")):
             path = self.stand_in("cc", into, end)
-            ran = self.run_command(self.folder / "to-din", "addresses", env=path)
-            told = f"to-din: {self.folder}/out/to-din can't be compiled\n"
+            ran = self.run_command(self.folder / name, *words, env=path)
+            told = f"{name}: {self.folder}/out/{name} can't be compiled\n"
             lines = ran.stderr.decode().splitlines(keepends=True)
             self.assertEqual((ran.returncode, lines[0], lines[-1]), (1, "cc1: no memory\n", told))
-            self.assertIn(b"what stands above is not all", ran.stdout)
+            self.assertEqual(ran.stdout.decode(), f"{name} failed: what stands above is not all\n")
             self.assertEqual(self.made(), [])
 
     def test_what_is_missing(self):
         """make and the compiler are named with their packages."""
         copy_tools(self.folder, "to-din")
-        commands = self.folder / "commands"
-        commands.mkdir()
+        commands = self.few_commands()
         told = "to-din: {} is missing: apt-get install {}\n"
         for command, package in ("make", "make"), ("cc", "gcc"), ("clang", "clang"):
             env = {"PATH": str(commands), "CC": "" if command in ("make", "cc") else command}
             env = {name: value for name, value in env.items() if value}
             ran = self.run_command(self.folder / "to-din", "--build", env=env)
             self.assertEqual(ran.stderr.decode(), told.format(command, package))
-            for name in "make sh mkdir cat rm mv".split():
-                if not (commands / name).exists():
-                    (commands / name).symlink_to(shutil.which(name))
+            if command == "make":
+                self.few_commands(*"make sh mkdir cat rm mv".split())
 
     def test_two_at_once(self):
         """Each compiles to a file of its own, which then takes its place: in a copy of the tool."""

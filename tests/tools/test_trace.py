@@ -2,7 +2,6 @@
 
 import os
 import pathlib
-import platform
 import pty
 import random
 import shlex
@@ -11,9 +10,7 @@ import signal
 import subprocess
 
 from base import EXAMPLES, PROGRAM, TOOLS, comes, copy_tools
-from trace_base import SPACE, TRACED, TraceTest, program_of
-
-QEMU = f"qemu-{platform.machine()}"
+from trace_base import FAKE, QEMU, SPACE, TRACED, TraceTest, program_of
 
 
 class StandIn(TraceTest):
@@ -27,8 +24,7 @@ class StandIn(TraceTest):
         self.program = self.folder / "a program"
         shutil.copy(shutil.which("true"), self.program)
         path = f"{self.folder}/bin:{PROGRAM.parent}:{os.environ['PATH']}"
-        self.told = {"PATH": path, "PROGRAM": str(self.program), "FAKE_VERSION": "7.2.22",
-                     "FAKE_HELP": "-plugin ..", "FAKE_START": "0"}
+        self.told = {"PATH": path, "PROGRAM": str(self.program), **FAKE}
 
     def run_command(self, *arguments, env=None, **given):
         return super().run_command(*arguments, env={**self.told, **(env or {})}, **given)
@@ -278,10 +274,7 @@ class StandIn(TraceTest):
         self.assertEqual(self.good(self.run_command(tools / "trace", self.program, "2:1")), "2 1\n")
 
     def test_what_is_missing(self):
-        few = self.folder / "few"
-        few.mkdir()
-        for name in ("bash", "cat", "make", "mkdir", "mv", "rm", "sh"):
-            os.symlink(shutil.which(name), few / name)
+        few = self.few_commands("bash", "cat", "make", "mkdir", "mv", "rm", "sh")
         env, missing = {"PATH": str(few)}, "is missing: apt-get install"
         self.fails(f"{QEMU} {missing} qemu-user", env=env)
         self.fails(f"valgrind {missing} valgrind", options=("--with", "lackey"), env=env)
@@ -345,6 +338,7 @@ class StandIn(TraceTest):
             ("--count= true", "--count"), ("--count=00 true", "--count: '00' is no number above 0"),
             ("--count 0 true", "--count: '0' is no number above 0"), ("--with pin true", "--with"),
             ("--with lackey --libraries / true", "for QEMU"),
+            ("--with lackey --threads true", "--map and --threads are for QEMU"),
             *((f"--with lackey {part} main true", "for QEMU")
               for part in ("--from", "--to", "--during")),
             ("--from '' true", "--from: '' is no function's name"),

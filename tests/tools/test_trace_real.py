@@ -12,6 +12,9 @@ from base import CROSS, EXAMPLES, TOOLS, copy_tools, needs
 from trace_base import SPACE, TRACED, TraceTest, program_of, symbols_of, traced, within
 
 
+ARRAYS = "first_array", "second_array", "third_array"  # those of own_arrays.c
+
+
 def places(kind, name, count, size=4):
     """The accesses of one kind to the things of an array, one by one."""
     return [(kind, name, size * at) for at in range(count)]
@@ -52,13 +55,13 @@ class Both:
         self.assertEqual({label for label, _ in only_fetches}, {"2"})
         self.assertEqual([at for _, at in only_fetches if within(main, at)], fetches)
 
-    def test_four_threads(self):
-        rows = [[], [], [], []]
-        for label, _, offset in self.of_data(traced("threads"), "rows"):
-            self.assertEqual(label, "1")
-            rows[offset // 80000].append(offset % 80000 // 4)
-        for row in rows:
-            self.assertEqual(row, list(range(20000)))
+    def test_threads(self):
+        """Each reads and writes an array of its own, round after round."""
+        program = program_of(TRACED / "own_arrays.c", "-static", "-DROUNDS=20")
+        found = self.of_data(program, *ARRAYS)
+        for name in ARRAYS:
+            turn = [(label, name, 4 * at) for at in range(1000) for label in "01"]
+            self.same([reference for reference in found if reference[1] == name], turn * 20)
 
     def test_writes_in_their_order(self):
         """Of threads that take turns, and of one that closes all that it does not know."""
@@ -195,9 +198,10 @@ class ByQemu(Both, TraceTest):
         self.assertEqual(self.own_data(lines, program, "numbers"), places("1", "numbers", 70000, 1))
 
     def test_atomic_instructions(self):
-        added = [label for label, _, _ in self.of_data(traced("threads"), "sum")]
-        # main reads it once more
-        self.assertEqual((added.count("0"), added.count("1")), (80001, 80000))
+        program = program_of(TRACED / "counters.c", "-static", "-DONE")
+        added = [label for label, _, _ in self.of_data(program, "counters")]
+        # main reads it once more, and three others
+        self.assertEqual((added.count("0"), added.count("1")), (80004, 80000))
 
     @needs(*CROSS)
     def test_another_machine(self):

@@ -6,12 +6,11 @@ import os
 import re
 
 import base
-from base import TOOLS
+from base import OVER_A_TRACE, TOOLS
 from lib import tool
 
 LONG = "9" * 5000
-SPACE = "--bsize 16 --sets 1-4 --assoc 1-2 --size 64"
-CACHE = "-l1-dsize 128 -l1-dbsize 16 -l1-dassoc 2"
+SPACE, CACHE = " ".join(base.SPACE), " ".join(base.CACHE)
 # of each tool lines of words, of which N is a number; t.din is a trace, t.csv a table
 NUMBERS = {
     "any-index": tuple(f"t.din --bsize {words}" for words in (
@@ -45,18 +44,12 @@ NUMBERS = {
     "trace": ("--skip N -o out true", "--count N -o out true"),
     "warm": (f"N t.din {SPACE}", f"9 t.din {SPACE.replace('64', 'N')}"),
 }
-# the same where TRACE is a file that is not there, or is no trace
+# the same where INPUT is a file that is not there, or is no trace
 NAMES = {
-    "any-index": "TRACE --bsize 16 --sets 3 --assoc 1", "best": "TRACE",
-    "by-line": f"TRACE {CACHE}", "by-page": f"TRACE {CACHE}",
-    "cluster/submit": f"run 2 TRACE {SPACE}", "din-table": f"2 TRACE {CACHE}",
-    "lab/grade": "TRACE", "lab/grade-class": "TRACE", "lab/lab-transpose": "TRACE",
-    "lab/replay": "-s 1 -E 2 -b 4 -t TRACE", "optimal": f"TRACE {SPACE}",
-    "over-time": f"TRACE {CACHE} --each 9",
-    "plot": "TRACE t.svg", "prefetch": f"TRACE {CACHE}", "profile": f"{CACHE} ./TRACE",
-    "second-level": f"TRACE {CACHE}", "sweep-parallel": f"2 TRACE {SPACE}",
-    "three-c": f"TRACE {SPACE}", "to-din": "lackey TRACE", "trace": "-o out ./TRACE",
-    "warm": f"9 TRACE {SPACE}",
+    **{tool: " ".join(words) for tool, words in OVER_A_TRACE.items()}, "best": "INPUT",
+    "cluster/submit": f"run 2 INPUT {SPACE}", "lab/grade": "INPUT", "lab/grade-class": "INPUT",
+    "lab/lab-transpose": "INPUT", "lab/replay": "-s 1 -E 2 -b 4 -t INPUT", "plot": "INPUT t.svg",
+    "profile": f"{CACHE} ./INPUT", "to-din": "lackey INPUT", "trace": "-o out ./INPUT",
 }
 WILD = b"a\x1b[31m", b"a\xc2\x9b2J", b"a\x7f", b"a\nb", b"a\xff", b"'a'", b"\xc3\xa9"
 STEERS = re.compile("[\0-\x09\x0b-\x1f\x7f-\x9f]")  # but the end of a line
@@ -105,7 +98,7 @@ class Unexpected(base.ToolTest):
             shown = tool.visible(wild), tool.visible(wild).replace("\\n", "\\x0a")
             for name, line in NAMES.items():
                 with self.subTest(tool=name, file=wild):
-                    lines, ran = self.lines_of(name, line.replace("TRACE", wild).split(" "))
+                    lines, ran = self.lines_of(name, line.replace("INPUT", wild).split(" "))
                     self.assertTrue(ran.returncode)
                     self.assertTrue(any(one in line for line in lines for one in shown), lines)
         for wild in map(os.fsdecode, WILD):
@@ -114,7 +107,7 @@ class Unexpected(base.ToolTest):
             for name, line in NAMES.items():
                 for file in wild, f"{wild}.gz":
                     with self.subTest(tool=name, file=file):
-                        self.lines_of(name, line.replace("TRACE", file).split(" "))
+                        self.lines_of(name, line.replace("INPUT", file).split(" "))
 
 
 class Large(base.ToolTest):

@@ -291,27 +291,21 @@ class Others(Wrong):
         self.assertRegex(text, "(?m)^    N = 0: .*'signal 9'")
 
     def test_limits(self):
-        """Each kind of limit is found: of tables, times, memory and calls."""
-        parts = "--parts", "tables,times,ratios,bytes_asked,memory,calls"
-        bad = self.named("limits", ["BYTE", "GREEDY", "PIECES", "SLOW"], "--tries", 1, *parts)[1]
-        for name in (
-            "441 pairs of block size and set count", "65536 associativities",
-            "100,000 verbose lines, and none", "plain lines, and lines with every check",
-            "a sweep of eight block sizes and 2^20 sets", "din with 2^20 sets",
-            "a sweep of eight block sizes and 2^20 sets, in all", "din with 2^20 sets, in all",
-            "csim with 2^20 sets, in all",
-            "csim with 2^20 sets", "a table of 65,536 rows", "20,000 references of log",
-            "csim with S = 1048576 and A = 1, replacement l",
+        """Each kind of limit is found: of tables, times, memory and calls; and what is taken
+        late."""
+        for mistakes, parts, *names in (
+            ("BYTE GREEDY PIECES SLOW", "tables,times,ratios,bytes_asked,memory,calls",
+             "441 pairs of block size and set count", "65536 associativities",
+             "100,000 verbose lines, and none", "plain lines, and lines with every check",
+             "a sweep of eight block sizes and 2^20 sets", "din with 2^20 sets",
+             "a sweep of eight block sizes and 2^20 sets, in all", "din with 2^20 sets, in all",
+             "csim with 2^20 sets, in all", "csim with 2^20 sets", "a table of 65,536 rows",
+             "20,000 references of log", "csim with S = 1048576 and A = 1, replacement l"),
+            ("KEEPS PIECES", "bytes_asked,written", "bytes that din asks for after its first read",
+             "a sweep with S = 8192 and A = 255: two blocks in each set"),
         ):
-            self.assertIn(name, bad)
-
-    def test_limits_of_what_is_taken_late(self):
-        bad = self.named("limits", ["KEEPS", "PIECES"], "--parts", "bytes_asked,written")[1]
-        for name in (
-            "bytes that din asks for after its first read",
-            "a sweep with S = 8192 and A = 255: two blocks in each set",
-        ):
-            self.assertIn(name, bad)
+            bad = self.named("limits", mistakes.split(), "--tries", 1, "--parts", parts)[1]
+            self.assertEqual({*names} - {*bad}, set())
 
 
 class Judging(unittest.TestCase):
@@ -328,6 +322,10 @@ class Judging(unittest.TestCase):
         self.assertEqual(total.passed + total.failed, 1)
         return not total.failed
 
+    def judge_each(self, right, wrong, judged):
+        """Which numbers are found right, of these that are and of those that are not."""
+        self.assertEqual([it for it in (*right, *wrong) if judged(it)], [*right])
+
     def of_runs(self, here, there):
         """Measures one run so, and the other so."""
         return lambda arguments, *_: here if arguments == "run" else there
@@ -335,36 +333,25 @@ class Judging(unittest.TestCase):
     def test_bytes_that_are_asked_for(self):
         """As many as the manual tells, neither more nor less, or at most, and not much less."""
         run, small = ("run", 1000), ("small", 10)
-        for seen, is_right in (1000, True), (1000.5, True), (1001, False), (999, False), (
-                math.nan, False):
-            got = self.judged("takes", run, small, {}, beside_words=self.of_runs(seen, 10))
-            self.assertEqual(got, is_right, seen)
-        for seen, is_right in (1000, True), (900, True), (1001, False), (899, False):
-            got = self.judged("takes", run, small, {}, 0.5, 0.9,
-                              beside_words=self.of_runs(seen, 10))
-            self.assertEqual(got, is_right, seen)
+        for few, right, wrong in (((), (1000, 1000.5), (1001, 999, math.nan)),
+                                  ((0.5, 0.9), (1000, 900), (1001, 899))):
+            self.judge_each(right, wrong, lambda seen, few=few: self.judged(
+                "takes", run, small, {}, *few, beside_words=self.of_runs(seen, 10)))
 
     def test_memory(self):
         slack = base.script("limits").SLACK
-        for more, is_right in (0, True), (slack, True), (-slack, True), (slack + 1, False), (
-                -slack - 1, False), (math.nan, False):
-            got = self.judged("memory", "run", "small", 5000, {},
-                              peak=self.of_runs(9000 + more, 4000))
-            self.assertEqual(got, is_right, more)
         most = base.script("limits").ANY_RUN
-        for more, is_right in (0, True), (1, False), (math.nan, False):
-            got = self.judged("memory_in_all", "run", 5000, {}, peak=5000 + most + more)
-            self.assertEqual(got, is_right, more)
+        self.judge_each((0, slack, -slack), (slack + 1, -slack - 1, math.nan), lambda more: (
+            self.judged("memory", "run", "small", 5000, {}, peak=self.of_runs(9000 + more, 4000))))
+        self.judge_each((0,), (1, math.nan), lambda more: self.judged(
+            "memory_in_all", "run", 5000, {}, peak=5000 + most + more))
 
     def test_times(self):
-        for here, is_right in (2.0, True), (2.1, True), (2.2, False):
-            seconds = self.of_runs(here, 0.1)
-            got = self.judged("no_slower", ("run", b""), ("other", b""), seconds=seconds)
-            self.assertEqual(got, is_right, here)
-        for here, is_right in (2.0, True), (2.1, False):
-            seconds = self.of_runs(here, 1.0)
-            got = self.judged("in_ratio", ("run", b""), ("other", b""), 2, seconds=seconds)
-            self.assertEqual(got, is_right, here)
+        both = ("run", b""), ("other", b"")
+        self.judge_each((2.0, 2.1), (2.2,), lambda here: self.judged(
+            "no_slower", *both, seconds=self.of_runs(here, 0.1)))
+        self.judge_each((2.0,), (2.1,), lambda here: self.judged(
+            "in_ratio", *both, 2, seconds=self.of_runs(here, 1.0)))
 
     def test_a_refusal_that_changes_nothing(self):
         """It is right only where a library looks for a similar word, and only of a single call."""

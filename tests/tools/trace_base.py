@@ -4,6 +4,7 @@ import atexit
 import functools
 import os
 import pathlib
+import platform
 import re
 import shutil
 import subprocess
@@ -12,6 +13,9 @@ import tempfile
 from base import TOOLS, ToolTest, all_processes, comes
 
 TRACED = pathlib.Path(__file__).parent / "traced"
+QEMU = f"qemu-{platform.machine()}"
+# what its stand-in, traced/fake_qemu.c, tells of itself
+FAKE = {"FAKE_VERSION": "7.2.22", "FAKE_HELP": "-plugin ..", "FAKE_START": "0"}
 LINE = re.compile(r"[012] (0|[1-9a-f][0-9a-f]{0,15})\n")
 SPACE = ("--bsize", "16-64", "--sets", "1-16", "--assoc", "1-4", "--size", "64-4k")
 

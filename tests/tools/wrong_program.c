@@ -18,7 +18,6 @@
    KEEPS      each of the first hundred reads asks for a megabyte of memory, and keeps it
    GREEDY     with 2^20 sets among its arguments the program takes four megabytes more than it needs
    PIECES     no read and no write moves more than 4,096 bytes
-   LATE       the program ends a hundred seconds after it is done
    CRASH      once it is done, a signal ends the program
    SLOW       the 300th read takes 0.3 s of the processor, and -v a second */
 #define _GNU_SOURCE
@@ -82,7 +81,6 @@ static void end(int status, void *unused) {
 }
 
 __attribute__((destructor)) static void delay(void) {
-    if (HAS(LATE)) sleep(100);
     if (HAS(CRASH)) raise(SIGKILL);
 }
 

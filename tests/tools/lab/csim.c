@@ -13,6 +13,7 @@ typedef struct { line_t *lines; int filled; int flag; } set_t;
 static int s, E, b, S;
 static int hits, misses, evictions, filled;
 static long now;
+static char letter;
 static set_t *sets;
 
 static void make(void)
@@ -75,6 +76,7 @@ static void touch(address_t address)
 static void go(char kind, address_t address, int size)
 {
     (void)size;
+    letter = kind;
     touch(address);
     if (kind == 'M')
         touch(address);

@@ -3,7 +3,9 @@
 #include <stddef.h>
 
 #define SIZE 1000
+#ifndef ROUNDS
 #define ROUNDS 120
+#endif
 
 static pthread_barrier_t start;
 
