@@ -1,6 +1,7 @@
 -- How far `csim` has come, and what stands written then.
-use Rattle.std.proofs.Common.{◌≡◌, ℕ, List, [], ◌∷◌, ◌++◌, Bool, true, false, cond}
-use Rattle.std.proofs.Common.{refl, sym, ap, ◌∙◌, subst, append-nil, append_assoc}
+use Rattle.std.proofs.Common.{◌≡◌, ◌==◌, ℕ, List, [], ◌∷◌, ◌++◌, Bool, true, false, not}
+use Rattle.std.proofs.Common.{cond, refl, sym, ap, ◌∙◌, subst, append-nil, append_assoc}
+use Rattle.std.proofs.lemmas.Bool.{eq-eqb, ne_eqb}
 use Rattle.std.specs.List.{flat_map}
 use Rattle.trace_core.specs.declared.events.Entry.{Entry}
 use Rattle.trace_core.specs.declared.events.Entry.TheVariants as entry
@@ -21,6 +22,16 @@ use Rattle.cache_core.specs.Windows.{counts}
 use Rattle.commands.specs.CsimText.{csim_task, csim_lines, lines_after, line_of, lookups_of}
 use Rattle.commands.specs.CsimText.{summary, item_line, letter_of}
 use Rattle.commands.proofs.DataSteps.{only_fetch}
+
+-- a `bool` for which a function is compiled: proofs have it as a number
+abbrev pub is_verbose : ℕ → Bool
+is_verbose n = not (n == 0)
+
+pub is_verbose-if : (n : ℕ) → (n ≡ 0 → ⊥) → is_verbose n ≡ true
+is_verbose-if n set = ap not (ne_eqb n 0 set)
+
+pub is_verbose-unless : (n : ℕ) → n ≡ 0 → is_verbose n ≡ false
+is_verbose-unless n unset = ap not (eq-eqb n 0 unset)
 
 -- the data references of entries
 abbrev pub data_of : List Entry → List Event

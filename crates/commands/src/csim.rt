@@ -36,12 +36,33 @@ pub fn csim<S: Source, K: Sink>(
     ensures { Performs (csim_task geometry verbose max_lines) result
         S.view source.old source.new K.view sink.old sink.new }
 {
+    if verbose {
+        run::<S, K, true>(alloc, geometry, max_lines, source, sink)
+    } else {
+        run::<S, K, false>(alloc, geometry, max_lines, source, sink)
+    }
+}
+
+/// Runs a trace as `csim` does. It is compiled for each `VERBOSE`, so that a loop that writes no
+/// lines keeps nothing for them.
+fn run<S: Source, K: Sink, const VERBOSE: bool>(
+    alloc: Global,
+    geometry: Geometry,
+    max_lines: u64,
+    source: &mut S,
+    sink: &mut K,
+) -> Result<(), RunFault>
+    requires some { 1 ≤ max_lines }
+    requires most { max_lines ≤ MAX_LINES }
+    ensures { Performs (csim_task geometry VERBOSE max_lines) result
+        S.view source.old source.new K.view sink.old sink.new }
+{
     let mut lines = Lines::new(alloc, Format::Lackey, max_lines)?;
     let mut simulation = Simulation::new(alloc, geometry)?;
     let mut text = Text::new();
     while let Some((_, entry)) = lines.next(source)? {
         if let Some(lookups) = step(&mut simulation, entry) {
-            if verbose {
+            if VERBOSE {
                 write_line(&mut text, entry, lookups, sink)?;
             }
         }

@@ -5,6 +5,7 @@ use Rattle.std.proofs.Common.{length-append, subst}
 use Rattle.std.proofs.Math.Seq.{get_or-append_seam}
 use Rattle.std.proofs.lemmas.Bool.{eq-eqb}
 use Rattle.cache_core.proofs.Lists.{cases}
+use Rattle.trace_core.proofs.EntryEvents.{most_events}
 use Rattle.trace_core.specs.Events.{at, events_of, is_kept}
 use Rattle.trace_core.specs.declared.events.Access.{Access}
 use Rattle.trace_core.specs.declared.events.Access.TheVariants as access
@@ -132,15 +133,4 @@ item-left FetchOnly Modify a xs none = sym (all_after-nil xs)
 
 -- a kind keeps at most two references of an item
 pub kept-most : (kind : Kind) (op : Op) → kept_count kind op ≤ 2
-kept-most All Fetch = omega arith
-kept-most All Load = omega arith
-kept-most All Store = omega arith
-kept-most All Modify = omega arith
-kept-most DataOnly Fetch = omega arith
-kept-most DataOnly Load = omega arith
-kept-most DataOnly Store = omega arith
-kept-most DataOnly Modify = omega arith
-kept-most FetchOnly Fetch = omega arith
-kept-most FetchOnly Load = omega arith
-kept-most FetchOnly Store = omega arith
-kept-most FetchOnly Modify = omega arith
+kept-most kind op = most_events kind (entry.Item (record { op = op; addr = 0; size = 0 }))

@@ -82,7 +82,10 @@ impl Buffer {
 
     /// Drops all bytes.
     pub(crate) fn clear(&mut self)
-        ensures { self.new.waiting ≡ [] }
+        ensures { self.new ≡ record {
+          start = self.old.start + length self.old.waiting;
+          waiting = [];
+        } }
     {
         self.start = self.end;
     }
@@ -94,6 +97,7 @@ impl Buffer {
             × (self.new.waiting ≡ self.old.waiting ++ more)
             × Consumes (S.view source.old).remaining (S.view source.new).remaining more) }
         ensures end { IfOk result (λ n. n ≡ 0 → IsAtEnd (S.view source.new).remaining) }
+        ensures front { self.new.start ≡ 0 }
         ensures fits { length self.new.waiting ≤ CAPACITY }
         ensures fault { OnErr result ((self.new.waiting ≡ self.old.waiting)
             × StaysOrUnreported (S.view source.old).remaining (S.view source.new).remaining) }

@@ -2,8 +2,8 @@
 use Rattle.std.proofs.Common.{◌-◌}
 use Rattle.trace_core.specs.declared.line.Format.TheVariants.{Lackey}
 use Rattle.trace_core.proofs.WholeTraces.{Reads}
-use Rattle.commands.proofs.CsimLemmas.{Simulated}
-use Rattle.commands.proofs.csim.csim.Given as goal
+use Rattle.commands.proofs.CsimLemmas.{Simulated, is_verbose}
+use Rattle.commands.proofs.csim.run.Given as goal
 
 -- what was read, simulated and written
 abbrev pub invariant-loop-simulation : goal.invariant-loop-simulation
@@ -11,7 +11,8 @@ invariant-loop-simulation g l =
     let source = g.S.Source.view in
     let sink = g.K.Sink.view in
     Reads Lackey l.fn.max_lines (source l.initial.source) (source l.source) l.lines
-    (Simulated l.fn.geometry l.verbose (sink l.initial.sink) (sink l.sink) l.simulation)
+    (Simulated l.fn.geometry (is_verbose g.row.VERBOSE) (sink l.initial.sink) (sink l.sink)
+    l.simulation)
 
 abbrev pub decreases-loop-simulation : goal.decreases-loop-simulation
 decreases-loop-simulation g l = l.lines.limit - l.lines.lines

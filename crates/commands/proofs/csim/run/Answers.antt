@@ -19,10 +19,14 @@ use Rattle.commands.specs.CsimText.{csim_task, csim_lines, csim_text, line_of}
 use Rattle.commands.specs.internal.CsimPass.{lookups_of_pair, lookups_found}
 use Rattle.commands.specs.CsimText.{summary}
 use Rattle.commands.proofs.CsimLemmas.{along, data_of, lines-more, simulated-more, simulated-none}
-use Rattle.commands.proofs.CsimLemmas.{no_line}
-use Rattle.commands.proofs.csim.csim.Given as given
-use Rattle.commands.proofs.csim.csim.Goals as goal
-use Rattle.commands.proofs.csim.csim.Goals.{After-as_slice}
+use Rattle.commands.proofs.CsimLemmas.{is_verbose, is_verbose-if, is_verbose-unless, no_line}
+use Rattle.commands.proofs.csim.run.Given as given
+use Rattle.commands.proofs.csim.run.Goals as goal
+use Rattle.commands.proofs.csim.run.Goals.{After-as_slice}
+
+-- whether the lines are written
+abbrev shows : given.Over → Bool
+shows g = is_verbose g.row.VERBOSE
 
 cond_same : (b : Bool) → cond {A = List ℕ} b [] [] ≡ []
 cond_same true = refl
@@ -30,7 +34,7 @@ cond_same false = refl
 
 pub loop-simulation-init : goal.loop-simulation-init
 loop-simulation-init g c =
-    reads-none _ c.in_ok-lines.ensures (simulated-none c.args.geometry c.args.verbose
+    reads-none _ c.in_ok-lines.ensures (simulated-none c.args.geometry (shows g)
     (g.K.Sink.view c.args.sink.now) _ c.in_ok-simulation.ensures)
 
 pub step-requires : goal.step-requires
@@ -58,14 +62,14 @@ loop-simulation-preserved-in-Continue-branch-5 g c =
     let line = line_of c.in-Some.entry lookups in
     let stands = c.step.ensures c.args.geometry (data_of es) so_far.holds.0 in
     reads-more so_far c.next.ensures.reached c.next.ensures.entry c.in_ok-entry.was c.in-Some.is
-    (simulated-more c.args.geometry c.args.verbose es c.in-Some.entry lookups _ _ so_far.holds
+    (simulated-more c.args.geometry (shows g) es c.in-Some.entry lookups _ _ so_far.holds
     (stands.0, sym (ap lookups_found c.in-Some-step.is) ∙ stands.1)
     (subst (λ v. Wrote (g.K.Sink.view c.loop-simulation.sink) (g.K.Sink.view c.write_line.new.sink)
     (cond v line []))
-    (sym c.if-verbose.true) c.in_ok-write_line.ensures))
+    (sym (is_verbose-if g.row.VERBOSE c.if-this-ne0.true)) c.in_ok-write_line.ensures))
 
-pub loop-simulation-preserved-else-verbose : goal.loop-simulation-preserved-else-verbose
-loop-simulation-preserved-else-verbose g c =
+pub loop-simulation-preserved-else-this-ne0 : goal.loop-simulation-preserved-else-this-ne0
+loop-simulation-preserved-else-this-ne0 g c =
     let so_far = c.loop-simulation.invariant in
     let es = entries_of so_far.read in
     let lookups = lookups_of_pair c.in-Some-step.lookups in
@@ -73,9 +77,10 @@ loop-simulation-preserved-else-verbose g c =
     let sink = g.K.Sink.view c.loop-simulation.sink in
     let stands = c.step.ensures c.args.geometry (data_of es) so_far.holds.0 in
     reads-more so_far c.next.ensures.reached c.next.ensures.entry c.in_ok-entry.was c.in-Some.is
-    (simulated-more c.args.geometry c.args.verbose es c.in-Some.entry lookups _ _ so_far.holds
+    (simulated-more c.args.geometry (shows g) es c.in-Some.entry lookups _ _ so_far.holds
     (stands.0, sym (ap lookups_found c.in-Some-step.is) ∙ stands.1)
-    (subst (λ v. Wrote sink sink (cond v line [])) (sym c.if-verbose.false) (Wrote-none sink)))
+    (subst (λ v. Wrote sink sink (cond v line []))
+    (sym (is_verbose-unless g.row.VERBOSE c.if-this-ne0.false)) (Wrote-none sink)))
 
 -- an entry without data references has no line
 pub loop-simulation-preserved : goal.loop-simulation-preserved
@@ -87,17 +92,17 @@ loop-simulation-preserved g c =
     let stands = c.step.ensures c.args.geometry (data_of es) so_far.holds.0 in
     let none = sym (ap lookups_found c.in_default-step.is) ∙ stands.1 in
     reads-more so_far c.next.ensures.reached c.next.ensures.entry c.in_ok-entry.was c.in-Some.is
-    (simulated-more c.args.geometry c.args.verbose es e [] _ _ so_far.holds (stands.0, none)
-    (subst (λ line. Wrote sink sink (cond c.args.verbose line []))
+    (simulated-more c.args.geometry (shows g) es e [] _ _ so_far.holds (stands.0, none)
+    (subst (λ line. Wrote sink sink (cond (shows g) line []))
     (sym (no_line c.args.geometry (data_of es) e none))
-    (subst (Wrote sink sink) (sym (cond_same c.args.verbose)) (Wrote-none sink))))
+    (subst (Wrote sink sink) (sym (cond_same (shows g))) (Wrote-none sink))))
 
 pub returns-in_err-entry : goal.returns-in_err-entry
 unfolding csim_task
 returns-in_err-entry g c =
     let so_far = c.loop-simulation.invariant in
     let run = reads-fault so_far c.next.ensures.reached c.in_err-entry.was in
-    let task = csim_task c.args.geometry c.args.verbose c.args.max_lines in
+    let task = csim_task c.args.geometry (shows g) c.args.max_lines in
     Performs-trace c.in_err-entry.field-0.0 (err_is c.from_residual-in_err-entry.ensures.1)
     (run-stopped {task = task} run so_far.holds.1 c.in_err-entry.field-0.0
     (rw c.in_err-entry.was at c.next.ensures.reports)) (λ late. absurd cc)
@@ -111,36 +116,37 @@ returns-in_err-write_line g c =
     let lookups = lookups_of_pair c.in-Some-step.lookups in
     let stands = c.step.ensures a.geometry (data_of es) so_far.holds.0 in
     Performs-write (err_is c.from_residual-in_err-write_line.ensures.1)
-    (run-broken {task = csim_task a.geometry a.verbose a.max_lines} refl
-    (along a.geometry a.verbose a.max_lines) so_far
+    (run-broken {task = csim_task a.geometry (shows g) a.max_lines} refl
+    (along a.geometry (shows g) a.max_lines) so_far
     c.next.ensures.reached c.next.ensures.reports c.in_ok-entry.was c.in-Some.is so_far.holds.1
-    (lines-more a.geometry a.verbose es c.in-Some.entry lookups
+    (lines-more a.geometry (shows g) es c.in-Some.entry lookups
     (sym (ap lookups_found c.in-Some-step.is) ∙ stands.1))
     (subst (λ v. WrotePart (g.K.Sink.view c.loop-simulation.sink)
     (g.K.Sink.view c.write_line.new.sink)
-    (cond v (line_of c.in-Some.entry lookups) [])) (sym c.if-verbose.true)
+    (cond v (line_of c.in-Some.entry lookups) []))
+    (sym (is_verbose-if g.row.VERBOSE c.if-this-ne0.true))
     c.in_err-write_line.ensures))
 
 -- the lines and the summary are what has to be written
 output : (g : given.Over) (c : After-as_slice g) (text : List ℕ)
     → (let es : List Entry = entries_of c.loop-simulation.invariant.read in es ≡ entries Lackey text
-    → csim_text c.args.geometry c.args.verbose text ≡ csim_lines c.args.geometry c.args.verbose
+    → csim_text c.args.geometry (shows g) text ≡ csim_lines c.args.geometry (shows g)
     es ++ c.as_slice.result.now)
 output g c text all =
     let es = entries_of c.loop-simulation.invariant.read in
     let last = c.as_slice.ensures ∙ c.set_summary.ensures
     ∙ ap summary (c.counts.ensures.trace c.args.geometry
     (data_of es) c.loop-simulation.invariant.holds.0) in
-    ap (λ xs. csim_lines c.args.geometry c.args.verbose xs ++
+    ap (λ xs. csim_lines c.args.geometry (shows g) xs ++
     summary (counts c.args.geometry (data_of xs))) (sym all)
-    ∙ ap (λ l. csim_lines c.args.geometry c.args.verbose es ++ l) (sym last)
+    ∙ ap (λ l. csim_lines c.args.geometry (shows g) es ++ l) (sym last)
 
 pub returns-in_err-write_last : goal.returns-in_err-write_last
 unfolding csim_task
 returns-in_err-write_last g c =
     let so_far = c.loop-simulation.invariant in
     let ended = c.in_ok-entry.was ∙ ap Ok c.in_default.is in
-    let task = csim_task c.args.geometry c.args.verbose c.args.max_lines in
+    let task = csim_task c.args.geometry (shows g) c.args.max_lines in
     Performs-write (err_is c.from_residual-in_err-write_last.ensures.1)
     (run-unfinished {task = task} (reads-end so_far c.next.ensures.reached c.in_ok-entry.was
     c.in_default.is) so_far.holds.1 _
@@ -153,7 +159,7 @@ unfolding csim_task
 returns g c =
     let so_far = c.loop-simulation.invariant in
     let ended = c.in_ok-entry.was ∙ ap Ok c.in_default.is in
-    let task = csim_task c.args.geometry c.args.verbose c.args.max_lines in
+    let task = csim_task c.args.geometry (shows g) c.args.max_lines in
     Performs-ok tt refl
     (run-finished {task = task} (reads-end so_far c.next.ensures.reached c.in_ok-entry.was
     c.in_default.is) so_far.holds.1 _
