@@ -316,3 +316,12 @@ class Others(base.ToolTest):
         told = re.search(r"With seed (\d+) the first are ((?:[0-9a-f]{8}(?:, )?)+)", text)
         numbers = itertools.islice(base.model.random_words(int(told[1])), 4)
         self.assertEqual(told[2].split(", "), [f"{number:08x}" for number in numbers])
+
+    def test_the_default_page(self):
+        """Of by-page, as its help tells it."""
+        text = self.good(self.run_tool("by-page", "--help"))
+        told = re.search(r"(\w+) without this option", text)[1]
+        arguments = base.EXAMPLES / "sort.din", *base.cache(256, 16, "-l1-dassoc", 2)
+        named = self.good(self.run_tool("by-page", *arguments, "--page", told))
+        self.assertEqual(self.good(self.run_tool("by-page", *arguments)), named)
+        self.assertNotEqual(named, self.good(self.run_tool("by-page", *arguments, "--page", "8k")))

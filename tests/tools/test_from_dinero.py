@@ -15,7 +15,6 @@ TRIGGER = [line.endswith(" 1fff000558\n") for line in LINES].index(True)
 CACHES = "-l1-isize 256 -l1-ibsize 16 -l1-dsize 256 -l1-dbsize 16 -l1-dassoc 2".split()
 FIRST = "1 2 3 4 5".split()
 OF_A_CACHE = "size bsize sbsize assoc repl fetch pfdist pfabort walloc wback ccc".split()
-# these are taken: random_options of log_base.py has each of them
 HERE = {f"-{cache}{name}" for cache in ("l1-i", "l1-d", "l1-u", "l2-u")
         for name in ("size", "bsize", "assoc", "repl", "walloc", "wback")}
 # all of dineroIV -help, of caches of each level and kind, and the others except -help
@@ -121,6 +120,17 @@ class FromDinero(base.ToolTest):
         side = "-l1-usize 1k -l1-ubsize 32".split()
         fetches = self.sent("-l1-isize 256 -l1-ibsize 16".split())
         self.assertEqual(self.run_line("-l2-isize"), self.report(fetches, side))
+
+    def test_what_is_here_is_taken(self):
+        values = {"repl": "l", "walloc": "a", "wback": "a", "size": "64", "bsize": "16",
+                  "assoc": "1"}
+        for option in sorted(HERE):
+            name = option[5:]
+            words = [word for each in {"size": 0, "bsize": 0, name: 0}
+                     for word in (f"{option[:5]}{each}", values[each])]
+            first = [] if "-l1-" in option else "-l1-usize 16 -l1-ubsize 16".split()
+            ran = self.run_command(base.PROGRAM, "din", *first, *words, "-informat", "d")
+            self.assertIn("memory", self.good(ran), option)
 
     def test_refused(self):
         """The first is named whole, with no tip, and the last line says where to look."""
