@@ -13,7 +13,7 @@ use crate::text::write_last;
 use cache_core::{Geometry, Lookup, Simulation};
 use std::alloc::Global;
 use trace_core::text::Text;
-use trace_core::{Entry, Format, Kind, Lines, MAX_LINES, RunFault, Sink, Source, refs_of};
+use trace_core::{Ahead, Entry, Format, Kind, Lines, MAX_LINES, RunFault, Sink, Source, refs_of};
 
 /// Runs a lackey trace through an LRU cache of this geometry, which allocates on write misses. With
 /// `verbose` the line of each data item is written as soon as its references were made, and the
@@ -60,7 +60,8 @@ fn run<S: Source, K: Sink, const VERBOSE: bool>(
     let mut lines = Lines::new(alloc, Format::Lackey, max_lines)?;
     let mut simulation = Simulation::new(alloc, geometry)?;
     let mut text = Text::new();
-    while let Some((_, entry)) = lines.next(source)? {
+    let mut ahead = Ahead::none();
+    while let Some((_, entry)) = lines.next_ahead(&mut ahead, source)? {
         if let Some(lookups) = step(&mut simulation, entry) {
             if VERBOSE {
                 write_line(&mut text, entry, lookups, sink)?;

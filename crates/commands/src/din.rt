@@ -15,8 +15,8 @@ use cache_core::{Plan, Stats, System};
 use std::alloc::Global;
 use trace_core::text::Text;
 use trace_core::{
-    Entry, Format, Kind, Lines, MAX_LINES, ReaderState, Ref, RunFault, Sink, Source, TraceFault,
-    refs_of,
+    Ahead, Entry, Format, Kind, Lines, MAX_LINES, ReaderState, Ref, RunFault, Sink, Source,
+    TraceFault, refs_of,
 };
 
 /// Runs a trace through the caches of a plan, and writes the report after its end; then the sink is
@@ -64,7 +64,8 @@ fn stats_of_trace<S: Source>(
     ensures reports { MatchResult result (λ _. lines.new.state ≡ ReaderState.Ended)
         (λ fault. lines.new.state ≡ ReaderState.Failed fault) }
 {
-    while let Some((_, entry)) = lines.next(source)? {
+    let mut ahead = Ahead::none();
+    while let Some((_, entry)) = lines.next_ahead(&mut ahead, source)? {
         step(&mut system, entry);
     }
     Ok(system.stats())

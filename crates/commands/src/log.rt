@@ -15,7 +15,7 @@ use crate::text::write_last;
 use cache_core::{MAX_ARRIVALS, Observer, Plan, System};
 use std::alloc::Global;
 use trace_core::{
-    Entry, Format, Kind, Lines, MAX_LINES, Ref, RunFault, Sink, Source, refs_of, write_all,
+    Ahead, Entry, Format, Kind, Lines, MAX_LINES, Ref, RunFault, Sink, Source, refs_of, write_all,
 };
 
 /// Runs a trace through the caches of a plan, and writes the lines of the arrivals of each entry as
@@ -43,7 +43,8 @@ pub fn log<S: Source, K: Sink>(
     let mut lines = Lines::new(alloc, format, max_lines)?;
     let mut system = System::new(alloc, plan, seed)?;
     let mut log = LogText::new();
-    while let Some((_, entry)) = lines.next(source)? {
+    let mut ahead = Ahead::none();
+    while let Some((_, entry)) = lines.next_ahead(&mut ahead, source)? {
         step(&mut system, entry, &mut log);
         write_all(sink, log.text.as_slice())?;
     }

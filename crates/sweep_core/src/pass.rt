@@ -17,7 +17,7 @@ use crate::batch::Batch;
 use crate::feeding::{catch_up, finest_size};
 use crate::profiles::PairProfile;
 use profile_core::MAX_REFERENCES;
-use trace_core::{Entry, Item, Kind, Lines, Op, Source, TraceFault};
+use trace_core::{Ahead, Entry, Item, Kind, Lines, Op, Source, TraceFault};
 
 /// Reads a trace up to its end or its first fault, and feeds each entry to the profiles: its
 /// references of a kind, or a flush. At most one batch of references is kept in memory. A profile
@@ -66,7 +66,8 @@ fn read_entries<S: Source>(
 {
     let counts = kept_counts(kind);
     let size = finest_size(profiles);
-    while let Some((_, entry)) = lines.next(source)? {
+    let mut ahead = Ahead::none();
+    while let Some((_, entry)) = lines.next_ahead(&mut ahead, source)? {
         match entry {
             Entry::Item(item) => {
                 feed_item(profiles, batch, size, item, kept_count(&counts, item.op));

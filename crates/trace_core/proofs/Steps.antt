@@ -17,7 +17,6 @@ use Rattle.trace_core.specs.declared.events.Item.{Item}
 use Rattle.trace_core.specs.declared.line.Format.{Format}
 use Rattle.trace_core.specs.declared.line.LineFault.{LineFault}
 use Rattle.trace_core.specs.declared.fault.TraceFault.{TraceFault}
-use Rattle.trace_core.specs.declared.scan.Scan.{Scan}
 use Rattle.trace_core.specs.declared.fault.TraceFault.TheVariants as fault
 use Rattle.trace_core.specs.declared.state.ReaderState.{ReaderState}
 use Rattle.trace_core.specs.declared.state.ReaderState.TheVariants as state
@@ -80,24 +79,24 @@ stays-open state.Ended u stopped some =
 stays-open (state.Failed x) u stopped some =
     absurd (omega (arith, some, ap length (stopped (λ same. cc))))
 
--- an open scan
-module _ (reported : Option (List ℕ)) (scan : Scan) (opened : scan.state ≡ state.Open) where
+-- an open reader
+module _ (reported : Option (List ℕ)) (p : Progress) (opened : p.state ≡ state.Open) where
   abbrev f : Format
-  f = scan.format
+  f = p.format
 
   abbrev limit : ℕ
-  limit = scan.limit
+  limit = p.limit
 
   -- the lines that were read
   abbrev n : ℕ
-  n = scan.lines
+  n = p.lines
 
   -- the bytes that were not
   abbrev u : List ℕ
-  u = scan.buffer.waiting
+  u = p.unread
 
   abbrev s : ReaderState
-  s = scan.state
+  s = p.state
 
   from_open : (q : Progress) (d : List ℕ) (xs : List (ℕ × Entry)) →
       Advances reported (at f limit n u state.Open) q d xs

@@ -49,7 +49,8 @@ Skips-start v s = record {
 module _ {a b : SourceView} (now : SourceView) {old mid : Scan} (new : Scan)
     (skips : Skips a b old mid) (opened : mid.state ≡ state.Open) where
   -- what a step of an open scan gives after the turns before it
-  pub Skips-advances : (xs : Option (ℕ × Entry)) → Reads b now mid new xs → Reads a now old new xs
+  pub Skips-advances : (xs : Option (ℕ × Entry)) → Reads b now (progress mid) (progress new) xs →
+      Reads a now (progress old) (progress new) xs
   Skips-advances xs step =
       let consumes : Delivers a.remaining b.remaining false skips.bytes =
       subst (λ s. Delivers a.remaining b.remaining (device_failed s) skips.bytes) opened
@@ -71,7 +72,8 @@ module _ {a b : SourceView} (now : SourceView) {old mid : Scan} (new : Scan)
       counted ∙ ap (failures_after (device_failed new.state)) same
 
   -- one turn more with no entry
-  pub Skips-more : Reads b now mid new None → StepsScan b now mid new None → Skips a now old new
+  pub Skips-more : Reads b now (progress mid) (progress new) None →
+      StepsScan b now mid new None → Skips a now old new
   Skips-more reads steps =
       let next = Skips-advances None reads in record {
         bytes = next.0;

@@ -1,9 +1,10 @@
 -- A loop over the entries of a trace: what was read, and what its run has done at each of its ends.
-use Rattle.std.proofs.Common.{◌≡◌, ℕ, ◌<◌, ◌≤◌, List, [], ◌∷◌, ◌++◌, Option, None, Some}
+use Rattle.std.proofs.Common.{◌≡◌, ℕ, ◌+◌, ◌<◌, ◌≤◌, List, [], ◌∷◌, ◌++◌, Option, None, Some}
 use Rattle.std.proofs.Common.{Result, Ok, Err, true, sym, ap, ◌∙◌, subst, arith, append-nil}
 use Rattle.std.proofs.Common.{length, length-append}
 use Rattle.std.proofs.lemmas.List.{map_push}
 use Rattle.std.specs.Prelude.{IfOk, IfSome}
+use Rattle.trace_core.specs.declared.ahead.Ahead.{Ahead}
 use Rattle.trace_core.specs.declared.events.Entry.{Entry}
 use Rattle.trace_core.specs.declared.line.Format.{Format}
 use Rattle.trace_core.specs.declared.fault.TraceFault.{TraceFault}
@@ -12,6 +13,7 @@ use Rattle.trace_core.specs.Device.{SourceView, SinkView, Wrote, WrotePart, Wrot
 use Rattle.trace_core.specs.Device.{WroteLastPart}
 use Rattle.trace_core.specs.Reading.{entries}
 use Rattle.trace_core.specs.Reader.{Progress, Reached, Reports, entries_returned, new_progress}
+use Rattle.trace_core.specs.Reader.{IsAhead, progress_ahead, CatchesUp}
 use Rattle.trace_core.specs.Task.{Task, Finished, Stopped, WriteFailed, HasRead, entries_of}
 use Rattle.trace_core.proofs.Runs.{Reached-start, Reached-from}
 use Rattle.trace_core.proofs.Tasks.{ReadWhole, WritesAlong}
@@ -90,6 +92,42 @@ module _ {format : Format} {limit : ℕ} {start mid now : SourceView} {p q : Pro
     reached = rw (was, append-nil old.read) at (reads_on _ _ _ old.read old.reached);
     holds = old.holds;
   }
+
+-- a loop that is not ahead
+pub not-ahead : (p : Progress) (ahead : Ahead) → ahead ≡ record { lines = 0; bytes = 0 } →
+    progress_ahead p ahead ≡ p
+not-ahead p ahead is =
+    let lines : 0 + p.lines ≡ p.lines = omega arith in
+    ap (progress_ahead p) is ∙ (λ i. record p { lines = lines i })
+
+pub begins-ahead : (p : Progress) (ahead : Ahead) → ahead ≡ record { lines = 0; bytes = 0 } →
+    IsAhead p ahead
+begins-ahead p ahead is = rw is (record {
+  lines = omega arith;
+  bytes = omega arith;
+  limit = omega arith;
+})
+
+-- a loop that comes to the end, or to a fault, has told its reader what it read
+pub caught-end : {format : Format} {limit : ℕ} {start now : SourceView} (p : Progress)
+    (ahead : Ahead) {Holds : List Entry → Type 0} {answer : Result (Option (ℕ × Entry)) TraceFault}
+    {found : Option (ℕ × Entry)}
+    → CatchesUp answer ahead → answer ≡ Ok found → found ≡ None →
+    HasRead format limit start now (progress_ahead p ahead) Holds →
+    HasRead format limit start now p Holds
+caught-end {format} {limit} {start} {now} p ahead {Holds} caught was is run =
+    let none : ahead ≡ record { lines = 0; bytes = 0 } = rw (was ∙ ap Ok is) at caught in
+    subst (λ (q : Progress). HasRead format limit start now q Holds) (not-ahead p ahead none) run
+
+pub caught-fault : {format : Format} {limit : ℕ} {start now : SourceView} (p : Progress)
+    (ahead : Ahead) {Holds : List Entry → Type 0} {answer : Result (Option (ℕ × Entry)) TraceFault}
+    {x : TraceFault}
+    → CatchesUp answer ahead → answer ≡ Err x →
+    HasRead format limit start now (progress_ahead p ahead) Holds →
+    HasRead format limit start now p Holds
+caught-fault {format} {limit} {start} {now} p ahead {Holds} caught was run =
+    let none : ahead ≡ record { lines = 0; bytes = 0 } = rw was at caught in
+    subst (λ (q : Progress). HasRead format limit start now q Holds) (not-ahead p ahead none) run
 
 -- a reader that began with this format and limit
 abbrev pub read-from : {format : Format} {limit : ℕ} {start now : SourceView} {first p : Progress}

@@ -1,11 +1,12 @@
 -- The state of a reader, and what it has read of a source.
-use Rattle.std.specs.Prelude.{◌≡◌, ◌≢◌, ⊤, IfSome, Bool, true, false, ℕ, List, [], ◌++◌, Option}
-use Rattle.std.specs.Prelude.{None, Some, Result, Ok, Err}
+use Rattle.std.specs.Prelude.{◌≡◌, ◌≢◌, ◌≤◌, ◌+◌, ◌-◌, ⊤, IfSome, Bool, true, false, ℕ, List, []}
+use Rattle.std.specs.Prelude.{◌++◌, length, drop, Option, None, Some, Result, Ok, Err}
 use Rattle.std.specs.Io.KnownBytes.{Consumes, IsAtEnd}
 use Rattle.std.specs.Option.{option_to_list}
 use Rattle.trace_core.specs.Reading.{Reading, reading_end, Ending, reading_after, at_end}
 use Rattle.trace_core.specs.Reading.{at_failure}
 use Rattle.trace_core.specs.Device.{SourceView, failures_after}
+use Rattle.trace_core.specs.declared.ahead.Ahead.{Ahead}
 use Rattle.trace_core.specs.declared.events.Entry.{Entry}
 use Rattle.trace_core.specs.declared.line.Format.{Format}
 use Rattle.trace_core.specs.declared.fault.TraceFault.{TraceFault}
@@ -21,6 +22,20 @@ pub record Progress : Type 0 where
   pub lines : ℕ
   pub unread : List ℕ
   pub state : ReaderState
+
+-- A loop is ahead of its reader by some lines and their bytes, which the reader holds. Each line
+-- has at least one byte.
+pub record IsAhead (p : Progress) (ahead : Ahead) : Type 0 where
+  pub lines : ahead.lines ≤ ahead.bytes
+  pub bytes : ahead.bytes ≤ length p.unread
+  pub limit : ahead.lines ≤ p.limit - p.lines
+
+-- the progress of a reader whose loop is ahead
+abbrev pub progress_ahead : Progress → Ahead → Progress
+progress_ahead p ahead = record p {
+  lines = ahead.lines + p.lines;
+  unread = drop ahead.bytes p.unread;
+}
 
 -- the reading that a reader in this state still returns, if an open one would return this one
 abbrev pub reading_in_state : ReaderState → Reading → Reading
@@ -78,6 +93,12 @@ abbrev pub Reports : ReaderState → Result (Option (ℕ × Entry)) TraceFault �
 Reports s (Ok None) = s ≡ state.Ended
 Reports s (Ok (Some x)) = (f : TraceFault) → s ≢ state.Failed f
 Reports s (Err f) = s ≡ state.Failed f
+
+-- with an end or a fault a loop is no longer ahead
+abbrev pub CatchesUp : Result (Option (ℕ × Entry)) TraceFault → Ahead → Type 0
+CatchesUp (Ok None) ahead = ahead ≡ record { lines = 0; bytes = 0 }
+CatchesUp (Ok (Some x)) ahead = ⊤
+CatchesUp (Err f) ahead = ahead ≡ record { lines = 0; bytes = 0 }
 
 -- whether a state is that of a failed device
 abbrev pub device_failed : ReaderState → Bool

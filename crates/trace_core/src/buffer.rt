@@ -4,7 +4,6 @@ ghost use Rattle.std.specs.Prelude.{slice_range, vec_len, IfOk, OnErr};
 ghost use Rattle.std.specs.Io.KnownBytes.{Consumes, IsAtEnd};
 ghost use Rattle.trace_core.specs.Device.{CountsFailure, StaysOrUnreported};
 ghost use Rattle.trace_core.specs.declared.buffer.TheConstants.{CAPACITY};
-ghost use Rattle.trace_core.specs.internal.Buffer.{Held};
 
 use crate::io::{DeviceFault, Source};
 use std::alloc::{AllocError, Global};
@@ -25,12 +24,9 @@ pub(crate) struct Buffer {
 }
 
 impl Model for Buffer {
-    ghost Value = { Held };
+    ghost Value = { List ℕ };
 
-    ghost view = { λ b. record {
-      start = b.start;
-      waiting = slice_range b.bytes.items b.start b.end;
-    } };
+    ghost view = { λ b. slice_range b.bytes.items b.start b.end };
 
     ghost invariant = { λ b. (b.start ≤ b.end) × (b.end ≤ CAPACITY)
         × (vec_len b.bytes ≡ CAPACITY) };
@@ -39,7 +35,7 @@ impl Model for Buffer {
 impl Buffer {
     /// An empty buffer, with all its memory.
     pub(crate) fn new(alloc: Global) -> Result<Buffer, AllocError>
-        ensures { IfOk result (λ b. b ≡ record { start = 0; waiting = [] }) }
+        ensures { IfOk result (λ b. b ≡ []) }
     {
         let mut bytes = Vec::new(alloc);
         bytes.resize(CAPACITY, 0)?;
@@ -53,53 +49,37 @@ impl Buffer {
     /// The bytes that wait, in order.
     #[inline(always)]
     pub(crate) fn as_slice(&self) -> &[u8]
-        ensures value { result.now ≡ self.now.waiting }
-        ensures fits { length self.now.waiting ≤ CAPACITY }
+        ensures value { result.now ≡ self.now }
+        ensures fits { length self.now ≤ CAPACITY }
     {
         &self.bytes[self.start..self.end]
-    }
-
-    /// The index of the first byte that waits.
-    #[inline(always)]
-    pub(crate) fn start(&self) -> usize
-        ensures value { result ≡ self.now.start }
-        ensures fits { self.now.start + length self.now.waiting ≤ CAPACITY }
-    {
-        self.start
     }
 
     /// Drops the first bytes.
     #[inline(always)]
     pub(crate) fn consume(&mut self, count: usize)
-        requires { count ≤ length self.old.waiting }
-        ensures { self.new ≡ record {
-          start = self.old.start + count;
-          waiting = drop count self.old.waiting;
-        } }
+        requires { count ≤ length self.old }
+        ensures { self.new ≡ drop count self.old }
     {
         self.start += count;
     }
 
     /// Drops all bytes.
     pub(crate) fn clear(&mut self)
-        ensures { self.new ≡ record {
-          start = self.old.start + length self.old.waiting;
-          waiting = [];
-        } }
+        ensures { self.new ≡ [] }
     {
         self.start = self.end;
     }
 
     /// Reads as many bytes as still fit, and returns how many came.
     pub(crate) fn refill<S: Source>(&mut self, source: &mut S) -> Result<usize, DeviceFault>
-        requires { length self.old.waiting < CAPACITY }
+        requires { length self.old < CAPACITY }
         ensures more { IfOk result (λ n. (more : List ℕ) × (length more ≡ n)
-            × (self.new.waiting ≡ self.old.waiting ++ more)
+            × (self.new ≡ self.old ++ more)
             × Consumes (S.view source.old).remaining (S.view source.new).remaining more) }
         ensures end { IfOk result (λ n. n ≡ 0 → IsAtEnd (S.view source.new).remaining) }
-        ensures front { self.new.start ≡ 0 }
-        ensures fits { length self.new.waiting ≤ CAPACITY }
-        ensures fault { OnErr result ((self.new.waiting ≡ self.old.waiting)
+        ensures fits { length self.new ≤ CAPACITY }
+        ensures fault { OnErr result ((self.new ≡ self.old)
             × StaysOrUnreported (S.view source.old).remaining (S.view source.new).remaining) }
         ensures counted { CountsFailure
             (S.view source.old).failures (S.view source.new).failures result }

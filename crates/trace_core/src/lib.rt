@@ -1,6 +1,7 @@
 //! Traces: sources of bytes, din and lackey lines, and the references that they stand for.
 #![tactic(auto)]
 
+mod ahead;
 mod buffer;
 pub mod devices;
 mod digits;
@@ -18,6 +19,7 @@ mod scan;
 mod state;
 pub mod text;
 
+pub use ahead::Ahead;
 pub use events::{Access, Entry, Event, Item, Kind, Op, Ref, refs_of};
 pub use fault::{RunFault, TraceFault};
 pub use io::{DeviceFault, FromRead, Sink, Source, ToWrite, write_all};

@@ -1,7 +1,8 @@
 //! Reading a trace.
-ghost use Rattle.std.specs.Prelude.{◌≡◌, ◌≢◌, ℕ, ◌<◌, ◌≤◌, List, ◌++◌, Option, IfOk, IfSome};
+ghost use Rattle.std.specs.Prelude.{◌≡◌, ◌≢◌, ℕ, ◌+◌, ◌<◌, ◌≤◌, List, ◌++◌, Option, IfOk, IfSome};
 ghost use Rattle.trace_core.specs.Device.{SourceView, failures_after};
 
+use crate::ahead::Ahead;
 use crate::buffer::Buffer;
 use crate::events::{Entry, Item, Op};
 use crate::fault::TraceFault;
@@ -33,6 +34,7 @@ impl Model for Lines {
 impl Lines {
     ghost use Rattle.trace_core.specs.Reader.{Progress, Reached, Reports, entries_returned};
     ghost use Rattle.trace_core.specs.Reader.{new_progress, device_failed, stopped_result};
+    ghost use Rattle.trace_core.specs.Reader.{IsAhead, progress_ahead, CatchesUp};
 
     /// A reader of lines in a format, of which there may be at most `max_lines`. It takes one
     /// buffer of 64 KiB, whatever the limit, and fails only if there is no memory for it.
@@ -53,7 +55,7 @@ impl Lines {
                     addr: 0,
                     size: 0,
                 },
-                plain_end: 0,
+                plain_room: 0,
             },
         })
     }
@@ -90,7 +92,43 @@ impl Lines {
         ensures limited { self.new.limit ≤ MAX_LINES }
         ensures same { (self.new.format ≡ self.old.format) × (self.new.limit ≡ self.old.limit) }
     {
-        match self.scan.next(source) {
+        let mut ahead = Ahead::none();
+        let result = self.next_ahead(&mut ahead, source);
+        self.scan.pass_over(ahead);
+        result
+    }
+
+    /// Reads on as `next` does, for a loop that is ahead of its reader: as if the reader had come
+    /// as far as the loop. A loop begins with `Ahead::none()`, and hands on to each call what the
+    /// last one left. At the end and at a fault the reader has come as far as the loop.
+    #[inline(always)]
+    pub fn next_ahead<S: Source>(
+        &mut self,
+        ahead: &mut Ahead,
+        source: &mut S,
+    ) -> Result<Option<(u64, Entry)>, TraceFault>
+        requires { IsAhead self.old ahead.old }
+        ensures reached { (format : Format) (limit : ℕ) (start : SourceView)
+            (xs : List (ℕ × Entry)) →
+            Reached format limit start (S.view source.old) xs (progress_ahead self.old ahead.old) →
+            Reached format limit start (S.view source.new)
+            (xs ++ entries_returned result) (progress_ahead self.new ahead.new) }
+        ensures reports { Reports self.new.state result }
+        ensures stopped { self.old.state ≢ ReaderState.Open → (source.new ≡ source.old)
+            × (progress_ahead self.new ahead.new ≡ progress_ahead self.old ahead.old)
+            × (result ≡ stopped_result self.old.state) }
+        ensures counted { self.old.state ≡ ReaderState.Open → (S.view source.new).failures
+            ≡ failures_after (device_failed self.new.state) (S.view source.old).failures }
+        ensures entry { IfOk result (λ found. IfSome found (λ x.
+            (x.0 ≡ ahead.new.lines + self.new.lines)
+            × (ahead.old.lines + self.old.lines < ahead.new.lines + self.new.lines))) }
+        ensures within { ahead.new.lines + self.new.lines ≤ self.new.limit }
+        ensures limited { self.new.limit ≤ MAX_LINES }
+        ensures same { (self.new.format ≡ self.old.format) × (self.new.limit ≡ self.old.limit) }
+        ensures ahead { IsAhead self.new ahead.new }
+        ensures caught_up { CatchesUp result ahead.new }
+    {
+        match self.scan.next(ahead, source) {
             Some(entry) => Ok(Some(entry)),
             None => match self.scan.state {
                 ReaderState::Failed(fault) => Err(fault),

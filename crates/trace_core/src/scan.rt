@@ -10,8 +10,10 @@ ghost use Rattle.trace_core.specs.Device.{SourceView, failures_after};
 ghost use Rattle.trace_core.specs.declared.events.Entry.TheVariants as entry;
 ghost use Rattle.trace_core.specs.declared.limits.TheConstants.{MAX_LINES};
 ghost use Rattle.trace_core.specs.declared.state.ReaderState.TheVariants as reader;
-ghost use Rattle.trace_core.specs.internal.Buffer.{EndsPlain};
+ghost use Rattle.trace_core.specs.Reader.{IsAhead, progress_ahead};
+ghost use Rattle.trace_core.specs.internal.Buffer.{IsPlainRoom};
 
+use crate::ahead::Ahead;
 use crate::buffer::Buffer;
 use crate::events::{Entry, Item};
 use crate::fast_line::read_spaced_line;
@@ -39,13 +41,14 @@ pub(crate) struct Scan {
     pub(crate) state: ReaderState,
     /// The last item that `search` found.
     pub(crate) item: Item,
-    /// The index in the buffer before which a line may be read as one of the plain form: enough
-    /// bytes wait there, and the limit allows a line. So one test stands for both.
-    pub(crate) plain_end: usize,
+    /// How many of the bytes that wait may each be the first of a line that is read as one of the
+    /// plain form: enough bytes wait behind it, and the limit allows a line. So one test stands for
+    /// both.
+    pub(crate) plain_room: usize,
     ghost limited: { limit ≤ MAX_LINES },
     ghost within: { lines ≤ limit },
-    ghost plain: { EndsPlain (limit - lines) buffer plain_end },
-    ghost stopped: { state ≢ reader.Open → buffer.waiting ≡ [] },
+    ghost plain: { IsPlainRoom (limit - lines) buffer plain_room },
+    ghost stopped: { state ≢ reader.Open → buffer ≡ [] },
 }
 
 /// The result of `search`. The item itself is in the scan, since a result that fits in a register
@@ -62,24 +65,37 @@ impl Scan {
     ghost use Rattle.trace_core.specs.internal.Scan.{Judges, KeepsTask, BearsLine, found_in};
     ghost use Rattle.trace_core.specs.Reader.{Advances, device_failed};
 
-    /// Reads on to the next entry. Without one, the state says why.
+    /// Reads on to the next entry, for a loop that is ahead. Without one, the state says why.
     #[inline(always)]
-    pub(crate) fn next<S: Source>(&mut self, source: &mut S) -> Option<(u64, Entry)>
-        ensures advances { Reads (S.view source.old) (S.view source.new) self.old self.new result }
+    pub(crate) fn next<S: Source>(
+        &mut self,
+        ahead: &mut Ahead,
+        source: &mut S,
+    ) -> Option<(u64, Entry)>
+        requires { IsAhead (progress self.old) ahead.old }
+        ensures advances { Reads (S.view source.old) (S.view source.new)
+            (progress_ahead (progress self.old) ahead.old)
+            (progress_ahead (progress self.new) ahead.new) result }
         ensures at_end { self.old.state ≡ ReaderState.Open → self.new.state ≡ ReaderState.Ended →
             IsAtEnd (S.view source.new).remaining }
         ensures counted { self.old.state ≡ ReaderState.Open → (S.view source.new).failures
             ≡ failures_after (device_failed self.new.state) (S.view source.old).failures }
         ensures stopped { self.old.state ≢ ReaderState.Open → (source.new ≡ source.old)
-            × (self.new ≡ self.old) × (result ≡ None) }
+            × (progress_ahead (progress self.new) ahead.new
+            ≡ progress_ahead (progress self.old) ahead.old) × (result ≡ None) }
         ensures same { KeepsTask self.old self.new }
-        ensures entry { BearsLine self.old self.new result }
+        ensures entry { IfSome result (λ x. (x.0 ≡ ahead.new.lines + self.new.lines)
+            × (ahead.old.lines + self.old.lines < ahead.new.lines + self.new.lines)) }
         ensures goes_on { OnSome result ((f : TraceFault) → self.new.state ≢ ReaderState.Failed f) }
         ensures none { IfNone result (self.new.state ≢ ReaderState.Open) }
+        ensures ahead { IsAhead (progress self.new) ahead.new }
+        ensures caught_up { IfNone result (ahead.new ≡ record { lines = 0; bytes = 0 }) }
     {
-        if let Some(item) = self.plain_line() {
-            return Some((self.lines, Entry::Item(item)));
+        if let Some(item) = self.plain_line(ahead) {
+            return Some((ahead.lines + self.lines, Entry::Item(item)));
         }
+        self.pass_over(*ahead);
+        *ahead = Ahead::none();
         match self.search(source) {
             Found::Item => Some((self.lines, Entry::Item(self.item))),
             Found::Flush => Some((self.lines, Entry::Flush)),
@@ -90,44 +106,45 @@ impl Scan {
     /// Takes a line of the plain form, if one comes next. Most lines are read here. A scan that has
     /// stopped needs no test, since it holds no bytes.
     #[inline(always)]
-    fn plain_line(&mut self) -> Option<Item>
-        ensures advances { IfSome result (λ item. (v : SourceView) →
-            Reads v v self.old self.new (Some (self.new.lines, entry.Item item))) }
-        ensures steps { IfSome result (λ item. (v : SourceView) →
-            StepsScan v v self.old self.new (Some (self.new.lines, entry.Item item))) }
-        ensures open { IfSome result (λ _. self.old.state ≡ ReaderState.Open) }
-        ensures none { IfNone result (self.new ≡ self.old) }
+    fn plain_line(&self, ahead: &mut Ahead) -> Option<Item>
+        requires { IsAhead (progress self.now) ahead.old }
+        ensures advances { IfSome result (λ item. (v : SourceView) → Reads v v
+            (progress_ahead (progress self.now) ahead.old)
+            (progress_ahead (progress self.now) ahead.new)
+            (Some (ahead.new.lines + self.now.lines, entry.Item item))) }
+        ensures line { IfSome result (λ _. ahead.new.lines ≡ ahead.old.lines + 1) }
+        ensures ahead { IsAhead (progress self.now) ahead.new }
+        ensures open { IfSome result (λ _. self.now.state ≡ ReaderState.Open) }
+        ensures none { IfNone result (ahead.new ≡ ahead.old) }
     {
-        if self.buffer.start() >= self.plain_end {
+        if ahead.bytes >= self.plain_room {
             return None;
         }
-        let (text, _) = self.buffer.as_slice().split_at(PLAIN_ROOM);
+        let (_, unread) = self.buffer.as_slice().split_at(ahead.bytes);
+        let (text, _) = unread.split_at(PLAIN_ROOM);
         let (item, len) = read_plain_line(self.format, text)?;
-        self.pass_plain_line(len);
+        ahead.bytes += len;
+        ahead.lines += 1;
         Some(item)
     }
 
-    /// Passes over a line of so many bytes, and leaves the end of plain lines where it is: it stays
-    /// right, since each line has at least one byte.
+    /// Passes over what a loop has read. The room for plain lines stays right, since each line has
+    /// at least one byte.
     #[inline(always)]
-    fn pass_plain_line(&mut self, len: usize)
-        requires some { 1 ≤ len }
-        requires within { len ≤ length self.old.buffer.waiting }
-        requires below { self.old.lines < self.old.limit }
-        ensures lines { self.new.lines ≡ self.old.lines + 1 }
-        ensures buffer { self.new.buffer.waiting ≡ drop len self.old.buffer.waiting }
-        ensures same { (self.new.format ≡ self.old.format) × (self.new.limit ≡ self.old.limit)
-            × (self.new.state ≡ self.old.state) }
+    pub(crate) fn pass_over(&mut self, ahead: Ahead)
+        requires { IsAhead (progress self.old) ahead }
+        ensures { progress self.new ≡ progress_ahead (progress self.old) ahead }
     {
-        self.buffer.consume(len);
-        self.lines += 1;
+        self.buffer.consume(ahead.bytes);
+        self.lines += ahead.lines;
+        self.plain_room = self.plain_room.saturating_sub(ahead.bytes);
     }
 
     /// Reads on to the next entry, through lines of any form.
     #[inline(never)]
     fn search<S: Source>(&mut self, source: &mut S) -> Found
-        ensures advances { Reads (S.view source.old) (S.view source.new) self.old self.new
-            (found_in self.new result) }
+        ensures advances { Reads (S.view source.old) (S.view source.new)
+            (progress self.old) (progress self.new) (found_in self.new result) }
         ensures at_end { self.old.state ≡ ReaderState.Open → self.new.state ≡ ReaderState.Ended →
             IsAtEnd (S.view source.new).remaining }
         ensures counted { self.old.state ≡ ReaderState.Open → (S.view source.new).failures
@@ -153,7 +170,8 @@ impl Scan {
     /// Takes one step after another, up to an entry.
     #[inline(always)]
     fn next_any<S: Source>(&mut self, source: &mut S) -> Option<(u64, Entry)>
-        ensures advances { Reads (S.view source.old) (S.view source.new) self.old self.new result }
+        ensures advances { Reads (S.view source.old) (S.view source.new)
+            (progress self.old) (progress self.new) result }
         ensures at_end { self.old.state ≡ ReaderState.Open → self.new.state ≡ ReaderState.Ended →
             IsAtEnd (S.view source.new).remaining }
         ensures counted { self.old.state ≡ ReaderState.Open → (S.view source.new).failures
@@ -177,7 +195,8 @@ impl Scan {
     #[inline(always)]
     fn step<S: Source>(&mut self, source: &mut S) -> Option<(u64, Entry)>
         requires { self.old.state ≡ ReaderState.Open }
-        ensures advances { Reads (S.view source.old) (S.view source.new) self.old self.new result }
+        ensures advances { Reads (S.view source.old) (S.view source.new)
+            (progress self.old) (progress self.new) result }
         ensures steps { StepsScan (S.view source.old) (S.view source.new) self.old self.new result }
     {
         let unread = self.buffer.as_slice();
@@ -197,11 +216,11 @@ impl Scan {
     /// Stops for the reason that a state says, and drops the bytes that are left.
     fn stop(&mut self, state: ReaderState)
         ensures state { self.new.state ≡ state }
-        ensures buffer { self.new.buffer.waiting ≡ [] }
+        ensures buffer { self.new.buffer ≡ [] }
         ensures same { KeepsTask self.old self.new }
         ensures lines { self.new.lines ≡ self.old.lines }
     {
-        self.plain_end = 0;
+        self.plain_room = 0;
         self.buffer.clear();
         self.state = state;
     }
@@ -209,17 +228,17 @@ impl Scan {
     /// Passes over a line of so many bytes, the LF included, and returns its number.
     #[inline(always)]
     fn pass_line(&mut self, len: usize) -> u64
-        requires within { len ≤ length self.old.buffer.waiting }
+        requires within { len ≤ length self.old.buffer }
         requires below { self.old.lines < self.old.limit }
         ensures number { result ≡ self.new.lines }
         ensures lines { self.new.lines ≡ self.old.lines + 1 }
-        ensures buffer { self.new.buffer.waiting ≡ drop len self.old.buffer.waiting }
+        ensures buffer { self.new.buffer ≡ drop len self.old.buffer }
         ensures same { (self.new.format ≡ self.old.format) × (self.new.limit ≡ self.old.limit)
             × (self.new.state ≡ self.old.state) }
     {
         self.buffer.consume(len);
         self.lines += 1;
-        self.plain_end = plain_end(self.limit - self.lines, &self.buffer);
+        self.plain_room = plain_room(self.limit - self.lines, &self.buffer);
         self.lines
     }
 
@@ -227,7 +246,7 @@ impl Scan {
     #[inline(always)]
     fn take_line(&mut self, at: usize) -> Option<(u64, Entry)>
         requires open { self.old.state ≡ ReaderState.Open }
-        requires line { IsFirstByte (is_byte 10) self.old.buffer.waiting (Some at) }
+        requires line { IsFirstByte (is_byte 10) self.old.buffer (Some at) }
         requires below { self.old.lines < self.old.limit }
         ensures advances { (reported : Option (List ℕ)) →
             Advances reported (progress self.old) (progress self.new) [] (option_to_list result) }
@@ -255,9 +274,10 @@ impl Scan {
     #[inline(never)]
     fn refill<S: Source>(&mut self, source: &mut S) -> Option<(u64, Entry)>
         requires open { self.old.state ≡ ReaderState.Open }
-        requires no_line { IsFirstByte (is_byte 10) self.old.buffer.waiting None }
-        requires below { 0 < length self.old.buffer.waiting → self.old.lines < self.old.limit }
-        ensures advances { Reads (S.view source.old) (S.view source.new) self.old self.new result }
+        requires no_line { IsFirstByte (is_byte 10) self.old.buffer None }
+        requires below { 0 < length self.old.buffer → self.old.lines < self.old.limit }
+        ensures advances { Reads (S.view source.old) (S.view source.new)
+            (progress self.old) (progress self.new) result }
         ensures steps { StepsScan (S.view source.old) (S.view source.new) self.old self.new result }
         ensures ends { OnSome result (self.new.state ≡ ReaderState.Ended) }
     {
@@ -267,7 +287,7 @@ impl Scan {
             return None;
         }
         let read = self.buffer.refill(source);
-        self.plain_end = plain_end(self.limit - self.lines, &self.buffer);
+        self.plain_room = plain_room(self.limit - self.lines, &self.buffer);
         match read {
             Ok(0) => self.finish(),
             Ok(_) => None,
@@ -283,9 +303,9 @@ impl Scan {
     #[inline(never)]
     fn finish(&mut self) -> Option<(u64, Entry)>
         requires open { self.old.state ≡ ReaderState.Open }
-        requires no_line { IsFirstByte (is_byte 10) self.old.buffer.waiting None }
-        requires below { 0 < length self.old.buffer.waiting → self.old.lines < self.old.limit }
-        requires short { length self.old.buffer.waiting ≤ MAX_LINE }
+        requires no_line { IsFirstByte (is_byte 10) self.old.buffer None }
+        requires below { 0 < length self.old.buffer → self.old.lines < self.old.limit }
+        requires short { length self.old.buffer ≤ MAX_LINE }
         ensures advances { (reported : Option (List ℕ)) → IsAtEnd reported →
             Advances reported (progress self.old) (progress self.new) [] (option_to_list result) }
         ensures state { self.new.state ≢ ReaderState.Open }
@@ -312,13 +332,13 @@ impl Scan {
     }
 }
 
-/// The end of plain lines in a buffer, if so many lines may follow.
+/// The room for plain lines in a buffer, if so many lines may follow.
 #[inline]
-fn plain_end(lines: u64, buffer: &Buffer) -> usize
-    ensures { EndsPlain lines buffer.now result }
+fn plain_room(lines: u64, buffer: &Buffer) -> usize
+    ensures { IsPlainRoom lines buffer.now result }
 {
     let places = buffer.as_slice().len().saturating_sub(PLAIN_ROOM - 1);
-    buffer.start() + lines.min(places as u64) as usize
+    lines.min(places as u64) as usize
 }
 
 ghost use Rattle.trace_core.specs.Reading.{judgement};

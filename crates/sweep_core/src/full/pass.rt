@@ -12,7 +12,7 @@ use crate::full::batch::FullBatch;
 use crate::full::feeding::{end_full, finest_full_size};
 use crate::full::profiles::FullPair;
 use profile_core::MAX_REFERENCES;
-use trace_core::{Entry, Kind, Lines, Ref, Source, TraceFault, refs_of};
+use trace_core::{Ahead, Entry, Kind, Lines, Ref, Source, TraceFault, refs_of};
 
 /// Reads a trace up to its end or its first fault, and feeds each entry to the profiles: its
 /// references of a kind, or a flush. Then it ends them. At most one batch of references is kept in
@@ -57,7 +57,8 @@ fn read_full_entries<S: Source>(
     ensures few { batch.new.added ≤ MAX_REFERENCES }
 {
     let size = finest_full_size(profiles);
-    while let Some((_, entry)) = lines.next(source)? {
+    let mut ahead = Ahead::none();
+    while let Some((_, entry)) = lines.next_ahead(&mut ahead, source)? {
         match entry {
             Entry::Item(item) => {
                 let (first, second) = refs_of(item);

@@ -1,14 +1,7 @@
 -- The bytes of a buffer.
-use Rattle.std.specs.Prelude.{ℕ, ◌+◌, ◌-◌, ◌≤◌, List, length}
+use Rattle.std.specs.Prelude.{ℕ, ◌-◌, ◌≤◌, List, length}
 
--- The bytes that were delivered and not yet consumed, and where in the buffer they begin.
-pub record Held : Type 0 where
-  -- the index of the first of them
-  pub start : ℕ
-  pub waiting : List ℕ
-
--- Where so many lines may follow, each of the bytes before an end may be the first of a line and 63
--- more bytes, which wait: there are no more of them than such lines.
-abbrev pub EndsPlain : ℕ → Held → ℕ → Type 0
-EndsPlain left held end =
-    (end ≤ held.start + left) × (end ≤ held.start + (length held.waiting - 63))
+-- Where so many lines may follow and these bytes wait, each of so many bytes may be the first of a
+-- line and 63 more bytes wait behind it: there are no more of them than such lines.
+abbrev pub IsPlainRoom : ℕ → List ℕ → ℕ → Type 0
+IsPlainRoom left waiting room = (room ≤ left) × (room ≤ length waiting - 63)

@@ -11,9 +11,6 @@ returns c =
     omega (
       arith,
       length-take (b.end - b.start) (drop b.start b.bytes.items),
-      ap (λ h. length h.waiting) c.self.view_is,
+      ap length c.self.view_is,
     ) in
-    let passed =
-    consumed b.bytes.items b.start b.end c.args.count inside ∙
-    ap (λ h. drop c.args.count h.waiting) c.self.view_is in
-    λ i. record { start = ap (λ h. h.start + c.args.count) c.self.view_is i; waiting = passed i }
+    consumed b.bytes.items b.start b.end c.args.count inside ∙ ap (drop c.args.count) c.self.view_is

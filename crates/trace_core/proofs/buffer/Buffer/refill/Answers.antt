@@ -14,8 +14,8 @@ returns-clause-more g c =
     let xs = c.deref_mut.result.now in
     let fits : n ≤ length into = c.in_ok-count.ensures.bound in
     let within : held ≤ length xs = search rules in
-    let front : take held xs ≡ c.args.self.now.waiting = ap (take held) c.deref_mut.ensures.value ∙
-    c.shift.ensures.moved ∙ ap (λ h. h.waiting) c.self.view_is in
+    let front : take held xs ≡ c.args.self.now = ap (take held) c.deref_mut.ensures.value ∙
+    c.shift.ensures.moved ∙ c.self.view_is in
     let whole : length (put_mid held (length xs - held) xs into) ≡ c.shift.new.bytes.len =
     search rules in
     let put = with_items_is c.shift.new.bytes (put_mid held (length xs - held) xs into) whole in

@@ -7,17 +7,17 @@ use Rattle.trace_core.proofs.scan.Scan.step.Goals as goal
 
 pub returns-then-not-is_empty-clause-advances : goal.returns-then-not-is_empty-clause-advances
 returns-then-not-is_empty-clause-advances g c =
-    let s = c.args.self.now in
-    let some : 0 < length s.buffer.waiting =
+    let s = progress c.args.self.now in
+    let some : 0 < length s.unread =
     search (rules, tests, ap length c.as_slice-unread.ensures.value) in
     ([], Delivers-none _ _, steps-past _ s c.requires _ some (omega arith) c.stop.ensures.state)
 
 pub returns-in-Some-clause-advances : goal.returns-in-Some-clause-advances
 returns-in-Some-clause-advances g c =
-    let s = c.args.self.now in
+    let s = progress c.args.self.now in
     let found = c.in-Some.ensures in
     let passed = c.pass_line.ensures in
-    let some : 0 < length s.buffer.waiting =
+    let some : 0 < length s.unread =
     omega (arith, found.line.0.high, ap length c.as_slice-unread.ensures.value) in (
       [],
       Delivers-none _ _,

@@ -8,7 +8,7 @@ use Rattle.trace_core.proofs.scan.Scan.take_line.Goals as goal
 
 pub returns-in-Ok-clause-advances : goal.returns-in-Ok-clause-advances
 returns-in-Ok-clause-advances c = λ reported.
-    let s = c.args.self.now in
+    let s = progress c.args.self.now in
     let same : option_to_list c.map.result ≡ numbered (s.lines + 1) c.in-Ok.entry = search rules in
     let passed = c.pass_line.ensures in
     let judged =
@@ -21,7 +21,7 @@ returns-in-Ok-clause-advances c = λ reported.
 
 pub returns-in-Err-clause-advances : goal.returns-in-Err-clause-advances
 returns-in-Err-clause-advances c = λ reported.
-    let s = c.args.self.now in
+    let s = progress c.args.self.now in
     steps-bad_line reported s c.requires.open _ c.args.at c.in-Err.fault c.requires.line
     (judged-as reported s c.requires.open _ _ _ _ (ap (take c.args.at) c.as_slice.ensures.value)
     c.judge.ensures c.in-Err.is c.requires.below) c.stop.ensures.state
