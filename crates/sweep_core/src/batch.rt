@@ -1,6 +1,6 @@
 //! References that wait, so that each profile is fed many at a time.
 ghost use Rattle.std.specs.Prelude.{◌≡◌, ℕ, ◌+◌, ◌/◌, ◌^◌, ◌<◌, ◌≤◌, ◌↔◌, ◌==◌, [], length, IsTrue};
-ghost use Rattle.std.specs.Prelude.{IfOk, nat_lt};
+ghost use Rattle.std.specs.Prelude.{IfOk};
 ghost use Rattle.std.specs.List.{AllByRecursion};
 ghost use Rattle.profile_core.specs.profile.State.{fed_of};
 ghost use Rattle.sweep_core.specs.internal.Feeding.{AreAlwaysLed, profiles_after_batch};
@@ -68,26 +68,23 @@ impl Batch {
         self.added
     }
 
-    /// Adds `count` references to one address, and returns whether one of them waits. None need
-    /// wait if they lie in the same block of `size` bytes as the last that waits, and never more
-    /// than one: the others find their block in front in each profile with blocks of this size or
-    /// larger. About a third of a program's references need not wait, fetches most often.
+    /// Adds `count` references to one address. None need wait if they lie in the same block of
+    /// `size` bytes as the last that waits, and never more than one: the others find their block in
+    /// front in each profile with blocks of this size or larger. About a third of a program's
+    /// references need not wait, fetches most often. The address is stored in any case, and no
+    /// branch depends on whether it waits, since no processor predicts that.
     #[inline(always)]
-    pub(crate) fn push(&mut self, addr: u64, size: u64, count: u64) -> bool
+    pub(crate) fn push(&mut self, addr: u64, size: u64, count: u64)
         requires room { length self.old.waiting < BATCH }
         requires few { self.old.added + count ≤ MAX_REFERENCES }
         ensures waiting { (bits : ℕ) → size ≡ 2 ^ bits →
             self.new.waiting ≡ with_waiting bits self.old.waiting addr }
         ensures added { self.new.added ≡ self.old.added + count }
-        ensures more { result ≡ nat_lt (length self.old.waiting) (length self.new.waiting) }
     {
         self.added += count;
-        if self.len > 0 && are_in_one_block(self.addrs[self.len - 1], addr, size) {
-            return false;
-        }
         self.addrs[self.len] = addr;
-        self.len += 1;
-        true
+        let waits = self.len == 0 || !are_in_one_block(self.addrs[self.len - 1], addr, size);
+        self.len += waits as usize;
     }
 
     /// Feeds the references that wait to each profile, except those that find their block in front

@@ -99,8 +99,11 @@ fn feed_item(profiles: &mut [PairProfile], batch: &mut Batch, size: u64, item: I
     ensures finest { AreNoSmaller size profiles.new }
     ensures added { batch.new.added ≡ batch.old.added + count }
 {
-    if count > 0 && batch.push(item.addr, size, count) && batch.is_full() {
-        batch.feed(profiles);
+    if count > 0 {
+        batch.push(item.addr, size, count);
+        if batch.is_full() {
+            batch.feed(profiles);
+        }
     }
 }
 

@@ -4,23 +4,24 @@ use Rattle.std.proofs.Common.{false, cond, eqb, leb, ltb, List, [], ◌∷◌, m
 use Rattle.std.proofs.Common.{replicate, refl, sym, ap, ◌∙◌, arith, ◌⊎◌, inl, inr, bit_and, bit_or}
 use Rattle.std.proofs.Common.{w8, w64, Fits, take}
 use Rattle.std.proofs.lemmas.Bool.{false≢true, le-leb, lt-leb, le-ltb, ltb-false, leb-true}
-use Rattle.std.proofs.lemmas.Bool.{leb-false}
+use Rattle.std.proofs.lemmas.Bool.{leb-false, eqb-true}
 use Rattle.std.proofs.Common.{to_z}
 use Rattle.std.specs.Int.Signed.{le_z}
 use Rattle.std.proofs.lemmas.Int.Digits.{number_more, number_lt}
 use Rattle.std.proofs.lemmas.Nat.{le-div, div_below}
 use Rattle.std.proofs.lemmas.List.{take_all}
 use Rattle.std.specs.Int.{from_be_bytes, bit_at}
-use Rattle.std.specs.Int.{trailing_ones}
+use Rattle.std.specs.Int.{trailing_ones, trailing_zeros}
 use Rattle.std.proofs.Common.{pow_pos, subst, length-take-le, pow-suc, drop, take-append-drop}
 use Rattle.std.proofs.Common.{ltb-true, length-drop}
 use Rattle.std.specs.Str.Parse.{AllDigits, digits_value}
-use Rattle.std.proofs.lemmas.Nat.Bits.{bit_at-trailing_ones}
+use Rattle.std.proofs.lemmas.Nat.Bits.{bit_at-trailing_ones, bit_at-trailing_zeros}
 use Rattle.std.proofs.lemmas.Simd.{mask_l-lt, bit_mask_l}
 use Rattle.std.proofs.lemmas.Int.Digits.{number_after_append, number_after_lt, digits_value_is}
 use Rattle.std.proofs.lemmas.List.{get_or_past, take-take}
 use Rattle.std.proofs.lemmas.Bool.{cases_lt}
 use Rattle.trace_core.specs.Fields.{WritesNumber}
+use Rattle.memchr.specs.Find.{is_byte}
 use Rattle.std.specs.List.{range_with_len}
 use Rattle.std.specs.Char.{digit_value, is_digit}
 use Rattle.std.specs.Int.Digits.{number_from_digits, number_from_digits_after, AllBelowBase}
@@ -401,6 +402,32 @@ digits_in_front xs n long is = (short (cases_lt 16 n), each)
     each : (i : ℕ) → i < n → is_digit (get_or xs i 0) 16 ≡ true
     each i below = sym (get_or-map hex xs i 0 false (omega (arith, long, short (cases_lt 16 n)))) ∙
         bit i below
+
+-- the first such byte, of which a mask has a bit each
+pub byte_at : (byte : ℕ) (xs : List ℕ) (n : ℕ) → length xs ≡ 16 →
+    n ≡ trailing_zeros w64 (mask_l (map (is_byte byte) xs)) → n < 16 → get_or xs n 0 ≡ byte
+unfolding lib.Count.count_trailing_zeros
+byte_at byte xs n long is below = by_case mask refl
+  where
+    mask : ℕ
+    mask = mask_l (map (is_byte byte) xs)
+
+    many : length (map (is_byte byte) xs) ≡ 16
+    many = length-map xs (is_byte byte) ∙ long
+
+    by_case : (m : ℕ) → mask ≡ m → get_or xs n 0 ≡ byte
+    by_case zero none =
+        let past : n ≡ 64 = is ∙ ap (trailing_zeros w64) none in
+        absurd (omega (arith, past, below))
+    by_case (suc m) some =
+        let lowest = bit_at-trailing_zeros w64 mask (omega (arith, some))
+        (omega (arith, rw many at (mask_l-lt (map (is_byte byte) xs)))) in
+        let one : bit_at mask n ≡ 1 = ap (bit_at mask) is ∙ lowest.1 in
+        let bit : get_or (map (is_byte byte) xs) n false ≡ true =
+        set (get_or (map (is_byte byte) xs) n false)
+        (sym (bit_mask_l (map (is_byte byte) xs) n) ∙ one) in
+        eqb-true _ _
+        (sym (get_or-map (is_byte byte) xs n 0 false (omega (arith, long, below))) ∙ bit)
 
 pub values_in_front : (n : ℕ) (xs ds : List ℕ) → n ≤ length xs → length ds ≡ length xs →
     ((i : ℕ) → i < n → is_digit (get_or xs i 0) 16 ≡ true)

@@ -75,7 +75,7 @@ fn read_hexadecimal(text: &[u8]) -> (u64, usize)
 /// `read_hexadecimal` where there are at least 16 bytes. All are read at once, so no branch depends
 /// on how many digits they are.
 #[inline(always)]
-pub(crate) fn front_hexadecimal(text: &[u8]) -> (u64, usize)
+fn front_hexadecimal(text: &[u8]) -> (u64, usize)
     requires room { 16 ≤ length text.now }
     ensures value { WritesNumber 16 text.now result }
     ensures most { result.1 ≤ 16 }
@@ -86,6 +86,22 @@ pub(crate) fn front_hexadecimal(text: &[u8]) -> (u64, usize)
         return (0, 0);
     }
     (number_of(digit_values(bytes)) >> (64 - 4 * len), len)
+}
+
+/// The number that `len` hexadecimal digits in front write. There is none if they are fewer, or
+/// more.
+#[inline(always)]
+pub(crate) fn hexadecimal_of(text: &[u8], len: usize) -> Option<u64>
+    requires room { 16 ≤ length text.now }
+    requires some { 1 ≤ len }
+    ensures value { IfSome result (λ value. WritesNumber 16 text.now (value, len)) }
+    ensures most { IfSome result (λ _. len ≤ 16) }
+{
+    let bytes = u8x16::from_slice(text);
+    if digit_mask(bytes).trailing_ones() as usize != len {
+        return None;
+    }
+    Some(number_of(digit_values(bytes)) >> (64 - 4 * len))
 }
 
 /// The number that the digits in front write, and how many they are; at most `most` are read. Where

@@ -1,10 +1,11 @@
-//! Sixteen bytes at once, as hexadecimal digits.
+//! Sixteen bytes at once: hexadecimal digits, and the byte that ends them.
 ghost use Rattle.std.specs.Prelude.{◌≡◌, ℕ, ◌+◌, ◌-◌, ◌%◌, ◌≤◌, true, false, map, nat_le, nat_lt};
 ghost use Rattle.std.specs.Prelude.{if◌then◌else◌, bit_or, length, slice_index};
 ghost use Rattle.std.specs.Char.{digit_value, is_digit};
 ghost use Rattle.std.specs.Int.Digits.{number_from_digits, AllBelowBase};
 ghost use Rattle.std.specs.Simd.Lanes.{mask_l, Each1};
 ghost use Rattle.std.specs.Fmt.{digit_glyph};
+ghost use Rattle.memchr.specs.Find.{is_byte};
 ghost use Rattle.trace_core.specs.internal.HexadecimalDigits.{nibbles, hexadecimal_digits};
 
 use std::simd::prelude::*;
@@ -17,6 +18,14 @@ pub(crate) fn digit_mask(bytes: u8x16) -> u64
     let ascii = ascii_lanes(bytes);
     let digits = lanes_within(ascii, b'0', 9) | letters(ascii);
     digits.simd_eq(u8x16::splat(255)).to_bitmask()
+}
+
+/// A bit for each byte that is this one, the lowest for the first.
+#[inline(always)]
+pub(crate) fn byte_mask(bytes: u8x16, byte: u8) -> u64
+    ensures { result ≡ mask_l (map (is_byte byte) bytes) }
+{
+    bytes.simd_eq(u8x16::splat(byte)).to_bitmask()
 }
 
 /// The values of the bytes that are hexadecimal digits, and any below 16 for the others. A letter's

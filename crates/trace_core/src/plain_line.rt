@@ -5,15 +5,16 @@
 //! LF is tested once. `docs/PERF.md` says what that gains.
 ghost use Rattle.std.specs.Prelude.{◌≡◌, ℕ, ◌+◌, ◌-◌, ◌*◌, ◌<◌, ◌≤◌, length, drop, Some, IfSome};
 ghost use Rattle.std.specs.Prelude.{slice_index};
-ghost use Rattle.trace_core.specs.Fields.{WritesNumber};
 ghost use Rattle.trace_core.specs.Line.{din_op, lackey_op};
 ghost use Rattle.trace_core.specs.internal.FastLine.{BeginsLabel, EndsLine, HoldsLine};
 ghost use Rattle.trace_core.specs.internal.FastLine.{HoldsAddress, HoldsSize};
 
-use crate::digits::{front_hexadecimal, split_hexadecimal, split_number};
+use crate::digits::{hexadecimal_of, split_hexadecimal, split_number};
 use crate::events::{Item, Op};
 use crate::fast_line::{late_end, split_0x};
 use crate::line::{Format, lackey_op};
+use crate::nibbles::byte_mask;
+use std::simd::prelude::*;
 
 /// How many bytes a text must have for the plain form, so that no step tests for the text's end.
 /// Only the last lines of what a source delivered at once are read more slowly for that.
@@ -43,32 +44,28 @@ fn read_plain_din(text: &[u8]) -> Option<(Item, usize)>
 {
     let op = plain_din_op(text)?;
     let (_, rest) = text.split_at(2);
-    let (addr, len) = front_hexadecimal(rest);
-    if len > 0 && text[len + 2] == b'\n' {
+    let len = first_from(text, 3, b'\n') + 1;
+    if let Some(addr) = hexadecimal_of(rest, len) {
         return Some((Item { op, addr, size: 0 }, len + 3));
     }
-    let (addr, len) = late_address(text, addr, len)?;
+    let (addr, len) = late_address(text, rest)?;
     Some((Item { op, addr, size: 0 }, len))
 }
 
 /// The address of a din line of at most `PLAIN_ROOM` bytes with a `0x`, or with a CR or a comment
-/// at its end, and the line's length. The first `len` bytes after the label write `addr`.
+/// at its end, and the line's length. `rest` is the text after the label and the space.
 #[inline(always)]
-fn late_address(text: &[u8], addr: u64, len: usize) -> Option<(u64, usize)>
+fn late_address(text: &[u8], rest: &[u8]) -> Option<(u64, usize)>
     requires room { PLAIN_ROOM ≤ length text.now }
-    requires digits { WritesNumber 16 (drop 2 text.now) (addr, len) }
-    requires most { len ≤ 16 }
+    requires rest { rest.now ≡ drop 2 text.now }
     ensures line { IfSome result (λ found. HoldsAddress text.now found.0 found.1) }
     ensures short { IfSome result (λ found. found.1 ≤ PLAIN_ROOM) }
 {
-    let (_, rest) = text.split_at(2);
     if let Some(digits) = split_0x(rest) {
         let (addr, _, len) = split_hexadecimal(digits)?;
         return Some((addr, late_len(text, text.len() - digits.len() + len)?));
     }
-    if len == 0 {
-        return None;
-    }
+    let (addr, _, len) = split_hexadecimal(rest)?;
     Some((addr, late_len(text, len + 2)?))
 }
 
@@ -100,10 +97,8 @@ fn read_plain_lackey(text: &[u8]) -> Option<(Item, usize)>
 {
     let op = plain_lackey_op(text)?;
     let (_, rest) = text.split_at(3);
-    let (addr, len) = front_hexadecimal(rest);
-    if len == 0 || text[len + 3] != b',' {
-        return None;
-    }
+    let len = first_from(text, 4, b',') + 1;
+    let addr = hexadecimal_of(rest, len)?;
     // A digit before an LF: both are compared at once.
     let size = two_bytes(text, len + 4).wrapping_sub(0x0A30);
     if size < 10 {
@@ -179,4 +174,16 @@ fn two_bytes(text: &[u8], at: usize) -> u16
         unreachable!()
     };
     u16::from_le_bytes(*pair)
+}
+
+/// How far behind an index a byte comes first, if it is one of the sixteen there. The byte that
+/// ends an address tells where the next line begins, and so no line waits for the digits before it.
+#[inline(always)]
+fn first_from(text: &[u8], at: usize, byte: u8) -> usize
+    requires room { at + 16 ≤ length text.now }
+    ensures byte { result < 16 → slice_index text.now (at + result) ≡ byte }
+    ensures most { result ≤ 64 }
+{
+    let (_, rest) = text.split_at(at);
+    byte_mask(u8x16::from_slice(rest), byte).trailing_zeros() as usize
 }

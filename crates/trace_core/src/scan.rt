@@ -94,9 +94,9 @@ impl Scan {
         if let Some(item) = self.plain_line(ahead) {
             return Some((ahead.lines + self.lines, Entry::Item(item)));
         }
-        self.pass_over(*ahead);
+        let found = self.search(*ahead, source);
         *ahead = Ahead::none();
-        match self.search(source) {
+        match found {
             Found::Item => Some((self.lines, Entry::Item(self.item))),
             Found::Flush => Some((self.lines, Entry::Flush)),
             Found::Nothing => None,
@@ -140,23 +140,30 @@ impl Scan {
         self.plain_room = self.plain_room.saturating_sub(ahead.bytes);
     }
 
-    /// Reads on to the next entry, through lines of any form.
+    /// Reads on from where a loop is to the next entry, through lines of any form. It is cold, so
+    /// that a loop has few jumps for plain lines, and loads only the fields that they need.
+    #[cold]
     #[inline(never)]
-    fn search<S: Source>(&mut self, source: &mut S) -> Found
+    fn search<S: Source>(&mut self, ahead: Ahead, source: &mut S) -> Found
+        requires { IsAhead (progress self.old) ahead }
         ensures advances { Reads (S.view source.old) (S.view source.new)
-            (progress self.old) (progress self.new) (found_in self.new result) }
+            (progress_ahead (progress self.old) ahead) (progress self.new)
+            (found_in self.new result) }
         ensures at_end { self.old.state ≡ ReaderState.Open → self.new.state ≡ ReaderState.Ended →
             IsAtEnd (S.view source.new).remaining }
         ensures counted { self.old.state ≡ ReaderState.Open → (S.view source.new).failures
             ≡ failures_after (device_failed self.new.state) (S.view source.old).failures }
         ensures stopped { self.old.state ≢ ReaderState.Open → (source.new ≡ source.old)
-            × (self.new ≡ self.old) × (found_in self.new result ≡ None) }
+            × (progress self.new ≡ progress_ahead (progress self.old) ahead)
+            × (found_in self.new result ≡ None) }
         ensures same { KeepsTask self.old self.new }
-        ensures entry { BearsLine self.old self.new (found_in self.new result) }
+        ensures entry { IfSome (found_in self.new result) (λ x. (x.0 ≡ self.new.lines)
+            × (ahead.lines + self.old.lines < self.new.lines)) }
         ensures goes_on { OnSome (found_in self.new result)
             ((f : TraceFault) → self.new.state ≢ ReaderState.Failed f) }
         ensures none { IfNone (found_in self.new result) (self.new.state ≢ ReaderState.Open) }
     {
+        self.pass_over(ahead);
         match self.next_any(source) {
             Some((_, Entry::Item(item))) => {
                 self.item = item;

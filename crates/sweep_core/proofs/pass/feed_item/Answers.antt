@@ -6,9 +6,6 @@ use Rattle.sweep_core.proofs.Waiting.{waiting-few, waiting-led, waiting-fed, fed
 use Rattle.sweep_core.proofs.Repeated.{no-finer-fed}
 use Rattle.sweep_core.proofs.Items.{item-left, pushed-waits, pushed-caught}
 use Rattle.sweep_core.proofs.pass.feed_item.Goals as goal
-use Rattle.sweep_core.proofs.pass.feed_item.Goals.{else-count-gt0-via-then-count-gt0+then-push+else-is_full}
-use Rattle.sweep_core.proofs.pass.feed_item.Goals.{else-count-gt0-via-then-count-gt0+else-push}
-use Rattle.sweep_core.proofs.pass.feed_item.Goals.{else-count-gt0-via-else-count-gt0}
 
 pub feed-requires-clause-few : goal.feed-requires-clause-few
 feed-requires-clause-few c =
@@ -54,43 +51,24 @@ returns-then-is_full-clause-finest c =
           (no-finer-fed finest.0 c.push.new.self.waiting c.args.profiles.now finest.2),
     )
 
+pub returns-else-is_full-clause-caught : goal.returns-else-is_full-clause-caught
+returns-else-is_full-clause-caught c = λ kind counted.
+    let old = c.args.batch.now in let b = c.push.new.self in let xs = c.args.profiles.now in
+    let finest = c.requires.finest in let pushed = c.push.ensures in
+    pushed-caught finest.0 xs finest.2 old.added old.waiting c.requires.waiting c.args.item.addr
+    c.args.count b pushed.added (pushed.waiting finest.0 finest.1) c.if-count-gt0.true kind
+    c.args.item.op counted
+
+pub returns-else-is_full-clause-waiting : goal.returns-else-is_full-clause-waiting
+returns-else-is_full-clause-waiting c =
+    let old = c.args.batch.now in let b = c.push.new.self in let xs = c.args.profiles.now in
+    let finest = c.requires.finest in let pushed = c.push.ensures in
+    pushed-waits finest.0 xs finest.2 old.added old.waiting c.requires.waiting c.args.item.addr
+    c.args.count b pushed.added (pushed.waiting finest.0 finest.1) c.if-count-gt0.true
+
 pub returns-else-count-gt0-clause-caught : goal.returns-else-count-gt0-clause-caught
 returns-else-count-gt0-clause-caught c = λ kind counted.
-    let old = c.args.batch.now in let xs = c.args.profiles.now in let a = c.args.item.addr in
-    let op = c.args.item.op in let finest = c.requires.finest in let count = c.args.count in
-    elim c.else-count-gt0.branch [
-      | else-count-gt0-via-then-count-gt0+then-push+else-is_full w ↦
-          ap (λ b. profiles_with_fronts b.added (profiles_after_batch b.waiting xs)) w.batch-is
-          ∙ pushed-caught finest.0 xs finest.2 old.added old.waiting c.requires.waiting a count
-          w.push.new.self w.push.ensures.added (w.push.ensures.waiting finest.0 finest.1)
-          w.if-count-gt0.true kind op counted
-      | else-count-gt0-via-then-count-gt0+else-push w ↦
-          ap (λ b. profiles_with_fronts b.added (profiles_after_batch b.waiting xs)) w.batch-is
-          ∙ pushed-caught finest.0 xs finest.2 old.added old.waiting c.requires.waiting a count
-          w.push.new.self w.push.ensures.added (w.push.ensures.waiting finest.0 finest.1)
-          w.if-count-gt0.true kind op counted
-      | else-count-gt0-via-else-count-gt0 w ↦
-          let none : kept_count kind op ≤ 0 = omega (arith, counted, w.if-count-gt0.false) in
-          ap (λ b. profiles_with_fronts b.added (profiles_after_batch b.waiting xs)) w.batch-is
-          ∙ item-left kind op a
-          (profiles_with_fronts old.added (profiles_after_batch old.waiting xs)) none
-    ]
-
-pub returns-else-count-gt0-clause-waiting : goal.returns-else-count-gt0-clause-waiting
-returns-else-count-gt0-clause-waiting c =
-    let old = c.args.batch.now in let xs = c.args.profiles.now in let a = c.args.item.addr in
-    let finest = c.requires.finest in let count = c.args.count in
-    elim c.else-count-gt0.branch [
-      | else-count-gt0-via-then-count-gt0+then-push+else-is_full w ↦
-          subst (λ b. AreWaiting b.added b.waiting xs) (sym w.batch-is)
-          (pushed-waits finest.0 xs finest.2 old.added old.waiting c.requires.waiting a count
-          w.push.new.self w.push.ensures.added (w.push.ensures.waiting finest.0 finest.1)
-          w.if-count-gt0.true)
-      | else-count-gt0-via-then-count-gt0+else-push w ↦
-          subst (λ b. AreWaiting b.added b.waiting xs) (sym w.batch-is)
-          (pushed-waits finest.0 xs finest.2 old.added old.waiting c.requires.waiting a count
-          w.push.new.self w.push.ensures.added (w.push.ensures.waiting finest.0 finest.1)
-          w.if-count-gt0.true)
-      | else-count-gt0-via-else-count-gt0 w ↦
-          subst (λ b. AreWaiting b.added b.waiting xs) (sym w.batch-is) c.requires.waiting
-    ]
+    let old = c.args.batch.now in
+    let none : kept_count kind c.args.item.op ≤ 0 = omega (arith, counted, c.if-count-gt0.false) in
+    item-left kind c.args.item.op c.args.item.addr
+    (profiles_with_fronts old.added (profiles_after_batch old.waiting c.args.profiles.now)) none
