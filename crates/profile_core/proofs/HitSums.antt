@@ -1,9 +1,9 @@
 -- Hit sums that go on from one associativity to a larger one.
-use Rattle.std.proofs.Common.{◌≡◌, ℕ, zero, suc, ◌+◌, ◌-◌, ◌≤◌, List, [], ◌∷◌, set, length}
-use Rattle.std.proofs.Common.{length-drop, take, drop, sum, refl, sym, ◌∙◌, ap, arith}
+use Rattle.std.proofs.Common.{◌≡◌, ℕ, ◌+◌, ◌-◌, ◌≤◌, List}
+use Rattle.std.proofs.Common.{take, drop, sum, sym, ◌∙◌, ap, arith}
 use Rattle.cache_core.specs.declared.outcome.Counts.{Counts}
 use Rattle.profile_core.specs.profile.State.{ProfileState, HitSumsState, hit_sums_at, counts_at}
-use Rattle.std.proofs.lemmas.List.{take-take, take_all, drop-take}
+use Rattle.std.proofs.lemmas.List.{take-take, drop-take}
 use Rattle.std.proofs.lemmas.List.Sums.{sum_by-take-drop, sum_by-take-le}
 
 -- the first numbers of a histogram, and those up to a later index
@@ -23,17 +23,6 @@ sum-more xs from to le =
 -- the first numbers of a histogram, and the others
 pub sum-split : (xs : List ℕ) (e : ℕ) → sum (take e xs) + sum (drop e xs) ≡ sum xs
 sum-split xs e = omega (arith, sum_by-take-drop (λ n. n) xs e)
-
--- the first number has no part in those from a later index on
-pub drop-later : (ns : List ℕ) (h k : ℕ) → 1 ≤ k → drop k (set ns 0 h) ≡ drop k ns
-drop-later [] h k some = refl
-drop-later (n ∷ ns) h zero some = absurd (omega (arith, some))
-drop-later (n ∷ ns) h (suc k) some = refl
-
--- all numbers without those from a later index on
-pub sum-rest : (ns : List ℕ) (h to : ℕ) → 1 ≤ to → sum (take to (set ns 0 h)) + sum
-    (take (length ns - to) (drop to ns)) ≡ sum (set ns 0 h)
-sum-rest ns h to some = grind (arith, take_all, length-drop, sum-split, drop-later)
 
 -- what a step of hit sums adds up: the numbers of two histograms between two associativities
 pub record IsStep (v : ProfileState) (from to hits free fed more_hits more_free : ℕ) : Type 0 where

@@ -3,6 +3,7 @@ pub mod Steps
 pub mod Stands
 pub mod Counting
 pub mod Weighing
+pub mod Comparing
 pub mod Feeding
 pub mod Fed
 pub mod Fronts

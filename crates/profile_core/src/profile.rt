@@ -162,14 +162,14 @@ impl Profile {
         ensures length { length addrs.new ≡ length addrs.old }
     {
         match (&mut self.kept, &mut next.kept) {
-            (KeptProfile::InSparseRows(first), KeptProfile::InSparseRows(second)) =>
-                first.feed_each_to_two(second, addrs),
             (KeptProfile::InRows(first), KeptProfile::InRows(second)) => first.feed_each_to_two(
                 second, addrs,
             ),
             (KeptProfile::InSlots(first), KeptProfile::InSlots(second)) => first.feed_each_to_two(
                 second, addrs,
             ),
+            (KeptProfile::InSparseRows(first), KeptProfile::InSparseRows(second)) =>
+                first.feed_each_to_two(second, addrs),
             (KeptProfile::Long(first), KeptProfile::Long(second)) => first.feed_each_to_two(
                 second, addrs,
             ),

@@ -1,13 +1,10 @@
 -- The sums of a profile's numbers.
-use Rattle.std.proofs.Common.{◌≡◌, ℕ, ◌+◌, ◌-◌, ◌≤◌, ◌^◌, List, length, take, drop, sum}
+use Rattle.std.proofs.Common.{◌≡◌, ℕ, ◌+◌, ◌-◌, ◌≤◌, ◌^◌, List, take, drop, sum}
 use Rattle.std.proofs.Common.{ap, arith}
 use Rattle.cache_core.specs.Geometry.{GeometryValue}
 use Rattle.trace_core.specs.declared.events.Access.{Access}
 use Rattle.trace_core.specs.declared.events.Access.TheVariants.{Fetch, Read, Write}
-use Rattle.profile_core.specs.internal.profile.StackProfile.{weighed, distances_of, compared_behind}
-use Rattle.profile_core.proofs.HitSums.{sum-rest, sum-more, sum-split}
-use Rattle.profile_core.proofs.profile.Feeding.{sum-distances}
-use Rattle.profile_core.proofs.profile.Weighing.{weighed-more}
+use Rattle.profile_core.proofs.HitSums.{sum-more, sum-split}
 use Rattle.std.proofs.Common.{get_or}
 use Rattle.std.proofs.lemmas.List.{get_or_read}
 use Rattle.full_profile.proofs.profile.Fit.{kind_within}
@@ -20,35 +17,18 @@ use Rattle.full_profile.specs.internal.Copies.{CopiesValue}
 use Rattle.full_profile.specs.internal.Marked.{Marked}
 use Rattle.full_profile.specs.internal.Sound.{IsFullSound, full_state_of}
 
-module _ {g : GeometryValue} {m : Marked} {behind missed : List ℕ} {probes : ℕ}
-    {kinds : List KindState} {copies : CopiesValue}
-    (h : IsFullSound g m behind missed probes kinds copies) where
-  -- the comparisons of all that were not found in front
-  pub told : weighed 0 behind + sum behind + weighed 0 missed ≤ probes
-  told = omega (arith, h.plain.told, weighed-more 0 behind)
-
-  pub all_distances : sum (distances_of probes behind missed)
-      ≡ probes - compared_behind behind missed + sum behind
-  all_distances = sum-distances probes behind missed h.plain.none_in_front
-
-  pub hits_are : probes - weighed 0 behind - weighed 0 missed
-      ≡ sum (distances_of probes behind missed)
-  hits_are = omega (arith, all_distances, weighed-more 0 behind, h.plain.told)
-
-  pub behind_few : sum behind ≤ 2 ^ 41
-  behind_few = omega (arith, all_distances, h.plain.fed)
+module _ {g : GeometryValue} {m : Marked} {distances missed : List ℕ} {kinds : List KindState}
+    {copies : CopiesValue}
+    (h : IsFullSound g m distances missed kinds copies) where
+  pub distances_few : sum distances ≤ 2 ^ 41
+  distances_few = omega (arith, h.plain.fed)
 
   pub missed_few : sum missed ≤ 2 ^ 41
   missed_few = omega (arith, h.plain.fed)
 
-  -- the hits at a distance below `to`, and the others
-  pub hits_split : (to : ℕ) → 1 ≤ to → sum (take to (distances_of probes behind missed))
-      + sum (take (length behind - to) (drop to behind)) ≡ sum (distances_of probes behind missed)
-  hits_split to some = sum-rest behind (probes - compared_behind behind missed) to some
-
   -- what is counted of a kind, as it is read
   pub kind_at : (a : Access) {s : KindState} → s ≡ get_or kinds (kind_number a) s →
-      s ≡ kind_of (full_state_of g m behind missed probes kinds copies) a
+      s ≡ kind_of (full_state_of g m distances missed kinds copies) a
   kind_at a {s} read = get_or_read kinds (kind_number a) s
       (omega (arith, kind_within a, h.fit.kind_count)) read (empty_kind g)
 

@@ -127,24 +127,25 @@ unsettled_write false w b written other = refl
 unsettled_write true w b written other = ap (λ t. not t || eqb b 0) written ∙ ne_eqb b 0 other
 
 -- the code writes the front
-module _ {g : GeometryValue} {m : Marked} {behind missed : List ℕ} {probes : ℕ}
-    {kinds : List KindState} {copies : CopiesValue}
-    (h : IsFullSound g m behind missed probes kinds copies) (m' : Marked) (k x : ℕ)
+module _ {g : GeometryValue} {m : Marked} {distances missed : List ℕ} {kinds : List KindState}
+    {copies : CopiesValue}
+    (h : IsFullSound g m distances missed kinds copies) (m' : Marked) (k x : ℕ)
     (access : Access) (of_set : k ≡ set_of_block g x) (front : is_front x (blocks_in m k) ≡ true)
-    (written : is_write access ≡ true) (moved : m' ≡ after_write_in_front m k) where
+    (written : is_write access ≡ true) (moved : m' ≡ after_write_in_front m k) {n : ℕ}
+    (read : n ≡ get_or distances 0 n) where
   abbrev state : FullState
-  state = full_state_of g m behind missed probes kinds copies
+  state = full_state_of g m distances missed kinds copies
 
   front_there : is_front x (list_of state.plain (set_of_block g x)) ≡ true
   front_there = ap (λ j. is_front x (blocks_in m j)) (sym of_set) ∙ front
 
-  pub written_after : full_state_of g m' behind missed (probes + 1) kinds copies
+  pub written_after : full_state_of g m' (set distances 0 (n + 1)) missed kinds copies
       ≡ after_reference_in_lists state access x (list_of state.plain (set_of_block g x))
       (cleans_of state (set_of_block g x))
   written_after =
-      ap (λ l. full_state_of g l behind missed (probes + 1) kinds copies) moved
+      ap (λ l. full_state_of g l (set distances 0 (n + 1)) missed kinds copies) moved
       ∙ ap (λ (w : FullState). record w { cleans = set m.cleans k (set (cleans_in m k) 0 0) })
-      (settled_is h 1)
+      (settled_is h read 1)
       ∙ ap (λ j. record (after_settled 1 state) {
         cleans = set m.cleans j (set (cleans_in m j) 0 0);
       }) of_set
@@ -155,10 +156,9 @@ module _ {g : GeometryValue} {m : Marked} {behind missed : List ℕ} {probes : �
       ∙ sym (front_is h.fit (plain_fit h) access x front_there)
 
   pub written_sound : fed_of state.plain + 1 ≤ most_references →
-      IsFullSound g m' behind missed (probes + 1) kinds copies
+      IsFullSound g m' (set distances 0 (n + 1)) missed kinds copies
   written_sound few = record {
-    limits = h.limits;
-    plain = subst (λ l. IsSound g l behind missed (probes + 1)) (sym (ap plain_lists moved))
-        (counted_sound h.plain refl 1 few);
+    plain = subst (λ l. IsSound g l (set distances 0 (n + 1)) missed) (sym (ap plain_lists moved))
+        (counted_sound h.plain refl read 1 few);
     fit = subst IsFullFit (sym written_after) (fit_after h.fit (plain_fit h) access x);
   }

@@ -1,9 +1,8 @@
 -- Lists and numbers that stand for a profile, after each step of the code.
 use Rattle.std.proofs.Common.{◌≡◌, ℕ, ◌+◌, ◌-◌, ◌<◌, ◌≤◌, ◌^◌, Bool, true, false, cond, eqb}
-use Rattle.std.proofs.Common.{List, [], ◌∷◌, length, get_or, set, sum, refl, sym, ◌∙◌, ap, subst}
+use Rattle.std.proofs.Common.{List, [], length, get_or, set, sum, refl, sym, ◌∙◌, ap, subst}
 use Rattle.std.proofs.Common.{arith}
 use Rattle.std.specs.List.{sum_by}
-use Rattle.std.proofs.Math.Nat.{mul-le-mul_right}
 use Rattle.std.proofs.lemmas.Bool.{eqb-true}
 use Rattle.std.specs.Prelude.{replicate}
 use Rattle.std.proofs.lemmas.List.{get_or_read, length-replicate}
@@ -14,13 +13,12 @@ use Rattle.profile_core.specs.profile.RecencyList.{index_of, is_in, is_front}
 use Rattle.profile_core.specs.internal.profile.StackProfile.{IsSound, IsNext}
 use Rattle.profile_core.specs.profile.State.{fed_of}
 use Rattle.profile_core.specs.profile.State.{one_more_at, after_reference}
-use Rattle.profile_core.specs.internal.profile.StackProfile.{compared_behind}
 use Rattle.profile_core.specs.internal.profile.StackProfile.{most_references}
 use Rattle.profile_core.specs.internal.profile.StackProfile.{IsFit}
 use Rattle.profile_core.proofs.profile.Feeding.{FoundAt, FoundNowhere, new_is, new_sound}
 use Rattle.profile_core.proofs.profile.Fed.{IsMoved, found_after, found_sound, nowhere_after}
 use Rattle.profile_core.proofs.profile.Fed.{nowhere_sound}
-use Rattle.profile_core.proofs.profile.Fronts.{fit_inside, counted_sound}
+use Rattle.profile_core.proofs.profile.Fronts.{fit_inside, counted_after, counted_sound}
 use Rattle.full_profile.specs.State.{FullState, KindState, kind_number, kind_of}
 use Rattle.full_profile.specs.State.{after_reference_in_lists, with_miss, empty_kind}
 use Rattle.full_profile.specs.State.{after_emptying, empty_full}
@@ -49,17 +47,11 @@ behind_parts true e h c p q r n is = (refl, cc, cc)
 behind_parts false true h c p q r n is = absurd (cc)
 behind_parts false false h c p q r n is = absurd (cc)
 
--- settled references, counted
-counted : (behind : List ℕ) (p q n : ℕ) → q ≤ p → set behind 0 (p + n - q) ≡ set
-    (set behind 0 (p - q)) 0 (get_or (set behind 0 (p - q)) 0 0 + n)
-counted [] p q n le = refl
-counted (y ∷ bs) p q n le = ap (λ m. m ∷ bs) (omega (arith, le))
-
-module _ {g : GeometryValue} {m : Marked} {behind missed : List ℕ} {probes : ℕ}
+module _ {g : GeometryValue} {m : Marked} {distances missed : List ℕ}
     {kinds : List KindState} {copies : CopiesValue}
-    (h : IsFullSound g m behind missed probes kinds copies) where
+    (h : IsFullSound g m distances missed kinds copies) where
   abbrev state : FullState
-  state = full_state_of g m behind missed probes kinds copies
+  state = full_state_of g m distances missed kinds copies
 
   pub plain_fit : IsFit state.plain
   plain_fit = fit_inside h.plain refl
@@ -85,52 +77,35 @@ module _ {g : GeometryValue} {m : Marked} {behind missed : List ℕ} {probes : �
     few = omega (arith, above_few, up_to_few);
   }
 
-  pub probes_few : probes ≤ 2 ^ 57
-  probes_few = omega (
-    arith,
-    h.plain.compared,
-    h.plain.fed,
-    h.limits.ways,
-    mul-le-mul_right g.e h.plain.fed,
-  )
-
   pub next_inside : {v : FullState} → state ≡ v → {k x : ℕ} → IsNext v.plain k x →
       IsNext state.plain k x
   next_inside {v} seen {k} {x} next = subst (λ (w : FullState). IsNext w.plain k x) (sym seen) next
 
   -- references that are settled
-  pub settled_is : (n : ℕ) →
-      full_state_of g m behind missed (probes + n) kinds copies ≡ after_settled n state
-  settled_is n = ap (λ ds. record state {
-    plain = record {
-      geometry = g;
-      lists = m.blocks;
-      distances = ds;
-      misses_by_occupancy = missed;
-      probes = probes + n;
-    };
-  }) (counted behind probes (compared_behind behind missed) n h.plain.told)
+  module _ {n : ℕ} (read : n ≡ get_or distances 0 n) (count : ℕ) where
+    pub settled_is : full_state_of g m (set distances 0 (n + count)) missed kinds copies
+        ≡ after_settled count state
+    settled_is = ap (λ p. record state { plain = p }) (counted_after h.plain refl read count)
 
-  pub settled_sound : (n : ℕ) → fed_of state.plain + n ≤ most_references →
-      IsFullSound g m behind missed (probes + n) kinds copies
-  settled_sound n few = record {
-    limits = h.limits;
-    plain = counted_sound h.plain refl n few;
-    fit = subst IsFullFit (sym (settled_is n)) (fit_settled h.fit n);
-  }
+    pub settled_sound : fed_of state.plain + count ≤ most_references →
+        IsFullSound g m (set distances 0 (n + count)) missed kinds copies
+    settled_sound few = record {
+      plain = counted_sound h.plain refl read count few;
+      fit = subst IsFullFit (sym settled_is) (fit_settled h.fit count);
+    }
 
 -- a reference to block x of set k, which is not its front; the lists are m' then
-pub record IsAccessed (g : GeometryValue) (m m' : Marked) (behind missed : List ℕ) (probes : ℕ)
+pub record IsAccessed (g : GeometryValue) (m m' : Marked) (distances missed : List ℕ)
     (kinds : List KindState) (copies : CopiesValue) (k x : ℕ) (access : Access) : Type 0 where
-  pub sound : IsFullSound g m behind missed probes kinds copies
-  pub next : IsNext (full_state_of g m behind missed probes kinds copies).plain k x
+  pub sound : IsFullSound g m distances missed kinds copies
+  pub next : IsNext (full_state_of g m distances missed kinds copies).plain k x
   pub moved : m' ≡ after_access m k x access
 
-module _ {g : GeometryValue} {m m' : Marked} {behind missed : List ℕ} {probes : ℕ}
+module _ {g : GeometryValue} {m m' : Marked} {distances missed : List ℕ}
     {kinds : List KindState} {copies : CopiesValue} {k x : ℕ} {access : Access}
-    (a : IsAccessed g m m' behind missed probes kinds copies k x access) where
+    (a : IsAccessed g m m' distances missed kinds copies k x access) where
   abbrev was : FullState
-  was = full_state_of g m behind missed probes kinds copies
+  was = full_state_of g m distances missed kinds copies
 
   abbrev xs : List ℕ
   xs = blocks_in m k
@@ -138,7 +113,7 @@ module _ {g : GeometryValue} {m m' : Marked} {behind missed : List ℕ} {probes 
   abbrev ms : List ℕ
   ms = cleans_in m k
 
-  pub is_moved : IsMoved g (plain_lists m) (plain_lists m') behind missed probes x k was.plain
+  pub is_moved : IsMoved g (plain_lists m) (plain_lists m') distances missed x k was.plain
   is_moved = record {
     sound = a.sound.plain;
     view_is = refl;
@@ -147,15 +122,15 @@ module _ {g : GeometryValue} {m m' : Marked} {behind missed : List ℕ} {probes 
   }
 
   -- what the reference gives, if plain part, kinds and copybacks are as they should be
-  step_is : (behind' missed' : List ℕ) (probes' : ℕ) (kinds' : List KindState)
-      (copies' : CopiesValue) → (full_state_of g m' behind' missed' probes' kinds' copies').plain
+  step_is : (distances' missed' : List ℕ) (kinds' : List KindState)
+      (copies' : CopiesValue) → (full_state_of g m' distances' missed' kinds' copies').plain
       ≡ after_reference was.plain x →
       kinds' ≡ set kinds (kind_number access) (with_miss x xs (kind_of was access)) →
       copies' ≡ copies_after g.e x xs ms copies →
-      full_state_of g m' behind' missed' probes' kinds' copies'
+      full_state_of g m' distances' missed' kinds' copies'
       ≡ after_reference_in_lists was access x xs ms
-  step_is behind' missed' probes' kinds' copies' plain_is kinds_are copies_are =
-      let after = full_state_of g m' behind' missed' probes' kinds' copies' in
+  step_is distances' missed' kinds' copies' plain_is kinds_are copies_are =
+      let after = full_state_of g m' distances' missed' kinds' copies' in
       let cleans_are : m'.cleans ≡ set m.cleans (set_of_block g x)
       (cleans_after g.e access x xs ms) =
       ap (λ l. l.cleans) a.moved
@@ -168,11 +143,11 @@ module _ {g : GeometryValue} {m m' : Marked} {behind missed : List ℕ} {probes 
       state_same after _ plain_is cleans_are other copies_are
       ∙ sym (reference_is was access x xs ms)
 
-  step_fit : (behind' missed' : List ℕ) (probes' : ℕ) (kinds' : List KindState)
-      (copies' : CopiesValue) → full_state_of g m' behind' missed' probes' kinds' copies'
+  step_fit : (distances' missed' : List ℕ) (kinds' : List KindState)
+      (copies' : CopiesValue) → full_state_of g m' distances' missed' kinds' copies'
       ≡ after_reference_in_lists was access x xs ms →
-      IsFullFit (full_state_of g m' behind' missed' probes' kinds' copies')
-  step_fit behind' missed' probes' kinds' copies' is = subst IsFullFit (sym is)
+      IsFullFit (full_state_of g m' distances' missed' kinds' copies')
+  step_fit distances' missed' kinds' copies' is = subst IsFullFit (sym is)
       (subst (λ j. IsFullFit (after_reference_in_lists was access x (blocks_in m j)
       (cleans_in m j))) (sym a.next.of_set) (fit_after a.sound.fit (plain_fit a.sound) access x))
 
@@ -201,7 +176,7 @@ module _ {g : GeometryValue} {m m' : Marked} {behind missed : List ℕ} {probes 
       found_within = omega (arith, found_at.within, a.sound.plain.short k)
 
       module _ {n i : ℕ} {s t : KindState} {copies' : CopiesValue}
-          (read : n ≡ get_or behind distance n) (is : i ≡ kind_number access)
+          (read : n ≡ get_or distances distance n) (is : i ≡ kind_number access)
           (kind : s ≡ get_or kinds i s)
           (miss : t ≡ record s { behind = one_more_at s.behind distance })
           (copied : copies' ≡ with_copy clean distance copies) where
@@ -227,20 +202,17 @@ module _ {g : GeometryValue} {m m' : Marked} {behind missed : List ℕ} {probes 
             (cond (eqb (length xs) g.e) (with_copy (get_or ms (g.e - 1) 0) g.e copies) copies))
             parts.0)
 
-        pub behind_after : full_state_of g m' (set behind distance (n + 1)) missed
-            (probes + (distance + 1)) (set kinds i t) copies'
-            ≡ after_reference_in_lists was access x xs ms
-        behind_after = step_is (set behind distance (n + 1)) missed (probes + (distance + 1))
-            (set kinds i t) copies' (found_after is_moved found_at read refl) kinds_found
-            copies_found
+        pub behind_after : full_state_of g m' (set distances distance (n + 1)) missed
+            (set kinds i t) copies' ≡ after_reference_in_lists was access x xs ms
+        behind_after = step_is (set distances distance (n + 1)) missed (set kinds i t) copies'
+            (found_after is_moved found_at read) kinds_found copies_found
 
-        pub behind_sound : IsFullSound g m' (set behind distance (n + 1)) missed
-            (probes + (distance + 1)) (set kinds i t) copies'
+        pub behind_sound : IsFullSound g m' (set distances distance (n + 1)) missed
+            (set kinds i t) copies'
         behind_sound = record {
-          limits = a.sound.limits;
-          plain = found_sound is_moved found_at read refl;
-          fit = step_fit (set behind distance (n + 1)) missed (probes + (distance + 1))
-              (set kinds i t) copies' behind_after;
+          plain = found_sound is_moved found_at read;
+          fit = step_fit (set distances distance (n + 1)) missed (set kinds i t) copies'
+              behind_after;
         }
 
   -- not found, in a list that has room
@@ -329,73 +301,66 @@ module _ {g : GeometryValue} {m m' : Marked} {behind missed : List ℕ} {probes 
         (cond (eqb (length xs) g.e) (with_copy (get_or ms (g.e - 1) 0) g.e copies) copies))
         absent.outside)
 
-    pub missed_after : full_state_of g m' behind (set missed len (n + 1)) (probes + len)
-        (set kinds i t) copies' ≡ after_reference_in_lists was access x xs ms
-    missed_after = step_is behind (set missed len (n + 1)) (probes + len) (set kinds i t) copies'
-        (nowhere_after is_moved absent read refl) kinds_missed copies_missed
+    pub missed_after : full_state_of g m' distances (set missed len (n + 1)) (set kinds i t) copies'
+        ≡ after_reference_in_lists was access x xs ms
+    missed_after = step_is distances (set missed len (n + 1)) (set kinds i t) copies'
+        (nowhere_after is_moved absent read) kinds_missed copies_missed
 
-    pub missed_sound : IsFullSound g m' behind (set missed len (n + 1)) (probes + len)
-        (set kinds i t) copies'
+    pub missed_sound : IsFullSound g m' distances (set missed len (n + 1)) (set kinds i t) copies'
     missed_sound = record {
-      limits = a.sound.limits;
-      plain = nowhere_sound is_moved absent read refl;
-      fit = step_fit behind (set missed len (n + 1)) (probes + len) (set kinds i t) copies'
-          missed_after;
+      plain = nowhere_sound is_moved absent read;
+      fit = step_fit distances (set missed len (n + 1)) (set kinds i t) copies' missed_after;
     }
 
 -- lists that are emptied
-module _ {g : GeometryValue} {m : Marked} {behind missed : List ℕ} {probes : ℕ}
+module _ {g : GeometryValue} {m : Marked} {distances missed : List ℕ}
     {kinds : List KindState} {copies : CopiesValue}
-    (h : IsFullSound g m behind missed probes kinds copies) (e : Emptying) (m' : Marked)
+    (h : IsFullSound g m distances missed kinds copies) (e : Emptying) (m' : Marked)
     (copies' : CopiesValue) (none : m' ≡ emptied m)
     (counted : copies' ≡ with_all_copies (up_to_of e m.depth) m.cleans copies) where
   sets : length m.blocks ≡ 2 ^ g.s
   sets = h.plain.set_count
 
-  pub emptied_after : full_state_of g m' behind missed probes kinds copies'
-      ≡ after_emptying (up_to_of e g.e) (full_state_of g m behind missed probes kinds copies)
+  pub emptied_after : full_state_of g m' distances missed kinds copies'
+      ≡ after_emptying (up_to_of e g.e) (full_state_of g m distances missed kinds copies)
   emptied_after =
-      let s = full_state_of g m behind missed probes kinds copies in
+      let s = full_state_of g m distances missed kinds copies in
       let blocks : m'.blocks ≡ replicate (2 ^ g.s) [] =
       ap (λ l. l.blocks) none ∙ ap (λ n. replicate n []) sets in
       let cleans : m'.cleans ≡ replicate (2 ^ g.s) [] =
       ap (λ l. l.cleans) none ∙ ap (λ n. replicate n []) (h.fit.set_count ∙ sets) in
-      state_same (full_state_of g m' behind missed probes kinds copies') _
+      state_same (full_state_of g m' distances missed kinds copies') _
       (ap (λ ls. record s.plain { lists = ls }) blocks) cleans refl
       (counted ∙ ap (λ d. with_all_copies (up_to_of e d) m.cleans copies) h.plain.depth)
       ∙ sym (emptying_is (up_to_of e g.e) s)
 
-  pub emptied_sound : IsFullSound g m' behind missed probes kinds copies'
+  pub emptied_sound : IsFullSound g m' distances missed kinds copies'
   emptied_sound = record {
-    limits = h.limits;
-    plain = subst (λ l. IsSound g l behind missed probes) (sym (ap plain_lists none)) (record {
+    plain = subst (λ l. IsSound g l distances missed) (sym (ap plain_lists none)) (record {
+      geometry = h.plain.geometry;
       depth = h.plain.depth;
       set_count = length-replicate (length m.blocks) [] ∙ sets;
       short = λ k. omega (arith, ap length (all_same {A = List ℕ} (length m.blocks) k []));
-      behind_count = h.plain.behind_count;
-      none_in_front = h.plain.none_in_front;
+      distance_count = h.plain.distance_count;
       occupancy_count = h.plain.occupancy_count;
-      told = h.plain.told;
       fed = h.plain.fed;
-      compared = h.plain.compared;
     });
     fit = subst IsFullFit (sym emptied_after) (fit_emptied h.fit (plain_fit h) e);
   }
 
 -- a profile that was fed nothing
-module _ (g : GeometryValue) (m : Marked) (behind missed : List ℕ) (kinds : List KindState)
+module _ (g : GeometryValue) (m : Marked) (distances missed : List ℕ) (kinds : List KindState)
     (copies : CopiesValue) (limits : IsGeometry g) (none : m ≡ empty_marked (2 ^ g.s) g.e)
-    (near : behind ≡ replicate g.e 0) (far : missed ≡ replicate (g.e + 1) 0)
+    (near : distances ≡ replicate g.e 0) (far : missed ≡ replicate (g.e + 1) 0)
     (kinds_are : kinds ≡ replicate 3 (empty_kind g)) (copies_are : copies ≡ no_copies g.e) where
-  pub new_full : full_state_of g m behind missed 0 kinds copies ≡ empty_full g
-  new_full = state_same (full_state_of g m behind missed 0 kinds copies) (empty_full g)
-      (new_is g (plain_lists m) behind missed (ap (λ l. l.blocks) none) near far)
+  pub new_full : full_state_of g m distances missed kinds copies ≡ empty_full g
+  new_full = state_same (full_state_of g m distances missed kinds copies) (empty_full g)
+      (new_is g (plain_lists m) distances missed (ap (λ l. l.blocks) none) near far)
       (ap (λ l. l.cleans) none) kinds_are copies_are
 
-  pub new_full_sound : IsFullSound g m behind missed 0 kinds copies
+  pub new_full_sound : IsFullSound g m distances missed kinds copies
   new_full_sound = record {
-    limits = limits;
-    plain = new_sound g (plain_lists m) behind missed (ap (λ l. l.depth) none)
-        (ap (λ l. l.blocks) none) limits.some near far;
+    plain = new_sound g (plain_lists m) distances missed limits (ap (λ l. l.depth) none)
+        (ap (λ l. l.blocks) none) near far;
     fit = subst IsFullFit (sym new_full) (fit_empty g);
   }

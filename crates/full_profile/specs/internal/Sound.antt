@@ -1,8 +1,8 @@
 -- The invariant of a full profile.
 use Rattle.std.specs.Prelude.{ℕ, ◌≡◌, ◌≤◌, ◌+◌, List, length, take, sum, sum_by}
 use Rattle.trace_core.specs.declared.events.Access.{Access}
-use Rattle.cache_core.specs.Geometry.{GeometryValue, IsGeometry}
-use Rattle.profile_core.specs.internal.profile.StackProfile.{IsSound, distances_of}
+use Rattle.cache_core.specs.Geometry.{GeometryValue}
+use Rattle.profile_core.specs.internal.profile.StackProfile.{IsSound, compared}
 use Rattle.profile_core.specs.profile.State.{list_of, fed_of}
 use Rattle.profile_core.specs.internal.set_lists.Lists.{Lists}
 use Rattle.full_profile.specs.State.{FullState, KindState, cleans_of, kind_of}
@@ -29,15 +29,15 @@ abbrev pub plain_lists : Marked → Lists
 plain_lists m = record { depth = m.depth; lists = m.blocks }
 
 -- the profile that lists and numbers stand for
-abbrev pub full_state_of : GeometryValue → Marked → List ℕ → List ℕ → ℕ → List KindState →
+abbrev pub full_state_of : GeometryValue → Marked → List ℕ → List ℕ → List KindState →
     CopiesValue → FullState
-full_state_of g m behind missed probes kinds copies = record {
+full_state_of g m distances missed kinds copies = record {
   plain = record {
     geometry = g;
     lists = m.blocks;
-    distances = distances_of probes behind missed;
+    distances = distances;
     misses_by_occupancy = missed;
-    probes = probes;
+    probes = compared distances missed;
   };
   cleans = m.cleans;
   kinds = kinds;
@@ -46,8 +46,7 @@ full_state_of g m behind missed probes kinds copies = record {
 }
 
 -- the invariant of a profile
-pub record IsFullSound (g : GeometryValue) (m : Marked) (behind missed : List ℕ) (probes : ℕ)
+pub record IsFullSound (g : GeometryValue) (m : Marked) (distances missed : List ℕ)
     (kinds : List KindState) (copies : CopiesValue) : Type 0 where
-  pub limits : IsGeometry g
-  pub plain : IsSound g (plain_lists m) behind missed probes
-  pub fit : IsFullFit (full_state_of g m behind missed probes kinds copies)
+  pub plain : IsSound g (plain_lists m) distances missed
+  pub fit : IsFullFit (full_state_of g m distances missed kinds copies)

@@ -1,6 +1,6 @@
 //! A full profile whose lists are kept in one way, and how it is fed.
-ghost use Rattle.std.specs.Prelude.{◌≡◌, ◌+◌, ◌-◌, ◌^◌, ◌<◌, ◌≤◌, IfOk, true, false, length, take};
-ghost use Rattle.std.specs.Prelude.{drop, sum, replicate, if◌then◌else◌};
+ghost use Rattle.std.specs.Prelude.{◌≡◌, ◌+◌, ◌^◌, ◌<◌, ◌≤◌, IfOk, true, false, length, take, sum};
+ghost use Rattle.std.specs.Prelude.{replicate, if◌then◌else◌};
 ghost use Rattle.trace_core.specs.declared.events.Ref.{Ref};
 ghost use Rattle.profile_core.specs.profile.State.{fed_of};
 ghost use Rattle.profile_core.specs.internal.profile.StackProfile.{weighed, IsNext};
@@ -63,8 +63,7 @@ impl<L: MarkedLists> FullStackProfile<L> {
         Ok(FullStackProfile {
             geometry,
             numbers: Numbers {
-                probes: 0,
-                behind: vec![in alloc; 0; depth]?,
+                distances: vec![in alloc; 0; depth]?,
                 misses_by_occupancy: vec![in alloc; 0; depth + 1]?,
                 kinds: kinds(alloc, depth)?,
                 copies: Copies::new(alloc, depth)?,
@@ -168,7 +167,7 @@ impl<L: MarkedLists> FullStackProfile<L> {
             return true;
         }
         self.lists.write_front(set);
-        self.numbers.probes += 1;
+        self.numbers.distances[0] += 1;
         false
     }
 
@@ -181,19 +180,16 @@ impl<L: MarkedLists> FullStackProfile<L> {
     {
         match self.lists.bring(set, block, access) {
             MarkedTouch::Behind(distance, clean) => {
-                self.numbers.probes += distance as u64 + 1;
-                self.numbers.behind[distance] += 1;
+                self.numbers.distances[distance] += 1;
                 self.numbers.kinds[kind_index(access)].count_behind(distance);
                 self.numbers.copies.add(clean as usize, distance);
             }
             MarkedTouch::New(held) => {
-                self.numbers.probes += held as u64;
                 self.numbers.misses_by_occupancy[held] += 1;
                 self.numbers.kinds[kind_index(access)].count_missed();
             }
             MarkedTouch::Full(clean) => {
-                let depth = self.numbers.behind.len();
-                self.numbers.probes += depth as u64;
+                let depth = self.numbers.distances.len();
                 self.numbers.misses_by_occupancy[depth] += 1;
                 self.numbers.kinds[kind_index(access)].count_missed();
                 self.numbers.copies.add(clean as usize, depth);
@@ -207,7 +203,7 @@ impl<L: MarkedLists> FullStackProfile<L> {
         ensures step { self.new ≡ after_settled count self.old }
         ensures more { fed_of self.new.plain ≡ fed_of self.old.plain + count }
     {
-        self.numbers.probes += count;
+        self.numbers.distances[0] += count;
     }
 
     /// Empties the lists, and counts the copybacks of their blocks.
@@ -221,37 +217,15 @@ impl<L: MarkedLists> FullStackProfile<L> {
     pub fn probes(&self) -> u64
         ensures { result ≡ self.now.plain.probes }
     {
-        self.numbers.probes
+        let found = total(&self.numbers.distances) + weighed(&self.numbers.distances);
+        found + weighed(&self.numbers.misses_by_occupancy)
     }
 
     /// How many references were fed.
     pub fn fed(&self) -> u64
         ensures { result ≡ fed_of self.now.plain }
     {
-        self.hits() + total(&self.numbers.misses_by_occupancy)
-    }
-
-    /// How many references found their block: the comparisons, less `d` for each reference found at
-    /// distance `d`, less `n` for each that missed in a list of `n` blocks.
-    fn hits(&self) -> u64
-        ensures { result ≡ sum self.now.plain.distances }
-    {
-        let numbers = &self.numbers;
-        numbers.probes - weighed(&numbers.behind) - weighed(&numbers.misses_by_occupancy)
-    }
-
-    /// How many references hit at a stack distance in `from..to`.
-    fn hits_between(&self, from: usize, to: usize) -> u64
-        requires rising { from ≤ to }
-        requires some { 1 ≤ to }
-        requires within { to ≤ self.now.plain.geometry.e }
-        ensures { result ≡ sum (take (to - from) (drop from self.now.plain.distances)) }
-    {
-        if from == 0 {
-            self.hits() - total(&self.numbers.behind[to..])
-        } else {
-            total(&self.numbers.behind[from..to])
-        }
+        total(&self.numbers.distances) + total(&self.numbers.misses_by_occupancy)
     }
 
     /// What is counted of a kind of access.
@@ -292,7 +266,7 @@ impl<L: MarkedLists> FullStackProfile<L> {
         let (from, to) = (sums.ways, e as usize);
         let (above, up_to) = self.numbers.copies.ends_between(from, to);
         sums.ways = to;
-        sums.hits += self.hits_between(from, to);
+        sums.hits += total(&self.numbers.distances[from..to]);
         sums.free_misses += total(&self.numbers.misses_by_occupancy[from..to]);
         sums.fetch_misses -= self.kind(Access::Fetch).between(from, to);
         sums.read_misses -= self.kind(Access::Read).between(from, to);

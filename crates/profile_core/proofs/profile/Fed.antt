@@ -1,10 +1,9 @@
 -- A profile that was fed a reference whose block is not the front of its set's list: its fields are
 -- sound again, and they are those of
 -- the state after the reference.
-use Rattle.std.proofs.Common.{◌≡◌, ℕ, zero, suc, ◌+◌, ◌-◌, ◌*◌, ◌<◌, ◌≤◌, false, List, [], ◌∷◌}
-use Rattle.std.proofs.Common.{length, take, get_or, set, sum, refl, sym, ◌∙◌, ap, subst, arith}
-use Rattle.std.proofs.Common.{length-set, length-take}
-use Rattle.std.proofs.Math.Nat.{suc-mul}
+use Rattle.std.proofs.Common.{◌≡◌, ℕ, zero, suc, ◌+◌, ◌<◌, ◌≤◌, false, List, [], ◌∷◌, length, take}
+use Rattle.std.proofs.Common.{get_or, set, sum, sym, ◌∙◌, ap, refl, subst, arith, length-set}
+use Rattle.std.proofs.Common.{length-take}
 use Rattle.std.proofs.lemmas.List.{get_or_read}
 use Rattle.cache_core.specs.Geometry.{GeometryValue, set_of_block}
 use Rattle.profile_core.specs.declared.set_lists.recency.Standing.TheVariants.{Behind, New}
@@ -13,22 +12,20 @@ use Rattle.profile_core.specs.profile.RecencyList.{is_front, move_to_front}
 use Rattle.profile_core.specs.internal.set_lists.Moves.{standing_of}
 use Rattle.profile_core.specs.internal.set_lists.Lists.{Lists, lists_after_bring}
 use Rattle.profile_core.specs.profile.State.{ProfileState, list_of, fed_of, after_reference}
-use Rattle.profile_core.specs.internal.profile.StackProfile.{IsSound, IsNext, compared_behind}
-use Rattle.profile_core.specs.internal.profile.StackProfile.{distances_of, most_references}
-use Rattle.profile_core.specs.internal.profile.StackProfile.{profile_of, AreSound}
-use Rattle.profile_core.proofs.profile.Feeding.{FoundAt, FoundNowhere, behind_front, first-raised}
-use Rattle.profile_core.proofs.profile.Feeding.{raised_behind, sum-distances, after_fed, found_step}
+use Rattle.profile_core.specs.internal.profile.StackProfile.{IsSound, IsNext, compared}
+use Rattle.profile_core.specs.internal.profile.StackProfile.{most_references, profile_of, AreSound}
+use Rattle.profile_core.proofs.profile.Feeding.{FoundAt, FoundNowhere, after_fed, found_step}
 use Rattle.profile_core.proofs.profile.Feeding.{nowhere_step, found_behind, found_nowhere}
 use Rattle.profile_core.proofs.profile.Weighing.{raised_fits, weighed-raised}
 
 -- the value of a profile, by its fields
-abbrev pub state_of : GeometryValue → Lists → List ℕ → List ℕ → ℕ → ProfileState
-state_of g lists behind missed probes = record {
+abbrev pub state_of : GeometryValue → Lists → List ℕ → List ℕ → ProfileState
+state_of g lists distances missed = record {
   geometry = g;
   lists = lists.lists;
-  distances = distances_of probes behind missed;
+  distances = distances;
   misses_by_occupancy = missed;
-  probes = probes;
+  probes = compared distances missed;
 }
 
 -- a list that is set is as short as the others
@@ -41,69 +38,23 @@ short_set (l ∷ ls) zero e ys h le (suc i) = h (suc i)
 short_set (l ∷ ls) (suc k) e ys h le zero = h 0
 short_set (l ∷ ls) (suc k) e ys h le (suc i) = short_set ls k e ys (λ j. h (suc j)) le i
 
-at_most : (p p' m n d : ℕ) → p ≤ n → p' ≡ p + m → m ≤ d → p' ≤ n + d
-at_most p p' m n d h e k = omega arith
-
--- what is known of a profile's fields before a reference to block x
-module _ {g : GeometryValue} {was : Lists} {behind missed : List ℕ} {probes : ℕ} {v : ProfileState}
-    (h : IsSound g was behind missed probes)
-    (view_is : state_of g was behind missed probes ≡ v) (x : ℕ) where
-  pub one_more : fed_of (after_reference v x) ≡ fed_of v + 1
-  one_more =
-      let s : ProfileState = state_of g was behind missed probes in
-      let k : ℕ = set_of_block g x in
-      let long : length (distances_of probes behind missed) ≡ g.e =
-      length-set behind 0 (probes - compared_behind behind missed) ∙ h.behind_count in
-      subst (λ w. fed_of (after_reference w x) ≡ fed_of w + 1) view_is
-      (after_fed s x (omega (arith, long, h.short k)) (omega (arith, h.occupancy_count, h.short k)))
-
-  -- sound again, by the state after it
-  pub sound_after : {now : Lists} {behind' missed' : List ℕ} {probes' m : ℕ} →
-      state_of g now behind' missed' probes' ≡ after_reference v x
-      → now.depth ≡ was.depth → length now.lists ≡ length was.lists →
-      ((k : ℕ) → length (get_or now.lists k []) ≤ g.e)
-      → length behind' ≡ length behind → take 1 behind' ≡ take 1 behind →
-      length missed' ≡ length missed
-      → compared_behind behind' missed' ≤ probes' → probes' ≡ probes + m → m ≤ g.e →
-      fed_of v < most_references → IsSound g now behind' missed' probes'
-  sound_after {now} {behind'} {missed'} {probes'} {m} step depth sets short long first far told
-      more le few =
-      let n : ℕ = sum (distances_of probes behind missed) + sum missed in
-      let n' : ℕ = sum (distances_of probes' behind' missed') + sum missed' in
-      let was_fed : n ≡ fed_of v = ap fed_of view_is in
-      let fed : n' ≡ suc n = ap fed_of step ∙ one_more ∙ omega (arith, was_fed) in
-      let grown : n' * g.e ≡ n * g.e + g.e = ap (λ k. k * g.e) fed ∙ suc-mul n g.e in
-      record {
-        depth = depth ∙ h.depth;
-        set_count = sets ∙ h.set_count;
-        short = short;
-        behind_count = long ∙ h.behind_count;
-        none_in_front = first ∙ h.none_in_front;
-        occupancy_count = far ∙ h.occupancy_count;
-        told = told;
-        fed = omega (arith, fed, was_fed, few);
-        compared = subst (λ (k : ℕ). probes' ≤ k) (sym grown)
-            (at_most probes probes' m (n * g.e) g.e h.compared more le);
-      }
-
 -- the fields of a profile when block x was brought to the front of its set's list, and the counts
 -- are still the old ones
-pub record IsMoved (g : GeometryValue) (was now : Lists) (behind missed : List ℕ) (probes x k : ℕ)
+pub record IsMoved (g : GeometryValue) (was now : Lists) (distances missed : List ℕ) (x k : ℕ)
     (v : ProfileState) : Type 0 where
-  pub sound : IsSound g was behind missed probes
-  pub view_is : state_of g was behind missed probes ≡ v
+  pub sound : IsSound g was distances missed
+  pub view_is : state_of g was distances missed ≡ v
   pub next : IsNext v k x
   pub moved : now ≡ lists_after_bring was k x
 
 pub moved_of : {g : GeometryValue} {was now : Lists} {k x : ℕ} {v : ProfileState} (h : Histograms) →
     AreSound g was h → profile_of g was h ≡ v → IsNext v k x → now ≡ lists_after_bring was k x →
-    IsMoved g was now h.behind.items h.misses_by_occupancy.items h.probes x k v
+    IsMoved g was now h.distances.items h.misses_by_occupancy.items x k v
 moved_of h sound view_is next moved =
     record { sound = sound; view_is = view_is; next = next; moved = moved }
 
-module _ {g : GeometryValue} {was now : Lists} {behind missed : List ℕ} {probes x k : ℕ}
-    {v : ProfileState}
-    (m : IsMoved g was now behind missed probes x k v) where
+module _ {g : GeometryValue} {was now : Lists} {distances missed : List ℕ} {x k : ℕ}
+    {v : ProfileState} (m : IsMoved g was now distances missed x k v) where
   abbrev list : List ℕ
   list = get_or was.lists k []
 
@@ -113,7 +64,7 @@ module _ {g : GeometryValue} {was now : Lists} {behind missed : List ℕ} {probe
   pub other : is_front x list ≡ false
   other = ap (λ w. is_front x (list_of w k)) m.view_is ∙ m.next.behind
 
-  fed : sum (distances_of probes behind missed) + sum missed < most_references
+  fed : sum distances + sum missed < most_references
   fed = omega (arith, m.next.few, ap fed_of m.view_is)
 
   moved : now.lists ≡ set was.lists k (take g.e (move_to_front x list))
@@ -126,8 +77,29 @@ module _ {g : GeometryValue} {was now : Lists} {behind missed : List ℕ} {probe
       (short_set was.lists k g.e _ m.sound.short
       (omega (arith, length-take g.e (move_to_front x list))) i)
 
-  sets : length now.lists ≡ length was.lists
-  sets = ap length moved ∙ length-set was.lists k _
+  one_more : fed_of (after_reference v x) ≡ fed_of v + 1
+  one_more =
+      let s : ProfileState = state_of g was distances missed in
+      let at : ℕ = set_of_block g x in
+      subst (λ w. fed_of (after_reference w x) ≡ fed_of w + 1) m.view_is
+      (after_fed s x (omega (arith, m.sound.distance_count, m.sound.short at))
+      (omega (arith, m.sound.occupancy_count, m.sound.short at)))
+
+  -- sound again, where the histograms are those after the reference
+  sound_after : {distances' missed' : List ℕ} →
+      state_of g now distances' missed' ≡ after_reference v x → length distances' ≡ length distances
+      → length missed' ≡ length missed → IsSound g now distances' missed'
+  sound_after {distances'} {missed'} step long far =
+      let grown : sum distances' + sum missed' ≡ fed_of v + 1 = ap fed_of step ∙ one_more in
+      record {
+        geometry = m.sound.geometry;
+        depth = ap (λ l. l.depth) m.moved ∙ m.sound.depth;
+        set_count = ap length moved ∙ length-set was.lists k _ ∙ m.sound.set_count;
+        short = short;
+        distance_count = long ∙ m.sound.distance_count;
+        occupancy_count = far ∙ m.sound.occupancy_count;
+        fed = omega (arith, grown, m.next.few);
+      }
 
   -- where it was found
   pub found_of : {distance : ℕ} → Behind distance ≡ standing_of x list → FoundAt x distance list
@@ -136,36 +108,24 @@ module _ {g : GeometryValue} {was now : Lists} {behind missed : List ℕ} {probe
   pub nowhere_of : {len : ℕ} → New len ≡ standing_of x list → FoundNowhere x len list
   nowhere_of {len} at = found_nowhere x len list at
 
-  -- found at a distance behind the front
+  -- found at a distance
   module _ {distance : ℕ} (f : FoundAt x distance list) where
-    pub distance_fits : distance < length behind
-    distance_fits = omega (arith, f.within, m.sound.short k, m.sound.behind_count)
+    pub distance_fits : distance < length distances
+    distance_fits = omega (arith, f.within, m.sound.short k, m.sound.distance_count)
 
-    pub distance_few : {n : ℕ} → n ≡ get_or behind distance n → n < most_references
-    distance_few {n} read = omega (
-      arith,
-      raised_fits behind distance n distance_fits read,
-      fed,
-      sum-distances probes behind missed m.sound.none_in_front,
-    )
+    pub distance_few : {n : ℕ} → n ≡ get_or distances distance n → n < most_references
+    distance_few {n} read = omega (arith, raised_fits distances distance n distance_fits read, fed)
 
-    module _ {n probes' : ℕ} (read : n ≡ get_or behind distance n)
-        (more : probes' ≡ probes + (distance + 1)) where
-      some : 1 ≤ distance
-      some = behind_front x distance list other f
+    module _ {n : ℕ} (read : n ≡ get_or distances distance n) where
+      weight : compared (set distances distance (n + 1)) missed ≡ compared distances missed +
+          (distance + 1)
+      weight = omega (arith, weighed-raised 1 distances distance n 1 distance_fits read)
 
-      weight : compared_behind (set behind distance (n + 1)) missed ≡ compared_behind behind
-          missed + (1 + distance)
-      weight = grind (arith, weighed-raised, distance_fits)
-
-      pub found_after : state_of g now (set behind distance (n + 1)) missed
-          probes' ≡ after_reference v x
+      pub found_after : state_of g now (set distances distance (n + 1)) missed ≡ after_reference v x
       found_after = grind (
         arith,
         found_step,
-        raised_behind,
         weight,
-        some,
         moved,
         of_set,
         get_or_read,
@@ -173,13 +133,8 @@ module _ {g : GeometryValue} {was now : Lists} {behind missed : List ℕ} {probe
         state_of,
       )
 
-      pub found_sound : IsSound g now (set behind distance (n + 1)) missed probes'
-      found_sound =
-          sound_after m.sound m.view_is x found_after (ap (λ l. l.depth) m.moved) sets short
-          (length-set behind distance (n + 1))
-          (first-raised behind distance (n + 1) some) refl
-          (omega (arith, weight, more, m.sound.told)) more
-          (omega (arith, f.within, m.sound.short k)) m.next.few
+      pub found_sound : IsSound g now (set distances distance (n + 1)) missed
+      found_sound = sound_after found_after (length-set distances distance (n + 1)) refl
 
   -- found nowhere in a list of `len` blocks
   module _ {len : ℕ} (f : FoundNowhere x len list) where
@@ -189,13 +144,11 @@ module _ {g : GeometryValue} {was now : Lists} {behind missed : List ℕ} {probe
     pub len_few : {n : ℕ} → n ≡ get_or missed len n → n < most_references
     len_few {n} read = omega (arith, raised_fits missed len n len_fits read, fed)
 
-    module _ {n probes' : ℕ} (read : n ≡ get_or missed len n) (more : probes' ≡ probes + len) where
-      missed_weight : compared_behind behind (set missed len (n + 1)) ≡ compared_behind
-          behind missed + len
-      missed_weight = omega (arith, weighed-raised 0 missed len n len_fits read)
+    module _ {n : ℕ} (read : n ≡ get_or missed len n) where
+      missed_weight : compared distances (set missed len (n + 1)) ≡ compared distances missed + len
+      missed_weight = omega (arith, weighed-raised 0 missed len n 1 len_fits read)
 
-      pub nowhere_after : state_of g now behind (set missed len (n + 1))
-          probes' ≡ after_reference v x
+      pub nowhere_after : state_of g now distances (set missed len (n + 1)) ≡ after_reference v x
       nowhere_after = grind (
         arith,
         nowhere_step,
@@ -207,9 +160,5 @@ module _ {g : GeometryValue} {was now : Lists} {behind missed : List ℕ} {probe
         state_of,
       )
 
-      pub nowhere_sound : IsSound g now behind (set missed len (n + 1)) probes'
-      nowhere_sound =
-          sound_after m.sound m.view_is x nowhere_after (ap (λ l. l.depth) m.moved) sets short refl
-          refl (length-set missed len (n + 1))
-          (omega (arith, missed_weight, more, m.sound.told)) more
-          (omega (arith, f.len_is, m.sound.short k)) m.next.few
+      pub nowhere_sound : IsSound g now distances (set missed len (n + 1))
+      nowhere_sound = sound_after nowhere_after refl (length-set missed len (n + 1))

@@ -1,23 +1,22 @@
 -- A profile after a reference: where the reference finds its block, and what the numbers say then.
-use Rattle.std.proofs.Common.{◌≡◌, ℕ, zero, suc, ◌+◌, ◌-◌, ◌<◌, ◌≤◌, ◌^◌, cond, Bool, true, false}
+use Rattle.std.proofs.Common.{◌≡◌, ℕ, suc, ◌+◌, ◌<◌, ◌≤◌, ◌^◌, cond, Bool, true, false}
 use Rattle.std.proofs.Common.{not, eqb, ◌||◌, List, [], ◌∷◌, length, take, get_or, set, sum}
 use Rattle.std.proofs.Common.{refl, sym, ◌∙◌, ap, subst, arith}
 use Rattle.std.proofs.lemmas.Bool.{ltb-true, eqb-true}
 use Rattle.std.proofs.lemmas.List.{set-get_or, take_all}
-use Rattle.std.proofs.lemmas.List.Sums.{sum_by-cons, sum_by-set}
+use Rattle.std.proofs.lemmas.List.Sums.{sum_by-set}
 use Rattle.std.specs.List.{remove}
 use Rattle.std.specs.Prelude.{replicate}
 use Rattle.std.proofs.lemmas.List.{length-replicate}
 use Rattle.cache_core.proofs.Lists.{list_any_is}
-use Rattle.cache_core.specs.Geometry.{GeometryValue, set_of_block}
+use Rattle.cache_core.specs.Geometry.{GeometryValue, IsGeometry, set_of_block}
 use Rattle.profile_core.specs.declared.set_lists.recency.Standing.TheVariants.{Behind, New}
 use Rattle.profile_core.specs.profile.RecencyList.{index_of, is_in, is_front, move_to_front}
 use Rattle.profile_core.specs.internal.set_lists.Moves.{is_second, standing_of}
 use Rattle.profile_core.specs.internal.set_lists.Lists.{Lists}
 use Rattle.profile_core.specs.profile.State.{ProfileState, list_of, one_more_at, after_reference}
 use Rattle.profile_core.specs.profile.State.{fed_of, empty}
-use Rattle.profile_core.specs.internal.profile.StackProfile.{IsSound, weighed, compared_behind}
-use Rattle.profile_core.specs.internal.profile.StackProfile.{distances_of}
+use Rattle.profile_core.specs.internal.profile.StackProfile.{IsSound, weighed, compared}
 use Rattle.profile_core.proofs.Elements.{all_same}
 use Rattle.profile_core.proofs.rows.Bringing.{absent_at}
 use Rattle.profile_core.proofs.Shifting.{other_front, index_behind, index-le}
@@ -96,28 +95,6 @@ found_nowhere x len xs standing =
       len_is = at.1;
     }
 
--- The histogram of those found behind the front: it has an entry for distance 0, which stays 0.
-pub first-raised : (behind : List ℕ) (distance n : ℕ) → 1 ≤ distance →
-    take 1 (set behind distance n) ≡ take 1 behind
-first-raised [] distance n some = refl
-first-raised (y ∷ bs) zero n some = absurd (omega (arith, some))
-first-raised (y ∷ bs) (suc distance) n some = refl
-
-pub raised_behind : (behind : List ℕ) (distance n h : ℕ) → 1 ≤ distance →
-    n ≡ get_or behind distance 0
-    → set (set behind distance (n + 1)) 0 h ≡ one_more_at (set behind 0 h) distance
-raised_behind [] distance n h some read = refl
-raised_behind (y ∷ bs) zero n h some read = absurd (omega (arith, some))
-raised_behind (y ∷ bs) (suc distance) n h some read = ap (λ m. h ∷ set bs distance (m + 1)) read
-
-pub sum-distances : (probes : ℕ) (behind missed : List ℕ) → take 1 behind ≡ 0 ∷ []
-    → sum (distances_of probes behind missed) ≡ probes - compared_behind behind missed + sum behind
-sum-distances probes [] missed first = absurd (cc)
-sum-distances probes (y ∷ bs) missed first =
-    let none : y ≡ 0 = cc in
-    let h : ℕ = probes - compared_behind (y ∷ bs) missed in
-    omega (arith, sum_by-cons (λ n. n) h bs, sum_by-cons (λ n. n) y bs, none)
-
 -- one reference more, found at a distance or not found in a list of n blocks
 sum-raise : (ns : List ℕ) (i : ℕ) → i < length ns → sum (one_more_at ns i) ≡ sum ns + 1
 sum-raise ns i lt = omega (arith, sum_by-set (λ m. m) ns i (get_or ns i 0 + 1) 0 lt)
@@ -146,20 +123,17 @@ module _ (v : ProfileState) (x k : ℕ) (of_set : k ≡ set_of_block v.geometry 
       → record v { lists = lists'; distances = distances'; probes = probes' } ≡ after_reference v x
   found_step distance probes' lists' distances' found moved raised more = grind arith
 
-  pub nowhere_step : (len n probes' : ℕ) (lists' : List (List ℕ)) (distances' : List ℕ) →
-      FoundNowhere x len (list_of v k)
+  pub nowhere_step : (len n probes' : ℕ) (lists' : List (List ℕ)) → FoundNowhere x len (list_of v k)
       → lists' ≡ set v.lists k (take v.geometry.e (move_to_front x (list_of v k))) →
-      distances' ≡ v.distances
-      → n ≡ get_or v.misses_by_occupancy len 0 → probes' ≡ v.probes + len
+      n ≡ get_or v.misses_by_occupancy len 0
+      → probes' ≡ v.probes + len
       → record v {
         lists = lists';
-        distances = distances';
-        misses_by_occupancy =
-            set v.misses_by_occupancy len (n + 1);
+        misses_by_occupancy = set v.misses_by_occupancy len (n + 1);
         probes = probes';
       }
       ≡ after_reference v x
-  nowhere_step len n probes' lists' distances' found moved same read more = grind arith
+  nowhere_step len n probes' lists' found moved read more = grind arith
 
   -- the front, which stays
   pub front_step : (distances' : List ℕ) → is_front x (list_of v k) ≡ true →
@@ -169,47 +143,38 @@ module _ (v : ProfileState) (x k : ℕ) (of_set : k ≡ set_of_block v.geometry 
       grind (arith, found_step, found_front, front_stays, set-get_or)
 
 -- A new profile, whose lists are empty and whose numbers are all 0
-first-zero : (n : ℕ) → 1 ≤ n → take {A = ℕ} 1 (replicate n 0) ≡ 0 ∷ []
-first-zero zero some = absurd (omega (arith, some))
-first-zero (suc n) some = refl
-
--- a profile that was fed nothing
-pub new_is : (g : GeometryValue) (lists : Lists) (behind missed : List ℕ) →
-    lists.lists ≡ replicate (2 ^ g.s) [] → behind ≡ replicate g.e 0 →
+pub new_is : (g : GeometryValue) (lists : Lists) (distances missed : List ℕ) →
+    lists.lists ≡ replicate (2 ^ g.s) [] → distances ≡ replicate g.e 0 →
     missed ≡ replicate (g.e + 1) 0 →
     record {
       geometry = g;
       lists = lists.lists;
-      distances = distances_of 0 behind missed;
+      distances = distances;
       misses_by_occupancy = missed;
-      probes = 0;
+      probes = compared distances missed;
     } ≡ empty g
-new_is g lists behind missed sets near far =
-    let none : 0 - compared_behind behind missed ≡ get_or behind 0 0 =
-    omega (arith, ap (λ ns. get_or ns 0 0) near, all_same {A = ℕ} g.e 0 0) in
-    let same : distances_of 0 behind missed ≡ replicate g.e 0 =
-    ap (λ n. set behind 0 n) none ∙ set-get_or behind 0 0 ∙ near in
-    cc (sets, same, far)
+new_is g lists distances missed sets near far =
+    let none : compared distances missed ≡ 0 = omega (
+      arith,
+      ap (weighed 1) near ∙ weighed-zeros 1 g.e,
+      ap (weighed 0) far ∙ weighed-zeros 0 (g.e + 1),
+    ) in
+    cc (sets, near, far, none)
 
-pub new_sound : (g : GeometryValue) (lists : Lists) (behind missed : List ℕ) → lists.depth ≡ g.e →
-    lists.lists ≡ replicate (2 ^ g.s) []
-    → 1 ≤ g.e → behind ≡ replicate g.e 0 → missed ≡ replicate (g.e + 1) 0 →
-    IsSound g lists behind missed 0
-new_sound g lists behind missed depth sets some near far =
-    let near_none = ap (weighed 1) near ∙ weighed-zeros 1 g.e in
-    let far_none = ap (weighed 0) far ∙ weighed-zeros 0 (g.e + 1) in
+pub new_sound : (g : GeometryValue) (lists : Lists) (distances missed : List ℕ) → IsGeometry g →
+    lists.depth ≡ g.e
+    → lists.lists ≡ replicate (2 ^ g.s) [] → distances ≡ replicate g.e 0 →
+    missed ≡ replicate (g.e + 1) 0 → IsSound g lists distances missed
+new_sound g lists distances missed geometry depth sets near far =
     let near_sum = ap sum near ∙ sum-zeros g.e in
     let far_sum = ap sum far ∙ sum-zeros (g.e + 1) in
-    let first = ap (take 1) near ∙ first-zero g.e some in
     record {
+      geometry = geometry;
       depth = depth;
       set_count = ap length sets ∙ length-replicate (2 ^ g.s) [];
       short = λ k. subst (λ (ls : List (List ℕ)). length (get_or ls k []) ≤ g.e) (sym sets)
           (omega (arith, ap length (all_same {A = List ℕ} (2 ^ g.s) k [])));
-      behind_count = ap length near ∙ length-replicate g.e 0;
-      none_in_front = first;
+      distance_count = ap length near ∙ length-replicate g.e 0;
       occupancy_count = ap length far ∙ length-replicate (g.e + 1) 0;
-      told = omega (arith, near_none, far_none);
-      fed = omega (arith, sum-distances 0 behind missed first, near_sum, far_sum);
-      compared = omega arith;
+      fed = omega (arith, near_sum, far_sum);
     }

@@ -1,15 +1,16 @@
 -- References that find their block in front: they can be counted later, and a front in one profile
 -- is a front in each that refines it.
-use Rattle.std.proofs.Common.{◌≡◌, ℕ, zero, suc, ◌+◌, ◌-◌, ◌*◌, ◌/◌, ◌%◌, ◌^◌, ◌<◌, ◌≤◌, ◌&&◌, Bool}
+use Rattle.std.proofs.Common.{◌≡◌, ℕ, zero, suc, ◌+◌, ◌-◌, ◌/◌, ◌%◌, ◌^◌, ◌<◌, ◌≤◌, ◌&&◌, Bool}
 use Rattle.std.proofs.Common.{true, false, not, cond, eqb, leb, List, [], ◌∷◌, ◌++◌, length, take}
 use Rattle.std.proofs.Common.{get_or, set, sum, refl, sym, ◌∙◌, ap, subst, arith, ⊎_elim}
 use Rattle.std.proofs.Common.{length-set, length-take, get_or-set_other, fold}
 use Rattle.std.specs.Prelude.{replicate}
-use Rattle.std.proofs.Math.Nat.{div-div-eq-div-mul, suc-mul}
+use Rattle.std.proofs.Math.Nat.{div-div-eq-div-mul}
 use Rattle.std.proofs.Math.Pow.{mod-mod-pow}
 use Rattle.std.proofs.lemmas.Bool.{lt-ltb, ltb-true, eqb-true, eq-eqb, ne_eqb, cases_eq, leb-true}
 use Rattle.std.proofs.lemmas.Bool.{and_parts, or_cases}
 use Rattle.std.proofs.lemmas.Grind.{get_or-set_at}
+use Rattle.std.proofs.lemmas.List.{get_or_read}
 use Rattle.std.proofs.lemmas.Nat.{pow-add, pow_pos, mod_below}
 use Rattle.trace_core.specs.declared.events.Ref.{Ref}
 use Rattle.trace_core.specs.declared.events.Event.{Event}
@@ -25,11 +26,12 @@ use Rattle.profile_core.specs.profile.Fronts.{is_front_of, after_unless_front, a
 use Rattle.profile_core.specs.profile.Fronts.{is_refined}
 use Rattle.profile_core.specs.profile.ProfileStandsFor.{ProfileStandsFor}
 use Rattle.profile_core.specs.internal.profile.StackProfile.{IsSound, most_references}
-use Rattle.profile_core.specs.internal.profile.StackProfile.{compared_behind, distances_of, IsFit}
+use Rattle.profile_core.specs.internal.profile.StackProfile.{compared, IsFit}
 use Rattle.profile_core.specs.internal.profile.CountedFronts.{profile_with_fronts, Leads}
 use Rattle.profile_core.specs.internal.set_lists.Lists.{Lists}
-use Rattle.profile_core.proofs.profile.Feeding.{found_front, after_fed, front_step, sum-distances}
+use Rattle.profile_core.proofs.profile.Feeding.{found_front, after_fed, front_step}
 use Rattle.profile_core.proofs.profile.Fed.{state_of}
+use Rattle.profile_core.proofs.profile.Weighing.{raised_fits, sum-raised, weighed-raised}
 use Rattle.profile_core.proofs.profile.Runs.{event_stands, geometry_after, stands_after}
 use Rattle.profile_core.proofs.profile.Steps.{Finds, finds}
 use Rattle.profile_core.proofs.profile.Stands.{new_stands}
@@ -105,65 +107,55 @@ unless_front_fed v x h = cases
     (λ b. fed_of (cond b v (after_reference v x)) ≡ fed_of v + cond b 0 1) (is_front_of v x)
     (λ t. omega arith) (λ f. reference_fed v x h)
 
--- the fields of a profile that counts n more in front
-grows : (p f e n : ℕ) → 1 ≤ e → p ≤ f * e → p + n ≤ (f + n) * e
-grows p f e zero some h = subst (λ (m : ℕ). p + 0 ≤ m * e) {x = f} {y = f + 0} (omega arith)
-    (omega (arith, h))
-grows p f e (suc n) some h =
-    let step : (f + suc n) * e ≡ (f + n) * e + e = ap (λ k. k * e) {x = f + suc n} {y = suc (f + n)}
-    (omega arith) ∙ suc-mul (f + n) e in
-    omega (arith, step, grows p f e n some h, some)
-
-some_distance : (behind : List ℕ) → take 1 behind ≡ 0 ∷ [] → 1 ≤ length behind
-some_distance [] first = absurd (cc)
-some_distance (y ∷ bs) first = omega arith
-
-module _ {g : GeometryValue} {lists : Lists} {behind missed : List ℕ} {probes : ℕ}
-    {v : ProfileState} (h : IsSound g lists behind missed probes)
-    (view_is : state_of g lists behind missed probes ≡ v) where
-  some : 1 ≤ g.e
-  some = omega (arith, some_distance behind h.none_in_front, h.behind_count)
-
+-- the fields of a profile that counts so many more in front
+module _ {g : GeometryValue} {lists : Lists} {distances missed : List ℕ} {v : ProfileState}
+    (h : IsSound g lists distances missed)
+    (view_is : state_of g lists distances missed ≡ v) where
   pub fit_inside : IsFit v
   fit_inside = subst IsFit view_is (record {
-    some = some;
+    some = h.geometry.some;
     set_count = h.set_count;
     short = h.short;
-    distance_count = length-set behind 0 (probes - compared_behind behind missed) ∙ h.behind_count;
+    distance_count = h.distance_count;
     occupancy_count = h.occupancy_count;
   })
 
-  pub counted_fed : (n : ℕ) →
-      sum (distances_of (probes + n) behind missed) + sum missed ≡ fed_of v + n
-  counted_fed n = omega (
-    arith,
-    sum-distances probes behind missed h.none_in_front,
-    sum-distances (probes + n) behind missed h.none_in_front,
-    h.told,
-    ap fed_of view_is,
-  )
+  pub front_fits : 0 < length distances
+  front_fits = omega (arith, h.geometry.some, h.distance_count)
 
-  pub counted_sound : (n : ℕ) → fed_of v + n ≤ most_references →
-      IsSound g lists behind missed (probes + n)
-  counted_sound n few =
-      let was : fed_of v ≡ sum (distances_of probes behind missed) + sum missed =
-      sym (ap fed_of view_is) in
-      let fed : sum (distances_of (probes + n) behind missed) + sum missed ≡ sum
-      (distances_of probes behind missed) + sum missed + n =
-      omega (arith, counted_fed n, was) in
-      record {
-        depth = h.depth;
-        set_count = h.set_count;
-        short = h.short;
-        behind_count = h.behind_count;
-        none_in_front = h.none_in_front;
-        occupancy_count = h.occupancy_count;
-        told = omega (arith, h.told);
-        fed = omega (arith, fed, was, few);
-        compared = subst (λ (k : ℕ). probes + n ≤ k * g.e) (sym fed)
-            (grows probes (sum (distances_of probes behind missed) + sum missed) g.e n some
-            h.compared);
-      }
+  module _ {n : ℕ} (read : n ≡ get_or distances 0 n) (count : ℕ) where
+    pub front_few : fed_of v + count ≤ most_references → n + count ≤ most_references
+    front_few few = omega (
+      arith,
+      raised_fits distances 0 n front_fits read,
+      few,
+      ap fed_of view_is,
+    )
+
+    pub counted_fed : sum (set distances 0 (n + count)) + sum missed ≡ fed_of v + count
+    counted_fed = omega (
+      arith,
+      sum-raised distances 0 n count front_fits read,
+      ap fed_of view_is,
+    )
+
+    weight : compared (set distances 0 (n + count)) missed ≡ compared distances missed + count
+    weight = omega (arith, weighed-raised 1 distances 0 n count front_fits read)
+
+    pub counted_after : state_of g lists (set distances 0 (n + count)) missed ≡ after_fronts count v
+    counted_after = grind (arith, weight, get_or_read, front_fits, state_of)
+
+    pub counted_sound : fed_of v + count ≤ most_references →
+        IsSound g lists (set distances 0 (n + count)) missed
+    counted_sound few = record {
+      geometry = h.geometry;
+      depth = h.depth;
+      set_count = h.set_count;
+      short = h.short;
+      distance_count = length-set distances 0 (n + count) ∙ h.distance_count;
+      occupancy_count = h.occupancy_count;
+      fed = omega (arith, counted_fed, few);
+    }
 
 -- A profile that lags behind by references that found their block in front, and catches up.
 pub caught_more : (n : ℕ) (v : ProfileState) (x : ℕ) → IsFit v → fed_of v ≤ n

@@ -5,21 +5,23 @@ ghost use Rattle.trace_core.specs.declared.events.Event.{Event};
 ghost use Rattle.cache_core.specs.Windows.{occurrences, counts, probes};
 ghost use Rattle.profile_core.specs.profile.State.{fed_of, counts_at, hit_sums_at};
 ghost use Rattle.profile_core.specs.profile.ProfileStandsFor.{ProfileStandsFor};
-ghost use Rattle.profile_core.specs.internal.profile.StackProfile.{weighed};
+ghost use Rattle.profile_core.specs.internal.profile.StackProfile.{weighed, compared};
 
 use crate::profile::Profile;
+use crate::profile::histograms::Histograms;
 use crate::profile::hit_sums::HitSums;
 use cache_core::Counts;
 
 impl Profile {
-    /// How many references were fed. It goes over the histograms, `3 * depth` numbers, so it should
+    /// How many references were fed. It goes over the histograms, `2 * depth` numbers, so it should
     /// not be called for each reference.
     pub fn fed(&self) -> u64
         ensures value { result ≡ fed_of self.now }
         ensures trace { (es : List Event) → ProfileStandsFor es self.now
             → result ≡ length (occurrences self.now.geometry es) }
     {
-        self.hits() + total(&self.histograms().misses_by_occupancy)
+        let histograms = self.histograms();
+        total(&histograms.distances) + total(&histograms.misses_by_occupancy)
     }
 
     /// The number of comparisons counted. Each reference counts the comparisons of its block with
@@ -27,19 +29,20 @@ impl Profile {
     /// isn't there. This is the cost of the stack algorithm, by which spaces can be compared. The
     /// profile makes as many comparisons or fewer, though no contract says so: for a reference that
     /// `count_fronts` counts, one is counted and none is made; and with 12 to 16 ways and up to
-    /// 4,096 sets, or with 256 ways or more, most blocks are found without a walk.
+    /// 4,096 sets, or with 256 ways or more, most blocks are found without a walk. It goes over the
+    /// histograms, as `fed` does.
     pub fn probes(&self) -> u64
         ensures value { result ≡ self.now.probes }
         ensures trace { (es : List Event) → ProfileStandsFor es self.now
             → result ≡ probes self.now.geometry es }
         ensures at_most { result ≤ fed_of self.now * self.now.geometry.e }
     {
-        self.histograms().probes
+        comparisons(self.histograms())
     }
 
     /// The counts of an LRU cache of `e` lines per set, over all references fed. It goes over both
-    /// histograms up to four times. For many associativities of one profile, `counts_next` takes
-    /// less time.
+    /// histograms up to twice. For many associativities of one profile, `counts_next` takes less
+    /// time.
     pub fn counts(&self, e: u64) -> Counts
         requires some { 1 ≤ e }
         requires within { e ≤ self.now.geometry.e }
@@ -66,7 +69,7 @@ impl Profile {
     /// Returns the same as `counts`, from sums that `begin_sums` of this profile began. The sums
     /// are raised to `e` lines per set, so `e` may only rise from call to call, and nothing may be
     /// fed in between. A call adds only the numbers of the histograms between the two
-    /// associativities. All calls for the same sums, with `begin_sums`, cost about `5 * depth`
+    /// associativities. All calls for the same sums, with `begin_sums`, cost about `4 * depth`
     /// additions.
     pub fn counts_next(&self, sums: &mut HitSums, e: u64) -> Counts
         requires some { 1 ≤ e }
@@ -80,8 +83,9 @@ impl Profile {
     {
         let from = sums.ways;
         let to = e as usize;
-        let hits = self.hits_between(from, to);
-        let free = total(&self.histograms().misses_by_occupancy[from..to]);
+        let histograms = self.histograms();
+        let hits = total(&histograms.distances[from..to]);
+        let free = total(&histograms.misses_by_occupancy[from..to]);
         sums.ways = to;
         sums.hits += hits;
         sums.free_misses += free;
@@ -92,29 +96,18 @@ impl Profile {
             evictions: misses - sums.free_misses,
         }
     }
+}
 
-    /// How many references found their block: the comparisons, less `d` for each reference found at
-    /// distance `d`, less `n` for each that missed in a list of `n` blocks.
-    fn hits(&self) -> u64
-        ensures { result ≡ sum self.now.distances }
-    {
-        let histograms = self.histograms();
-        histograms.probes - weighed(&histograms.behind) - weighed(&histograms.misses_by_occupancy)
-    }
-
-    /// How many references hit at a stack distance in `from..to`.
-    fn hits_between(&self, from: usize, to: usize) -> u64
-        requires rising { from ≤ to }
-        requires some { 1 ≤ to }
-        requires within { to ≤ self.now.geometry.e }
-        ensures { result ≡ sum (take (to - from) (drop from self.now.distances)) }
-    {
-        if from == 0 {
-            self.hits() - total(&self.histograms().behind[to..])
-        } else {
-            total(&self.histograms().behind[from..to])
-        }
-    }
+/// The comparisons of all references: `d + 1` of each that was found at distance `d`, and `n` of
+/// each that was not found in a list of `n` blocks.
+fn comparisons(histograms: &Histograms) -> u64
+    requires { compared histograms.now.distances.items histograms.now.misses_by_occupancy.items
+        < 2 ^ 64 }
+    ensures { result
+        ≡ compared histograms.now.distances.items histograms.now.misses_by_occupancy.items }
+{
+    let found = total(&histograms.distances) + weighed(&histograms.distances);
+    found + weighed(&histograms.misses_by_occupancy)
 }
 
 /// The sum of a part of a histogram.

@@ -50,8 +50,7 @@ impl<L: SetLists> StackProfile<L> {
         Ok(StackProfile {
             geometry,
             histograms: Histograms {
-                probes: 0,
-                behind: vec![in alloc; 0; depth]?,
+                distances: vec![in alloc; 0; depth]?,
                 misses_by_occupancy: vec![in alloc; 0; depth + 1]?,
             },
             lists,
@@ -114,7 +113,7 @@ impl<L: SetLists> StackProfile<L> {
         ensures step { self.new ≡ after_fronts count self.old }
         ensures more { fed_of self.new ≡ fed_of self.old + count }
     {
-        self.histograms.probes += count;
+        self.histograms.distances[0] += count;
     }
 
     /// Feeds references by their addresses, one after the other, except those that find their block
@@ -224,8 +223,7 @@ impl<L: SetLists> StackProfile<L> {
         ensures { self.new ≡ after_reference self.old block }
     {
         self.lists.bring_second(set, block);
-        self.histograms.probes += 2;
-        self.histograms.behind[1] += 1;
+        self.histograms.distances[1] += 1;
     }
 
     /// Feeds a reference to a block that is behind the second of its set's list, or not in the
@@ -237,14 +235,8 @@ impl<L: SetLists> StackProfile<L> {
         ensures { self.new ≡ after_reference self.old block }
     {
         match self.lists.bring(set, block) {
-            Standing::Behind(distance) => {
-                self.histograms.probes += distance as u64 + 1;
-                self.histograms.behind[distance] += 1;
-            }
-            Standing::New(held) => {
-                self.histograms.probes += held as u64;
-                self.histograms.misses_by_occupancy[held] += 1;
-            }
+            Standing::Behind(distance) => self.histograms.distances[distance] += 1,
+            Standing::New(held) => self.histograms.misses_by_occupancy[held] += 1,
         }
     }
 }

@@ -82,15 +82,32 @@ fn own_rest(places: &mut [u32], rests: &mut Vec<Slots>, set: usize) -> usize
     ensures same { (k : ℕ) → slice_index_or rests.new.items (slice_index places.new k) no_slots
         ≡ slice_index_or rests.old.items (slice_index places.old k) no_slots }
 {
-    if places[set] == 0 {
-        places[set] = take_slots(rests);
+    let place = places[set];
+    if place == 0 {
+        return place_slots(places, rests, set);
     }
-    places[set] as usize
+    place as usize
+}
+
+/// Gives slots to a set without any. Returns their index.
+#[cold]
+#[inline(never)]
+fn place_slots(places: &mut [u32], rests: &mut Vec<Slots>, set: usize) -> usize
+    requires within { set < length places.old }
+    requires none { slice_index places.old set ≡ 0 }
+    requires sound { ArePlaced places.old rests.old.items (vec_capacity rests.old) }
+    ensures which { result ≡ slice_index places.new set }
+    ensures own { 0 < result }
+    ensures sound { ArePlaced places.new rests.new.items (vec_capacity rests.new) }
+    ensures same { (k : ℕ) → slice_index_or rests.new.items (slice_index places.new k) no_slots
+        ≡ slice_index_or rests.old.items (slice_index places.old k) no_slots }
+{
+    let place = take_slots(rests);
+    places[set] = place;
+    place as usize
 }
 
 /// Appends blank slots. Returns their index.
-#[cold]
-#[inline(never)]
 fn take_slots(rests: &mut Vec<Slots>) -> u32
     requires some { 0 < vec_len rests.old }
     requires room { vec_len rests.old < vec_capacity rests.old }

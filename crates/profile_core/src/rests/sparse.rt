@@ -80,15 +80,32 @@ fn own_rest(stride: usize, places: &mut [u32], numbers: &mut Vec<u64>, set: usiz
     ensures same { (k : ℕ) → sparse_rest stride places.new numbers.new.items k
         ≡ sparse_rest stride places.old numbers.old.items k }
 {
-    if places[set] == 0 {
-        places[set] = take_rest(numbers, stride);
+    let place = places[set];
+    if place == 0 {
+        return place_rest(stride, places, numbers, set);
     }
-    places[set] as usize
+    place as usize
+}
+
+/// Gives a rest to a set without one. Returns its index.
+#[cold]
+#[inline(never)]
+fn place_rest(stride: usize, places: &mut [u32], numbers: &mut Vec<u64>, set: usize) -> usize
+    requires within { set < length places.old }
+    requires none { slice_index places.old set ≡ 0 }
+    requires sound { IsSparse stride places.old numbers.old.items (vec_capacity numbers.old) }
+    ensures which { result ≡ slice_index places.new set }
+    ensures own { 0 < result }
+    ensures sound { IsSparse stride places.new numbers.new.items (vec_capacity numbers.new) }
+    ensures same { (k : ℕ) → sparse_rest stride places.new numbers.new.items k
+        ≡ sparse_rest stride places.old numbers.old.items k }
+{
+    let place = take_rest(numbers, stride);
+    places[set] = place;
+    place as usize
 }
 
 /// Appends a blank rest of `stride` numbers. Returns its index.
-#[cold]
-#[inline(never)]
 fn take_rest(numbers: &mut Vec<u64>, stride: usize) -> u32
     requires some { 0 < stride }
     requires first { stride ≤ vec_len numbers.old }

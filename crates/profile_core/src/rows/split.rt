@@ -63,9 +63,11 @@ impl<R: RestStore> RowStore for SplitRows<R> {
 
     #[inline(always)]
     fn bring(&mut self, set: usize, front: &mut u64, len: &mut u32, block: u64) -> Standing {
+        // Read before anything is written: the compiler doesn't know that the arrays lie apart.
+        let (held, place) = (*len, &mut self.firsts[set]);
         let first = mem::replace(front, block);
-        let second = mem::replace(&mut self.firsts[set], first);
-        if *len == 1 {
+        let second = mem::replace(place, first);
+        if held == 1 {
             *len = 2;
             return Standing::New(1);
         }

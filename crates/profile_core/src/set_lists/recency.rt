@@ -14,7 +14,6 @@ use crate::set_lists::SetLists;
 use cache_core::touched::TouchedSets;
 use std::alloc::{AllocError, Global};
 use std::marker::Model;
-use std::mem;
 
 /// Where a reference finds a block that is not the front of its set's list. `Behind`: at this stack
 /// distance, the block's index in the list, so 1 is the second block. `New`: nowhere in the list,
@@ -122,8 +121,9 @@ impl<R: RowStore> SetLists for RecencyLists<R> {
 
     #[inline(always)]
     fn bring_second(&mut self, set: usize, block: u64) {
-        let second = mem::replace(&mut self.fronts[set], block);
-        self.rows.put_first(set, second);
+        let front = &mut self.fronts[set];
+        self.rows.put_first(set, *front);
+        *front = block;
     }
 
     #[inline(always)]

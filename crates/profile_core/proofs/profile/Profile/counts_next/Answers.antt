@@ -1,5 +1,5 @@
 -- The next counts of a sums: the step that the code takes, and what it leaves.
-use Rattle.std.proofs.Common.{◌-◌, ◌≤◌, ◌^◌, ◌∙◌, ap, sum, take, drop, arith}
+use Rattle.std.proofs.Common.{ℕ, List, ◌-◌, ◌≤◌, ◌^◌, ◌∙◌, ap, sum, take, drop, arith}
 use Rattle.profile_core.specs.profile.State.{fed_of}
 use Rattle.profile_core.proofs.HitSums.{IsStep, step_of, part-le, hits_after, free_after, within}
 use Rattle.profile_core.proofs.HitSums.{counts_after}
@@ -10,32 +10,43 @@ use Rattle.profile_core.proofs.profile.Profile.counts_next.Goals.{After-total-fr
 -- the step that the code takes
 step : (c : After-total-free) → IsStep c.args.self.now c.sums.inside.ways c.args.e
     c.sums.inside.hits c.sums.inside.free_misses c.sums.inside.fed
-    c.hits_between-hits.result c.total-free.result
+    c.total-hits.result c.total-free.result
 step c =
     let from = c.sums.inside.ways in
+    let part : List ℕ → ℕ = λ ns. sum (take (c.args.e - from) (drop from ns)) in
     step_of c.args.self.now c.args.sums.now from c.args.e c.sums.inside.hits
-    c.sums.inside.free_misses c.sums.inside.fed c.hits_between-hits.result
+    c.sums.inside.free_misses c.sums.inside.fed c.total-hits.result
     c.total-free.result c.sums.view_is c.requires.of_this c.requires.rising
-    c.hits_between-hits.ensures
-    (c.total-free.ensures ∙ ap (λ ns. sum (take (c.args.e - from) (drop from ns)))
-    (c.deref.ensures.value ∙ ap (λ v. v.misses_by_occupancy) c.histograms.ensures.whole))
+    (c.total-hits.ensures ∙ ap part (c.deref.ensures.value ∙ ap (λ v. v.distances)
+    c.histograms-histograms.ensures.whole))
+    (c.total-free.ensures ∙ ap part (c.deref-2.ensures.value ∙ ap (λ v. v.misses_by_occupancy)
+    c.histograms-histograms.ensures.whole))
 
 -- all sums are within the references fed, which are few
 few : (c : After-total-free) → c.sums.inside.fed ≤ 2 ^ 41
 few c = omega (
   arith,
   (step c).fed_is,
-  c.histograms.ensures.sound.fed,
-  ap fed_of c.histograms.ensures.whole,
+  c.histograms-histograms.ensures.sound.fed,
+  ap fed_of c.histograms-histograms.ensures.whole,
 )
+
+pub total-hits-requires : goal.total-hits-requires
+total-hits-requires c =
+    omega (
+      arith,
+      part-le c.deref.result.now c.histograms-histograms.result.now.distances.items
+          (c.args.e - c.sums.inside.ways) c.sums.inside.ways c.deref.ensures.value,
+      c.histograms-histograms.ensures.sound.fed,
+    )
 
 pub total-free-requires : goal.total-free-requires
 total-free-requires c =
     omega (
       arith,
-      part-le c.deref.result.now c.histograms.result.now.misses_by_occupancy.items
-          (c.args.e - c.sums.inside.ways) c.sums.inside.ways c.deref.ensures.value,
-      c.histograms.ensures.sound.fed,
+      part-le c.deref-2.result.now c.histograms-histograms.result.now.misses_by_occupancy.items
+          (c.args.e - c.sums.inside.ways) c.sums.inside.ways c.deref-2.ensures.value,
+      c.histograms-histograms.ensures.sound.fed,
     )
 
 pub overflow_add-sums : goal.overflow_add-sums

@@ -3,10 +3,10 @@ use Rattle.std.proofs.Common.{◌≡◌, ◌∙◌, ap, arith}
 use Rattle.profile_core.specs.profile.State.{list_of}
 use Rattle.profile_core.proofs.profile.Fed.{distance_few, len_few}
 use Rattle.full_profile.specs.State.{after_reference_in_lists, cleans_of}
-use Rattle.full_profile.proofs.profile.Sounds.{probes_few, next_inside, above_few, up_to_few}
+use Rattle.full_profile.proofs.profile.Sounds.{next_inside, above_few, up_to_few}
 use Rattle.full_profile.proofs.profile.Sounds.{IsAccessed, found_within, found_at, is_moved}
 use Rattle.full_profile.proofs.profile.Sounds.{behind_after, behind_sound, missed_after}
-use Rattle.full_profile.proofs.profile.Sounds.{missed_sound, new_absent, new_copied, new_within}
+use Rattle.full_profile.proofs.profile.Sounds.{missed_sound, new_absent, new_copied}
 use Rattle.full_profile.proofs.profile.Sounds.{full_absent, full_copied, kind_long, kind_small}
 use Rattle.full_profile.proofs.profile.stack_profile.FullStackProfile.feed_behind.Goals as goal
 use Rattle.full_profile.proofs.profile.stack_profile.FullStackProfile.feed_behind.Goals.{
@@ -18,8 +18,8 @@ use Rattle.full_profile.proofs.profile.stack_profile.FullStackProfile.feed_behin
 -- what the access did, by which all goals behind it are answered
 accessed : (g : Over) (c : After-bring g) → IsAccessed c.self.inside.geometry
     (g.L.MarkedLists.view c.self.inside.lists) (g.L.MarkedLists.view c.bring.new.self)
-    c.self.inside.numbers.behind.items c.self.inside.numbers.misses_by_occupancy.items
-    c.self.inside.numbers.probes c.self.inside.numbers.kinds.items c.self.inside.numbers.copies
+    c.self.inside.numbers.distances.items c.self.inside.numbers.misses_by_occupancy.items
+    c.self.inside.numbers.kinds.items c.self.inside.numbers.copies
     c.args.set c.args.block c.args.access
 accessed g c = record {
   sound = c.self.invariant;
@@ -31,33 +31,12 @@ depth_is : (g : Over) (c : After-len-depth g) → c.len-depth.result ≡ c.self.
 depth_is g c = omega (
   arith,
   c.len-depth.ensures,
-  c.self.inside.numbers.behind.ok.0,
-  c.self.invariant.plain.behind_count,
+  c.self.inside.numbers.distances.ok.0,
+  c.self.invariant.plain.distance_count,
 )
 
 pub bring-requires-clause-behind : goal.bring-requires-clause-behind
 bring-requires-clause-behind g c = (next_inside c.self.invariant c.self.view_is c.requires).behind
-
-pub overflow_add-self : goal.overflow_add-self
-overflow_add-self g c =
-    let a = accessed g (goal.at.overflow_add-self g c).After-bring in
-    omega (
-      arith,
-      found_within a c.in-Behind.ensures.found,
-      c.self.invariant.plain.behind_count,
-      c.self.inside.numbers.behind.ok.0,
-    )
-
-pub overflow_add-self-in-Behind : goal.overflow_add-self-in-Behind
-overflow_add-self-in-Behind g c =
-    let a = accessed g (goal.at.overflow_add-self-in-Behind g c).After-bring in
-    omega (
-      arith,
-      probes_few c.self.invariant,
-      found_within a c.in-Behind.ensures.found,
-      c.self.invariant.plain.behind_count,
-      c.self.inside.numbers.behind.ok.0,
-    )
 
 pub index_mut-requires : goal.index_mut-requires
 index_mut-requires g c =
@@ -65,8 +44,8 @@ index_mut-requires g c =
     omega (
       arith,
       found_within a c.in-Behind.ensures.found,
-      c.self.invariant.plain.behind_count,
-      c.self.inside.numbers.behind.ok.0,
+      c.self.invariant.plain.distance_count,
+      c.self.inside.numbers.distances.ok.0,
     )
 
 pub overflow_add-index_mut : goal.overflow_add-index_mut
@@ -122,17 +101,6 @@ returns-in-Behind g c =
     ∙ ap (λ v. after_reference_in_lists v c.args.access c.args.block (list_of v.plain c.args.set)
     (cleans_of v c.args.set)) c.self.view_is
 
-pub overflow_add-self-in-New : goal.overflow_add-self-in-New
-overflow_add-self-in-New g c =
-    let a = accessed g (goal.at.overflow_add-self-in-New g c).After-bring in
-    omega (
-      arith,
-      probes_few c.self.invariant,
-      new_within a c.in-New.ensures.found,
-      c.self.invariant.plain.occupancy_count,
-      c.self.inside.numbers.misses_by_occupancy.ok.0,
-    )
-
 pub overflow_add-index_mut-in-New : goal.overflow_add-index_mut-in-New
 overflow_add-index_mut-in-New g c =
     let a = accessed g (goal.at.overflow_add-index_mut-in-New g c).After-bring in
@@ -156,16 +124,6 @@ returns-in-New g c =
     (new_copied a c.in-New.ensures.found)
     ∙ ap (λ v. after_reference_in_lists v c.args.access c.args.block (list_of v.plain c.args.set)
     (cleans_of v c.args.set)) c.self.view_is
-
-pub overflow_add-self-in-Full : goal.overflow_add-self-in-Full
-overflow_add-self-in-Full g c =
-    omega (
-      arith,
-      probes_few c.self.invariant,
-      depth_is g (goal.at.overflow_add-self-in-Full g c).After-len-depth,
-      c.self.invariant.plain.behind_count,
-      c.self.inside.numbers.behind.ok.0,
-    )
 
 pub count_missed-requires-in-Full : goal.count_missed-requires-in-Full
 count_missed-requires-in-Full g c =

@@ -5,7 +5,7 @@ use Rattle.cache_core.specs.Geometry.{set_of_block, set_of, block_of}
 use Rattle.profile_core.specs.profile.RecencyList.{is_front}
 use Rattle.profile_core.specs.profile.State.{fed_of, list_of}
 use Rattle.profile_core.specs.internal.profile.StackProfile.{IsFit}
-use Rattle.profile_core.proofs.profile.Fronts.{reference_fed, counted_fed}
+use Rattle.profile_core.proofs.profile.Fronts.{reference_fed, counted_fed, front_fits, front_few}
 use Rattle.full_profile.specs.State.{FullState, cleans_of, after_reference_in_lists}
 use Rattle.full_profile.specs.State.{after_full_reference}
 use Rattle.full_profile.specs.Batches.{is_settled, after_settled}
@@ -51,7 +51,22 @@ returns-then-not-is_front-clause-counts g c =
 
 pub returns-clause-more : goal.returns-clause-more
 returns-clause-more g c =
-    counted_fed c.self.invariant.plain (ap (λ (w : FullState). w.plain) c.self.view_is) 1
+    counted_fed c.self.invariant.plain (ap (λ (w : FullState). w.plain) c.self.view_is)
+    c.index_mut.ensures.value 1
+
+pub index_mut-requires : goal.index_mut-requires
+index_mut-requires g c = omega (
+  arith,
+  front_fits c.self.invariant.plain (ap (λ (w : FullState). w.plain) c.self.view_is),
+  c.self.inside.numbers.distances.ok.0,
+)
+
+pub overflow_add-index_mut : goal.overflow_add-index_mut
+overflow_add-index_mut g c = omega (
+  arith,
+  front_few c.self.invariant.plain (ap (λ (w : FullState). w.plain) c.self.view_is)
+      c.index_mut.ensures.value 1 (omega (arith, c.requires)),
+)
 
 pub invariant_of-self : goal.invariant_of-self
 invariant_of-self g c =
@@ -59,7 +74,7 @@ invariant_of-self g c =
     written_sound c.self.invariant (g.L.MarkedLists.view c.write_front.new.self) c.set_of-set.result
     c.block_of-block.result c.args.r.access (of_set g at)
     (sym c.is_front.ensures ∙ c.if-not-is_front.false)
-    (sym c.writes.ensures ∙ c.if-not-writes.false) c.write_front.ensures
+    (sym c.writes.ensures ∙ c.if-not-writes.false) c.write_front.ensures c.index_mut.ensures.value
     (omega (arith, c.requires, ap (λ (w : FullState). fed_of w.plain) c.self.view_is))
 
 pub returns-clause-step : goal.returns-clause-step
@@ -79,6 +94,7 @@ returns-clause-step g c =
     written_after c.self.invariant (g.L.MarkedLists.view c.write_front.new.self) c.set_of-set.result
     c.block_of-block.result c.args.r.access (of_set g at)
     (sym c.is_front.ensures ∙ c.if-not-is_front.false) written c.write_front.ensures
+    c.index_mut.ensures.value
     ∙ ap (λ b. after_reference_in_lists state c.args.r.access b
     (list_of state.plain (set_of_block geometry b)) (cleans_of state (set_of_block geometry b)))
     c.block_of-block.ensures.value

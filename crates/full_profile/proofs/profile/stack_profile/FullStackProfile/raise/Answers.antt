@@ -6,10 +6,12 @@ use Rattle.profile_core.specs.profile.State.{fed_of}
 use Rattle.full_profile.specs.State.{FullState, KindState}
 use Rattle.full_profile.specs.Sums.{FullSumsState, full_sums_at}
 use Rattle.full_profile.proofs.profile.Sounds.{above_few, up_to_few}
-use Rattle.full_profile.proofs.profile.Counts.{missed_few, more_le, raised}
+use Rattle.full_profile.proofs.profile.Counts.{distances_few, missed_few, more_le, raised}
 use Rattle.full_profile.proofs.profile.stack_profile.FullStackProfile.raise.Goals as goal
-use
-    Rattle.full_profile.proofs.profile.stack_profile.FullStackProfile.raise.Goals.{After-ends_between-above}
+use Rattle.full_profile.proofs.profile.stack_profile.FullStackProfile.raise.Goals.{
+  After-ends_between-above,
+  After-total,
+}
 use Rattle.full_profile.proofs.profile.stack_profile.FullStackProfile.raise.Given.{Over}
 
 -- the sums as they were
@@ -42,13 +44,22 @@ pub ends_between-above-requires-clause-few : goal.ends_between-above-requires-cl
 ends_between-above-requires-clause-few g c =
     omega (arith, above_few c.self.invariant, up_to_few c.self.invariant)
 
+-- the hits between the two associativities
+hits_between : (g : Over) (c : After-total g) → c.total.result
+    ≡ sum (take (c.args.e - c.sums.inside.ways) (drop c.sums.inside.ways
+    c.args.self.now.plain.distances))
+hits_between g c =
+    let from = c.sums.inside.ways in
+    c.total.ensures ∙ ap (λ ns. sum (take (c.args.e - from) (drop from ns)))
+    (c.deref.ensures.value ∙ ap (λ (v : FullState). v.plain.distances) c.self.view_is)
+
 pub overflow_add-sums : goal.overflow_add-sums
 overflow_add-sums g c =
     let at = (goal.at.overflow_add-sums g c).After-ends_between-above in
     omega (
       arith,
       ap (λ u. u.hits) (was g at),
-      c.hits_between.ensures,
+      hits_between g (goal.at.overflow_add-sums g c).After-total,
       more_le c.args.self.now.plain.distances c.sums.inside.ways c.args.e (rising g at),
       fed_few g at,
     )
@@ -56,8 +67,16 @@ overflow_add-sums g c =
 pub total-requires : goal.total-requires
 total-requires g c = omega (
   arith,
-  part-le c.deref.result.now c.self.inside.numbers.misses_by_occupancy.items
+  part-le c.deref.result.now c.self.inside.numbers.distances.items
       (c.args.e - c.sums.inside.ways) c.sums.inside.ways c.deref.ensures.value,
+  distances_few c.self.invariant,
+)
+
+pub total-requires-2 : goal.total-requires-2
+total-requires-2 g c = omega (
+  arith,
+  part-le c.deref-2.result.now c.self.inside.numbers.misses_by_occupancy.items
+      (c.args.e - c.sums.inside.ways) c.sums.inside.ways c.deref-2.ensures.value,
   missed_few c.self.invariant,
 )
 
@@ -68,8 +87,8 @@ overflow_add-sums-2 g c =
     omega (
       arith,
       ap (λ u. u.free_misses) (was g at),
-      c.total.ensures ∙ ap (λ ns. sum (take (c.args.e - from) (drop from ns)))
-          (c.deref.ensures.value ∙ ap (λ (v : FullState). v.plain.misses_by_occupancy)
+      c.total-2.ensures ∙ ap (λ ns. sum (take (c.args.e - from) (drop from ns)))
+          (c.deref-2.ensures.value ∙ ap (λ (v : FullState). v.plain.misses_by_occupancy)
           c.self.view_is),
       more_le c.args.self.now.plain.misses_by_occupancy from c.args.e (rising g at),
       fed_few g at,
@@ -105,11 +124,12 @@ returns-clause-sums g c =
     let at = (goal.at.returns-clause-sums g c).After-ends_between-above in
     let from = c.sums.inside.ways in
     let v = c.args.self.now in
-    raised v (was g at) (rising g at) c.hits_between.result c.total.result c.between.result
+    raised v (was g at) (rising g at) c.total.result c.total-2.result c.between.result
     c.between-2.result c.between-3.result c.ends_between-above.result.0
-    c.ends_between-above.result.1 c.hits_between.ensures
-    (c.total.ensures ∙ ap (λ ns. sum (take (c.args.e - from) (drop from ns)))
-    (c.deref.ensures.value ∙ ap (λ (w : FullState). w.plain.misses_by_occupancy) c.self.view_is))
+    c.ends_between-above.result.1
+    (hits_between g (goal.at.returns-clause-sums g c).After-total)
+    (c.total-2.ensures ∙ ap (λ ns. sum (take (c.args.e - from) (drop from ns)))
+    (c.deref-2.ensures.value ∙ ap (λ (w : FullState). w.plain.misses_by_occupancy) c.self.view_is))
     (c.between.ensures ∙ ap (λ (k : KindState). sum (take (c.args.e - from) (drop from k.behind)))
     c.kind.ensures.value)
     (c.between-2.ensures ∙ ap (λ (k : KindState). sum (take (c.args.e - from) (drop from k.behind)))

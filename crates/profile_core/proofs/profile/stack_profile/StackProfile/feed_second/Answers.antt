@@ -1,5 +1,5 @@
 -- A reference that is found second: what lists and histograms stand for after it.
-use Rattle.std.proofs.Common.{◌∙◌, ap, refl}
+use Rattle.std.proofs.Common.{◌∙◌, ap}
 use Rattle.profile_core.specs.profile.State.{list_of}
 use Rattle.profile_core.specs.internal.set_lists.Moves.{is_second}
 use Rattle.profile_core.proofs.profile.Feeding.{found_second}
@@ -13,7 +13,6 @@ invariant_of-self g c =
     let second = ap (λ v. is_second c.args.block (list_of v c.args.set)) c.self.view_is ∙
     c.requires.second in
     found_sound moved (found_second c.args.block _ (other moved) second) c.index_mut.ensures.value
-    refl
 
 pub returns : goal.returns
 returns g c =
@@ -22,4 +21,3 @@ returns g c =
     let second = ap (λ v. is_second c.args.block (list_of v c.args.set)) c.self.view_is ∙
     c.requires.second in
     found_after moved (found_second c.args.block _ (other moved) second) c.index_mut.ensures.value
-    refl

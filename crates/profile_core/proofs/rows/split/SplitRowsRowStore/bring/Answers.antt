@@ -17,26 +17,26 @@ index_mut-requires g c =
     omega (arith, is_first s, c.self.inside.firsts.ok.0)
 
 -- the list had one block
-pub returns-then-len-eq1-clause-moved : goal.returns-then-len-eq1-clause-moved
-returns-then-len-eq1-clause-moved g c =
+pub returns-then-held-eq1-clause-moved : goal.returns-then-held-eq1-clause-moved
+returns-then-held-eq1-clause-moved g c =
     let s = known c.self.invariant c.self.view_is c.requires.within in
     let first = c.replace-second.ensures.after ∙ c.replace-first.ensures.value in
     brought_as c.replace-first.ensures.after
     (put_is c.args.self.now (first_written s first) c.requires.within)
     (one_brought c.args.block c.args.front.now (g.R.RestStore.view c.self.inside.rests).stride
     c.args.len.now (row_for c.args.self.now c.args.set)
-    (row_for (g.R.RestStore.view c.self.inside.rests) c.args.set) c.if-len-eq1.true
+    (row_for (g.R.RestStore.view c.self.inside.rests) c.args.set) c.if-held-eq1.true
     c.requires.behind s.sound.some s.sound.small (rest_long s))
 
-pub returns-then-len-eq1-clause-long : goal.returns-then-len-eq1-clause-long
-returns-then-len-eq1-clause-long g c =
+pub returns-then-held-eq1-clause-long : goal.returns-then-held-eq1-clause-long
+returns-then-held-eq1-clause-long g c =
     let s = known c.self.invariant c.self.view_is c.requires.within in
     let first = c.replace-second.ensures.after ∙ c.replace-first.ensures.value in
     let is = put_is c.args.self.now (first_written s first) c.requires.within in
     omega (arith, ap length is, rest_long s, stride_is s.row)
 
-pub returns-then-len-eq1-clause-others : goal.returns-then-len-eq1-clause-others
-returns-then-len-eq1-clause-others g c =
+pub returns-then-held-eq1-clause-others : goal.returns-then-held-eq1-clause-others
+returns-then-held-eq1-clause-others g c =
     let s = known c.self.invariant c.self.view_is c.requires.within in
     let first = c.replace-second.ensures.after ∙ c.replace-first.ensures.value in
     put_others c.args.self.now _ (first_written s first) c.requires.within
@@ -66,7 +66,7 @@ exchange-requires-clause-other g c =
     let at = (goal.at.exchange-requires-clause-other g c).After-replace-second in
     let s = known c.self.invariant c.self.view_is c.requires.within in
     second_apart s c.args.block c.args.front.now c.replace-second.result c.args.len.now
-    (second g at (is_first s)) (two c.args.len.now c.requires.some c.if-len-eq1.false)
+    (second g at (is_first s)) (two c.args.len.now c.requires.some c.if-held-eq1.false)
     c.requires.behind c.requires.further
 
 pub returns-clause-found : goal.returns-clause-found
@@ -75,7 +75,7 @@ returns-clause-found g c =
     let s = known c.self.invariant c.self.view_is c.requires.within in
     c.exchange.ensures.found ∙ rest_standing s c.args.block c.args.front.now c.replace-second.result
     c.args.len.now (second g at (is_first s))
-    (two c.args.len.now c.requires.some c.if-len-eq1.false) c.requires.behind c.requires.further
+    (two c.args.len.now c.requires.some c.if-held-eq1.false) c.requires.behind c.requires.further
 
 pub returns-clause-moved : goal.returns-clause-moved
 returns-clause-moved g c =
@@ -85,7 +85,7 @@ returns-clause-moved g c =
     let put = written_rows s _ c.exchange.ensures.long c.exchange.ensures.others first in
     brought_as c.replace-first.ensures.after (put_is c.args.self.now put c.requires.within)
     (rest_brought s c.args.block c.args.front.now c.replace-second.result c.args.len.now
-    (second g at (is_first s)) (two c.args.len.now c.requires.some c.if-len-eq1.false)
+    (second g at (is_first s)) (two c.args.len.now c.requires.some c.if-held-eq1.false)
     c.requires.behind c.requires.further c.exchange.new.len _ c.exchange.ensures.long
     c.exchange.ensures.two c.exchange.ensures.fits c.exchange.ensures.moved)
 
