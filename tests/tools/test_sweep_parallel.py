@@ -33,8 +33,8 @@ def cost(pairs):
     whole, last = 0, None
     for bsize, sets, assoc in pairs:
         behind = last and last[0] == bsize
-        looks = min(1, 4 / (last[0] * last[1]) ** 0.35) if behind else 1
-        whole += looks + 3 * math.log2(1 + min(assoc, 256)) / (bsize * sets**0.2)
+        looks = min(1, 7 / (last[0] * last[1]) ** 0.4) if behind else 1
+        whole += looks + 4 * math.log2(1 + min(assoc, 256)) / (bsize * sets**0.3)
         last = bsize, sets
     return whole
 

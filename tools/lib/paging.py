@@ -36,9 +36,9 @@ class Pair:
         """What a pair adds to a page behind another pair, or None: the part of the references that
         it looks at, and its searches for those that it does not find in front. What the pair before
         it finds in front it need not look at. A search costs about the same from some depth on."""
-        looks = min(1, 4 / before.size**0.35) if before and before.bsize == self.bsize else 1
+        looks = min(1, 7 / before.size**0.4) if before and before.bsize == self.bsize else 1
         depth = math.log2(1 + min(int(self.assoc), DEEPEST))
-        return looks + 3 * depth / (int(self.bsize) * int(self.sets) ** 0.2)
+        return looks + 4 * depth / (int(self.bsize) * int(self.sets) ** 0.3)
 
 
 def rows_of(program, options):
